@@ -1,0 +1,166 @@
+-- Laws of bits: of a byte, then of a list of bytes; read after write at the same and at another place, lengths, bound.
+-- Assumes nothing.
+use mathlib.Core.Path.{_≡_, refl, sym, ap, _∙_}
+use mathlib.Core.Logic.{_≢_, _⊎_, inl, inr, ⊎-elim}
+use mathlib.Core.Bool.{Bool, true, false, cond}
+use mathlib.Core.List.{List}
+use Prim.Native.Nat.{ℕ, zero, suc, _+_, _*_, _-_, _/_, _%_, _^_, _≤_, _<_}
+use native.Mathlib.Nat.{div-add-mod'}
+use native.Mathlib.Numerals.{one-add}
+use native.Mathlib.Omega.{arith}
+use lib.Dec.{eqb}
+use lib.ListN.{length, getD, set, replicate, length-set, getD-replicate, List·getD-eq-default}
+use lib.Pow.{shr-shr}
+use lib.Seq.{getD-set-same, getD-set-other, set-getD, set-set, set-out}
+use borrow.Author.Tests.{eq-eqb, ne-eqb, eqb-true, eqb-false}
+use Rattle.laws.specs.Bits.{bitOf, withBit, bitAt, setBit}
+use Rattle.laws.proofs.Cases.{bool-cases, eq-cases}
+
+-- ---- the digit of a bit ----
+
+abbrev digitOf : (byte place : ℕ) → ℕ
+digitOf byte place = byte / 2 ^ place % 2
+
+digitOf-suc : (byte place : ℕ) → digitOf byte (suc place) ≡ digitOf (byte / 2) place
+digitOf-suc byte place =
+    ap (λ (n : ℕ). n % 2) (ap (λ (n : ℕ). byte / 2 ^ n) (sym (one-add place)) ∙ sym (shr-shr byte 1 place))
+
+digitOf-set-same : (byte place : ℕ) → digitOf byte place ≡ 0 → digitOf (byte + 2 ^ place) place ≡ 1
+digitOf-set-same byte zero h = omega arith
+digitOf-set-same byte (suc place) h =
+    let e : (byte + 2 ^ suc place) / 2 ≡ byte / 2 + 2 ^ place = omega arith in
+    digitOf-suc (byte + 2 ^ suc place) place ∙ ap (λ (n : ℕ). digitOf n place) e
+    ∙ digitOf-set-same (byte / 2) place (sym (digitOf-suc byte place) ∙ h)
+
+digitOf-set-other :
+    (byte place other : ℕ) → digitOf byte place ≡ 0 → other ≢ place → digitOf (byte + 2 ^ place) other ≡ digitOf byte other
+digitOf-set-other byte zero zero h ne = absurd (ne refl)
+digitOf-set-other byte zero (suc other) h ne =
+    let e : (byte + 1) / 2 ≡ byte / 2 = omega arith in
+    digitOf-suc (byte + 1) other ∙ ap (λ (n : ℕ). digitOf n other) e ∙ sym (digitOf-suc byte other)
+digitOf-set-other byte (suc place) zero h ne = omega arith
+digitOf-set-other byte (suc place) (suc other) h ne =
+    let e : (byte + 2 ^ suc place) / 2 ≡ byte / 2 + 2 ^ place = omega arith in
+    digitOf-suc (byte + 2 ^ suc place) other ∙ ap (λ (n : ℕ). digitOf n other) e
+    ∙ digitOf-set-other (byte / 2) place other (sym (digitOf-suc byte place) ∙ h) (λ z. ne (ap suc z))
+    ∙ sym (digitOf-suc byte other)
+
+digitOf-le : (byte place : ℕ) → digitOf byte place ≡ 1 → 2 ^ place ≤ byte
+digitOf-le byte zero h = omega arith
+digitOf-le byte (suc place) h =
+    let l : 2 ^ place ≤ byte / 2 = digitOf-le (byte / 2) place (sym (digitOf-suc byte place) ∙ h) in
+    omega arith
+
+digitOf-clear-same : (byte place : ℕ) → digitOf byte place ≡ 1 → digitOf (byte - 2 ^ place) place ≡ 0
+digitOf-clear-same byte zero h = omega arith
+digitOf-clear-same byte (suc place) h =
+    let l : 2 ^ suc place ≤ byte = digitOf-le byte (suc place) h in
+    let e : (byte - 2 ^ suc place) / 2 ≡ byte / 2 - 2 ^ place = omega arith in
+    digitOf-suc (byte - 2 ^ suc place) place ∙ ap (λ (n : ℕ). digitOf n place) e
+    ∙ digitOf-clear-same (byte / 2) place (sym (digitOf-suc byte place) ∙ h)
+
+digitOf-clear-other :
+    (byte place other : ℕ) → digitOf byte place ≡ 1 → other ≢ place → digitOf (byte - 2 ^ place) other ≡ digitOf byte other
+digitOf-clear-other byte zero zero h ne = absurd (ne refl)
+digitOf-clear-other byte zero (suc other) h ne =
+    let e : (byte - 1) / 2 ≡ byte / 2 = omega arith in
+    digitOf-suc (byte - 1) other ∙ ap (λ (n : ℕ). digitOf n other) e ∙ sym (digitOf-suc byte other)
+digitOf-clear-other byte (suc place) zero h ne =
+    let l : 2 ^ suc place ≤ byte = digitOf-le byte (suc place) h in
+    omega arith
+digitOf-clear-other byte (suc place) (suc other) h ne =
+    let l : 2 ^ suc place ≤ byte = digitOf-le byte (suc place) h in
+    let e : (byte - 2 ^ suc place) / 2 ≡ byte / 2 - 2 ^ place = omega arith in
+    digitOf-suc (byte - 2 ^ suc place) other ∙ ap (λ (n : ℕ). digitOf n other) e
+    ∙ digitOf-clear-other (byte / 2) place other (sym (digitOf-suc byte place) ∙ h) (λ z. ne (ap suc z))
+    ∙ sym (digitOf-suc byte other)
+
+digitOf-lt : (byte place : ℕ) → digitOf byte place < 2
+digitOf-lt byte place = omega arith
+
+-- ---- a bit of a byte ----
+
+one-of-bitOf : (place byte : ℕ) → bitOf place byte ≡ true → digitOf byte place ≡ 1
+unfolding bitOf
+one-of-bitOf place byte e = eqb-true (digitOf byte place) 1 e
+
+zero-of-bitOf : (place byte : ℕ) → bitOf place byte ≡ false → digitOf byte place ≡ 0
+unfolding bitOf
+zero-of-bitOf place byte e = omega (arith, digitOf-lt byte place, eqb-false (digitOf byte place) 1 e)
+
+-- the four ways of withBit
+pub withBit-set : (place byte : ℕ) → bitOf place byte ≡ false → withBit place true byte ≡ byte + 2 ^ place
+unfolding withBit
+withBit-set place byte e = rw e
+
+pub withBit-set-already : (place byte : ℕ) → bitOf place byte ≡ true → withBit place true byte ≡ byte
+unfolding withBit
+withBit-set-already place byte e = rw e
+
+pub withBit-clear : (place byte : ℕ) → bitOf place byte ≡ true → withBit place false byte ≡ byte - 2 ^ place
+unfolding withBit
+withBit-clear place byte e = rw e
+
+pub withBit-clear-already : (place byte : ℕ) → bitOf place byte ≡ false → withBit place false byte ≡ byte
+unfolding withBit
+withBit-clear-already place byte e = rw e
+
+pub bitOf-withBit-same : (place : ℕ) (isSet : Bool) (byte : ℕ) → bitOf place (withBit place isSet byte) ≡ isSet
+unfolding bitOf
+bitOf-withBit-same place isSet byte = by isSet (bool-cases (bitOf place byte))
+  where
+    by : (isSet : Bool) → (bitOf place byte ≡ true) ⊎ (bitOf place byte ≡ false) → bitOf place (withBit place isSet byte) ≡ isSet
+    by true (inl e) = ap (bitOf place) (withBit-set-already place byte e) ∙ e
+    by true (inr e) =
+        ap (bitOf place) (withBit-set place byte e)
+        ∙ eq-eqb (digitOf (byte + 2 ^ place) place) 1 (digitOf-set-same byte place (zero-of-bitOf place byte e))
+    by false (inl e) =
+        ap (bitOf place) (withBit-clear place byte e)
+        ∙ ne-eqb (digitOf (byte - 2 ^ place) place) 1 (λ z. omega (arith, digitOf-clear-same byte place (one-of-bitOf place byte e)))
+    by false (inr e) = ap (bitOf place) (withBit-clear-already place byte e) ∙ e
+
+pub bitOf-withBit-other :
+    (place other : ℕ) (isSet : Bool) (byte : ℕ) → other ≢ place → bitOf other (withBit place isSet byte) ≡ bitOf other byte
+unfolding bitOf
+bitOf-withBit-other place other isSet byte ne = by isSet (bool-cases (bitOf place byte))
+  where
+    by : (isSet : Bool) → (bitOf place byte ≡ true) ⊎ (bitOf place byte ≡ false) → bitOf other (withBit place isSet byte) ≡ bitOf other byte
+    by true (inl e) = ap (bitOf other) (withBit-set-already place byte e)
+    by true (inr e) =
+        ap (bitOf other) (withBit-set place byte e)
+        ∙ ap (λ (n : ℕ). eqb n 1) (digitOf-set-other byte place other (zero-of-bitOf place byte e) ne)
+    by false (inl e) =
+        ap (bitOf other) (withBit-clear place byte e)
+        ∙ ap (λ (n : ℕ). eqb n 1) (digitOf-clear-other byte place other (one-of-bitOf place byte e) ne)
+    by false (inr e) = ap (bitOf other) (withBit-clear-already place byte e)
+
+-- ---- a bit of a list of bytes ----
+
+pub length-setBit : (place : ℕ) (isSet : Bool) (bytes : List ℕ) → length (setBit place isSet bytes) ≡ length bytes
+unfolding setBit
+length-setBit place isSet bytes = length-set bytes (place / 8) _
+
+pub bitAt-setBit-same :
+    (place : ℕ) (isSet : Bool) (bytes : List ℕ) → place / 8 < length bytes → bitAt place (setBit place isSet bytes) ≡ isSet
+unfolding bitAt setBit
+bitAt-setBit-same place isSet bytes h =
+    ap (bitOf (place % 8)) (getD-set-same bytes (place / 8) (withBit (place % 8) isSet (getD bytes (place / 8) 0)) 0 h)
+    ∙ bitOf-withBit-same (place % 8) isSet (getD bytes (place / 8) 0)
+
+pub bitAt-setBit-other :
+    (place other : ℕ) (isSet : Bool) (bytes : List ℕ) → place / 8 < length bytes → other ≢ place →
+    bitAt other (setBit place isSet bytes) ≡ bitAt other bytes
+unfolding bitAt setBit
+bitAt-setBit-other place other isSet bytes h ne = by (eq-cases (other / 8) (place / 8))
+  where
+    byte : ℕ
+    byte = withBit (place % 8) isSet (getD bytes (place / 8) 0)
+    by : (other / 8 ≡ place / 8) ⊎ (other / 8 ≢ place / 8) →
+      bitOf (other % 8) (getD (set bytes (place / 8) byte) (other / 8) 0) ≡ bitOf (other % 8) (getD bytes (other / 8) 0)
+    by (inl e) =
+        let apart : other % 8 ≢ place % 8 = omega arith in
+        ap (λ (n : ℕ). bitOf (other % 8) (getD (set bytes (place / 8) byte) n 0)) e
+        ∙ ap (bitOf (other % 8)) (getD-set-same bytes (place / 8) byte 0 h)
+        ∙ bitOf-withBit-other (place % 8) (other % 8) isSet (getD bytes (place / 8) 0) apart
+        ∙ ap (λ (n : ℕ). bitOf (other % 8) (getD bytes n 0)) (sym e)
+    by (inr e) = ap (bitOf (other % 8)) (getD-set-other bytes (place / 8) (other / 8) byte 0 e)

@@ -1,0 +1,185 @@
+-- Laws of `part` and `over`: lengths, equations, read after write at the same place, before and after it, one element;
+-- and equality of lists of numbers by a test. Assumes nothing.
+use mathlib.Core.Path.{_≡_, refl, sym, ap, ap₂, _∙_}
+use mathlib.Core.Bool.{Bool, true, false, _&&_}
+use mathlib.Core.List.{List, [], _∷_, _++_, append-assoc, append-nil}
+use Prim.Native.Nat.{ℕ, zero, suc, _+_, _*_, _-_, _≤_, _<_}
+use native.Mathlib.Nat.{suc-add, zero-add, add-zero}
+use native.Mathlib.Numerals.{add-one}
+use native.Mathlib.Omega.{arith}
+use lib.Dec.{eqb}
+use lib.ListN.{length, getD, take, drop, set, length-append, length-drop, drop-of-length-le, List·getD-append}
+use lib.Seq.{length-take-le, take-at, drop-at, take-append-le, drop-append-add, drop-drop, take-take, take-nil, getD-take, getD-drop, getD-append-add, drop-set-add, take-set-lt, drop-set-lt, take-set-le, set-split, append-snoc, take-add, drop-append-le}
+use borrow.Author.Tests.{eqb-true}
+use Rattle.laws.specs.Lists.{part, over}
+use Rattle.laws.proofs.Cases.{and-left, and-right, true-is-not-false}
+
+module _ {A : Type 0} where
+  -- ---- part ----
+
+  pub part-is : (from size : ℕ) (xs : List A) → part from size xs ≡ take size (drop from xs)
+  unfolding part
+  part-is from size xs = refl
+
+  pub length-part : (from size : ℕ) (xs : List A) → from + size ≤ length xs → length (part from size xs) ≡ size
+  unfolding part
+  length-part from size xs h = length-take-le size (drop from xs) (simp length-drop (omega arith))
+
+  pub getD-part : (from size index : ℕ) (xs : List A) (d : A) → index < size → getD (part from size xs) index d ≡ getD xs (from + index) d
+  unfolding part
+  getD-part from size index xs d h = rw (getD-take, getD-drop)
+
+  drop-take-add : (from size : ℕ) (xs : List A) → drop from (take (from + size) xs) ≡ take size (drop from xs)
+  drop-take-add zero size xs = rw zero-add
+  drop-take-add (suc from) size [] = rw (suc-add, take-nil)
+  drop-take-add (suc from) size (x ∷ xs) = rw suc-add (drop-take-add from size xs)
+
+  -- a part lies in the front that holds it
+  pub part-of-take : (from size : ℕ) (xs : List A) → part from size xs ≡ drop from (take (from + size) xs)
+  unfolding part
+  part-of-take from size xs = sym (drop-take-add from size xs)
+
+  pub part-part :
+      (from size index count : ℕ) (xs : List A) → index + count ≤ size →
+      part index count (part from size xs) ≡ part (from + index) count xs
+  unfolding part
+  part-part from size index count xs h =
+      part-of-take index count (part from size xs) ∙ ap (drop index) (take-take (index + count) size (drop from xs) h)
+      ∙ sym (part-of-take index count (drop from xs)) ∙ ap (take count) (drop-drop index from xs)
+
+  -- two parts that touch
+  pub part-add :
+      (from size more : ℕ) (xs : List A) → part from (size + more) xs ≡ part from size xs ++ part (from + size) more xs
+  unfolding part
+  part-add from size more xs =
+      take-add size more (drop from xs) ∙ ap (λ (ys : List A). take size (drop from xs) ++ take more ys) (drop-drop size from xs)
+
+  -- ---- one element set ----
+
+  pub part-set-in :
+      (from size index : ℕ) (x : A) (xs : List A) → index < size → part from size (set xs (from + index) x) ≡ set (part from size xs) index x
+  unfolding part
+  part-set-in from size index x xs h = ap (take size) (drop-set-add from xs index x) ∙ take-set-lt size (drop from xs) index x h
+
+  pub part-set-before : (from size index : ℕ) (x : A) (xs : List A) → index < from → part from size (set xs index x) ≡ part from size xs
+  unfolding part
+  part-set-before from size index x xs h = ap (take size) (drop-set-lt from xs index x h)
+
+  pub part-set-after : (from size index : ℕ) (x : A) (xs : List A) → from + size ≤ index → part from size (set xs index x) ≡ part from size xs
+  part-set-after from size index x xs h =
+      part-of-take from size (set xs index x) ∙ ap (drop from) (take-set-le (from + size) xs index x h) ∙ sym (part-of-take from size xs)
+
+  -- ---- over ----
+
+  pub over-is : (from : ℕ) (new old : List A) → over from new old ≡ take from old ++ new ++ drop (from + length new) old
+  unfolding over
+  over-is from new old = refl
+
+  module _ (new old : List A) (from : ℕ) (fits : from + length new ≤ length old) where
+    length-front : length (take from old) ≡ from
+    length-front = length-take-le from old (omega arith)
+
+    pub length-over : length (over from new old) ≡ length old
+    unfolding over
+    length-over =
+        let t : length (take from old) ≡ from = length-front in
+        simp (length-append, length-drop) (omega arith)
+
+    -- ---- read after write ----
+
+    pub part-over-same : part from (length new) (over from new old) ≡ new
+    unfolding part over
+    part-over-same =
+        let t : length (take from old) ≡ from = length-front in
+        rw (append-assoc, drop-at) (take-at _ _ _ refl)
+
+    pub take-over-before : (index : ℕ) → index ≤ from → take index (over from new old) ≡ take index old
+    unfolding over
+    take-over-before index h =
+        let t : length (take from old) ≡ from = length-front in
+        let l : index ≤ length (take from old) = omega arith in
+        rw (append-assoc, take-append-le index (take from old), take-take)
+
+    pub drop-over-after : (index : ℕ) → from + length new ≤ index → drop index (over from new old) ≡ drop index old
+    unfolding over
+    drop-over-after index h =
+        let t : length (take from old) ≡ from = length-front in
+        let r : length (take from old ++ new) + (index - (from + length new)) ≡ index = simp length-append (omega arith) in
+        let q : drop (length (take from old ++ new) + (index - (from + length new))) (over from new old) ≡
+            drop (index - (from + length new)) (drop (from + length new) old) =
+          drop-append-add (take from old ++ new) (drop (from + length new) old) (index - (from + length new)) in
+        let u : from + length new + (index - (from + length new)) ≡ index = omega arith in
+        rw r at q ∙ drop-drop (index - (from + length new)) (from + length new) old ∙ ap (λ (n : ℕ). drop n old) u
+
+    pub part-over-before : (index count : ℕ) → index + count ≤ from → part index count (over from new old) ≡ part index count old
+    part-over-before index count h =
+        part-of-take index count (over from new old) ∙ rw take-over-before (sym (part-of-take index count old))
+
+    pub part-over-after : (index count : ℕ) → from + length new ≤ index → part index count (over from new old) ≡ part index count old
+    unfolding part
+    part-over-after index count h = ap (take count) (drop-over-after index h)
+
+    pub getD-over-after : (index : ℕ) (d : A) → from + length new ≤ index → getD (over from new old) index d ≡ getD old index d
+    getD-over-after index d h =
+        let e : index + 0 ≡ index = omega arith in
+        ap (λ (n : ℕ). getD (over from new old) n d) (sym e) ∙ sym (getD-drop index (over from new old) 0 d)
+        ∙ ap (λ (ys : List A). getD ys 0 d) (drop-over-after index h) ∙ getD-drop index old 0 d
+        ∙ ap (λ (n : ℕ). getD old n d) e
+
+    -- ---- one after another ----
+
+    -- a second list written where the first one ends
+    pub over-append :
+        (more : List A) → from + length new + length more ≤ length old →
+        over (from + length new) more (over from new old) ≡ over from (new ++ more) old
+    unfolding over
+    over-append more h =
+        let t : length (take from old) ≡ from = length-front in
+        let p : take (from + length new) (over from new old) ≡ take from old ++ new =
+          take-at (take from old ++ new) (drop (from + length new) old) (from + length new) (simp length-append (omega arith)) in
+        let q : drop (from + length new + length more) (over from new old) ≡ drop (from + length new + length more) old =
+          drop-over-after (from + length new + length more) (omega arith) in
+        let e : from + length (new ++ more) ≡ from + length new + length more = simp length-append (omega arith) in
+        rw (p, q, e) (ap (λ (ys : List A). ys ++ drop (from + length new + length more) old) (append-assoc (take from old) new more))
+
+    -- the same place written again
+    pub over-over-same : (again : List A) → length again ≡ length new → over from again (over from new old) ≡ over from again old
+    unfolding over
+    over-over-same again e =
+        let p : take from (over from new old) ≡ take from old = take-over-before from (omega arith) in
+        let q : drop (from + length again) (over from new old) ≡ drop (from + length again) old =
+          rw e (drop-over-after (from + length new) (omega arith)) in
+        rw (p, q)
+
+  -- ---- special cases ----
+
+  pub over-nil : (from : ℕ) (old : List A) → from ≤ length old → over from [] old ≡ old
+  unfolding over
+  over-nil from old h =
+      let e : from + 0 ≡ from = omega arith in
+      rw (append-nil (take from old), e) (lib.ListN.take-append-drop from old)
+
+  pub over-whole : (new old : List A) → length new ≡ length old → over 0 new old ≡ new
+  unfolding over
+  over-whole new old e = rw (drop-of-length-le old {i = 0 + length new} (omega arith)) (append-nil new)
+
+  pub over-one : (xs : List A) (index : ℕ) (x : A) → index < length xs → over index (x ∷ []) xs ≡ set xs index x
+  unfolding over
+  over-one xs index x h = rw (add-one, append-snoc) (sym (set-split xs index x h))
+
+-- ---- equality by a test ----
+
+unfoldable pub isSame : (xs ys : List ℕ) → Bool
+isSame [] [] = true
+isSame [] (y ∷ ys) = false
+isSame (x ∷ xs) [] = false
+isSame (x ∷ xs) (y ∷ ys) = eqb x y && isSame xs ys
+
+pub same-of-isSame : (xs ys : List ℕ) → isSame xs ys ≡ true → xs ≡ ys
+unfolding isSame
+same-of-isSame [] [] e = refl
+same-of-isSame [] (y ∷ ys) e = true-is-not-false e refl
+same-of-isSame (x ∷ xs) [] e = true-is-not-false e refl
+same-of-isSame (x ∷ xs) (y ∷ ys) e =
+    ap₂ {C = List ℕ} (λ (z : ℕ) (zs : List ℕ). z ∷ zs) (eqb-true x y (and-left (eqb x y) (isSame xs ys) e))
+      (same-of-isSame xs ys (and-right (eqb x y) (isSame xs ys) e))

@@ -1,0 +1,5 @@
+pub mod Checks
+pub mod Lists
+pub mod Numbers
+pub mod Bits
+pub mod Division

@@ -1,0 +1,3 @@
+-- The proofs of the promises that specs/Promises states.
+pub mod Figures
+pub mod Limits

@@ -1,0 +1,17 @@
+pub mod Geometry
+pub mod Blocks
+pub mod Layout
+pub mod HiddenTree
+pub mod Stores
+pub mod Table
+pub mod Paths
+pub mod HiddenHalf
+pub mod Rounds
+pub mod Refusals
+pub mod Calls
+pub mod View
+pub mod Runs
+pub mod Simulator
+pub mod Invariants
+pub mod Conditions
+pub mod Promises

@@ -1,0 +1,7 @@
+-- The promises, each a statement type; proofs/Promises has the proofs. Assumes nothing.
+pub mod Figures
+pub mod Limits
+pub mod Refusals
+pub mod Noninterference
+pub mod ReadAfterWrite
+pub mod BufferBounds

@@ -1,0 +1,127 @@
+-- What is computed at document 01's limits: each geometry limit at and past it, the example of each refusal, what
+-- formatting leaves, and every byte of the drive after the three lines of the listing, worked out by hand from document
+-- 01 (docs/ON-DISK-FORMAT.md has the working). Assumes nothing.
+use mathlib.Core.Path.{_≡_}
+use mathlib.Core.List.{List, [], _∷_, _++_}
+use mathlib.Core.Option.{Option, none, some}
+use Prim.Native.Nat.{ℕ, _+_}
+use lib.ListN.{take, replicate}
+use Rattle.model.specs.Geometry.{Geometry, blockCount, driveSize}
+use Rattle.model.specs.Blocks.{Bytes, DiskAddress, setEntry, setBlock}
+use Rattle.model.specs.HiddenHalf.{HiddenWrite}
+use Rattle.model.specs.Refusals.{sizeRefusal, driveRefusal, publicReadRefusal, hiddenReadRefusal, writeRefusal}
+use Rattle.model.specs.Calls.{formatted, written, writtenDisk, outcomeNumber}
+use Rattle.model.specs.Promises.Figures.{geometry, small, formatAnswer, fresh, filled}
+
+-- ---- geometries at the limit ----
+
+-- T 2^31 − 1 and T 2^31
+abbrev pub mostBlocks : Geometry
+mostBlocks = geometry 4096 2 3072 1 715806036
+
+abbrev pub tooManyBlocks : Geometry
+tooManyBlocks = geometry 4096 2 1024 1 715806037
+
+-- ---- drives of the refusal table ----
+
+abbrev pub withHead : (head : ℕ) → Bytes
+withHead head = setEntry 5 head fresh
+
+-- the first entry of a block, on a fresh drive
+abbrev pub withFirstEntry : (address : DiskAddress) → (entry : ℕ) → Bytes
+withFirstEntry address entry = setBlock 32 fresh address (setEntry 0 entry (filled 0))
+
+-- a write of bytes 7 to number 0, nothing offered
+abbrev pub answerOf : (disk : Bytes) → (random room : ℕ) → ℕ
+answerOf disk random room = writeRefusal disk 0 (filled 7) random room
+
+-- ---- the drive of the listing ----
+
+-- one line: data and offered data are the line's number, 256 random bytes of 165, a list of 23
+abbrev pub lineOf : (disk : Bytes) → (line number : ℕ) → Option HiddenWrite → Bytes
+lineOf disk line number offer = writtenDisk (written disk number (filled line) (replicate 256 165) 23 offer) disk
+
+abbrev pub offerOf : (number line : ℕ) → Option HiddenWrite
+offerOf number line = some (record { number = number; content = filled line })
+
+abbrev pub threeLines : Bytes
+threeLines = lineOf (lineOf (lineOf fresh 1 0 none) 2 0 (offerOf 1 2)) 3 1 none
+
+-- an entry below 256, and a block of such entries in front and zeros
+abbrev pub small4 : (value : ℕ) → Bytes
+small4 value = value ∷ 0 ∷ 0 ∷ 0 ∷ []
+
+abbrev pub listedHeader : Bytes
+listedHeader = small4 32 ++ small4 2 ++ small4 3 ++ small4 2 ++ small4 4 ++ small4 3 ++ replicate 8 0
+
+abbrev pub listedMap : Bytes
+listedMap = small4 7 ++ small4 10 ++ replicate 24 0
+
+abbrev pub listedBitmap : Bytes
+listedBitmap = 72 ∷ replicate 31 0
+
+abbrev pub listedRoot : Bytes
+listedRoot = small4 8 ++ replicate 28 0
+
+-- slot 1: the public block, the leaf of hidden number 1, its data
+abbrev pub listedLeaf : Bytes
+listedLeaf = small4 0 ++ small4 9 ++ replicate 20 0 ++ small4 1
+
+abbrev pub listedDrive : Bytes
+listedDrive =
+    listedHeader ++ listedMap ++ listedBitmap ++ listedRoot ++
+    filled 1 ++ filled 165 ++ filled 165 ++
+    filled 2 ++ listedLeaf ++ filled 2 ++
+    filled 3 ++ filled 165 ++ filled 165 ++
+    filled 0 ++ filled 0 ++ filled 0
+
+-- ---- the limits ----
+
+pub record Limits : Type 0 where
+  -- M > H
+  pub hidden-is-slots : formatAnswer 512 (geometry 32 2 3 4 4) ≡ 1
+  pub hidden-below-slots : formatAnswer 512 (geometry 32 2 3 3 4) ≡ 0
+  -- T at most 2^31 − 1
+  pub most-blocks : blockCount mostBlocks ≡ 2147483647
+  pub most-blocks-fit : sizeRefusal (driveSize mostBlocks) mostBlocks ≡ 0
+  pub too-many-blocks : blockCount tooManyBlocks ≡ 2147483648
+  pub too-many-blocks-refused : sizeRefusal (driveSize tooManyBlocks) tooManyBlocks ≡ 1
+  -- B at most 4,096, a power of two
+  pub size-largest : sizeRefusal 40960 (geometry 4096 2 1 1 2) ≡ 0
+  pub size-too-large : sizeRefusal 81920 (geometry 8192 2 1 1 2) ≡ 1
+  pub size-no-power : sizeRefusal 768 (geometry 48 2 3 2 4) ≡ 1
+  -- k from 2 to 4
+  pub height-one : sizeRefusal 384 (geometry 32 1 3 2 4) ≡ 1
+  pub height-four : sizeRefusal 768 (geometry 32 4 3 2 4) ≡ 0
+  pub height-five : sizeRefusal 896 (geometry 32 5 3 2 4) ≡ 1
+  -- P and H at least 1
+  pub no-public : sizeRefusal 480 (geometry 32 2 0 2 4) ≡ 1
+  pub no-hidden : sizeRefusal 512 (geometry 32 2 3 0 4) ≡ 1
+  -- 24 bytes
+  pub bytes-23 : driveRefusal (take 23 fresh) ≡ 1
+  pub bytes-24 : driveRefusal (take 24 fresh) ≡ 2
+  pub format-23 : formatAnswer 23 small ≡ 1
+  pub format-24 : formatAnswer 24 small ≡ 2
+  -- the examples of the refusal table, those of 1 and 8 above and below
+  pub refusal-two : driveRefusal (take 511 fresh) ≡ 2
+  pub refusal-three : driveRefusal (withHead 4) ≡ 3
+  pub head-three : driveRefusal (withHead 3) ≡ 0
+  pub refusal-four : publicReadRefusal fresh 3 (filled 0) ≡ 4
+  pub refusal-five : publicReadRefusal fresh 0 (replicate 31 0) ≡ 5
+  pub refusal-six : publicReadRefusal (withFirstEntry 1 5) 0 (filled 0) ≡ 6
+  pub refusal-six-free : publicReadRefusal (withFirstEntry 1 4) 0 (filled 0) ≡ 6
+  -- bits 0, 3, 6 and 9: bytes 73 and 2
+  pub refusal-seven : answerOf (withFirstEntry 2 585) 256 23 ≡ 7
+  pub refusal-eight : answerOf fresh 63 23 ≡ 8
+  pub random-64 : answerOf fresh 64 23 ≡ 0
+  pub refusal-nine : answerOf fresh 64 6 ≡ 9
+  pub list-7 : answerOf fresh 64 7 ≡ 0
+  pub refusal-ten : hiddenReadRefusal fresh 2 (filled 0) ≡ 10
+  pub refusal-eleven : hiddenReadRefusal fresh 1 (replicate 33 0) ≡ 11
+  pub refusal-twelve : hiddenReadRefusal (withFirstEntry 3 6) 0 (filled 0) ≡ 12
+  -- formatting leaves the data area
+  pub format-leaves :
+    formatted (replicate 512 170) small ≡
+    small4 32 ++ small4 2 ++ small4 3 ++ small4 2 ++ small4 4 ++ replicate 108 0 ++ replicate 384 170
+  -- the drive after the three lines of the listing
+  pub three-lines : threeLines ≡ listedDrive

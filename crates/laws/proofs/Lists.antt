@@ -1,6 +1,7 @@
 -- Laws of `part` and `over`: lengths, equations, read after write at the same place, before and after it, one element;
 -- and equality of lists of numbers by a test. Assumes nothing.
 use mathlib.Core.Path.{_≡_, refl, sym, ap, ap₂, _∙_}
+use mathlib.Core.Logic.{⊎-elim}
 use mathlib.Core.Bool.{Bool, true, false, _&&_}
 use mathlib.Core.List.{List, [], _∷_, _++_, append-assoc, append-nil}
 use Prim.Native.Nat.{ℕ, zero, suc, _+_, _*_, _-_, _≤_, _<_}
@@ -8,11 +9,11 @@ use native.Mathlib.Nat.{suc-add, zero-add, add-zero}
 use native.Mathlib.Numerals.{add-one}
 use native.Mathlib.Omega.{arith}
 use lib.Dec.{eqb}
-use lib.ListN.{length, getD, take, drop, set, length-append, length-drop, drop-of-length-le, List·getD-append}
-use lib.Seq.{length-take-le, take-at, drop-at, take-append-le, drop-append-add, drop-drop, take-take, take-nil, getD-take, getD-drop, getD-append-add, drop-set-add, take-set-lt, drop-set-lt, take-set-le, set-split, append-snoc, take-add, drop-append-le}
+use lib.ListN.{length, getD, take, drop, set, replicate, length-append, length-take, length-drop, take-append-drop, drop-of-length-le, List·getD-eq-default}
+use lib.Seq.{length-take-le, take-at, drop-at, take-append-le, drop-append-add, drop-drop, take-take, take-nil, getD-take, getD-drop, drop-set-add, take-set-lt, drop-set-lt, take-set-le, set-split, append-snoc, take-add}
 use borrow.Author.Tests.{eqb-true}
 use Rattle.laws.specs.Lists.{part, over}
-use Rattle.laws.proofs.Cases.{and-left, and-right, true-is-not-false}
+use Rattle.laws.proofs.Cases.{lt-cases, and-left, and-right, true-is-not-false}
 
 module _ {A : Type 0} where
   -- ---- part ----
@@ -157,7 +158,7 @@ module _ {A : Type 0} where
   unfolding over
   over-nil from old h =
       let e : from + 0 ≡ from = omega arith in
-      rw (append-nil (take from old), e) (lib.ListN.take-append-drop from old)
+      rw (append-nil (take from old), e) (take-append-drop from old)
 
   pub over-whole : (new old : List A) → length new ≡ length old → over 0 new old ≡ new
   unfolding over
@@ -166,6 +167,23 @@ module _ {A : Type 0} where
   pub over-one : (xs : List A) (index : ℕ) (x : A) → index < length xs → over index (x ∷ []) xs ≡ set xs index x
   unfolding over
   over-one xs index x h = rw (add-one, append-snoc) (sym (set-split xs index x h))
+
+-- ---- zeros ----
+
+pub getD-zeros : (size index : ℕ) → _≡_ {A = ℕ} (getD (replicate size 0) index 0) 0
+getD-zeros zero index = refl
+getD-zeros (suc size) zero = refl
+getD-zeros (suc size) (suc index) = getD-zeros size index
+
+-- a part of what is all 0
+pub getD-part-zeros : (from size index : ℕ) (xs : List ℕ) → ((at : ℕ) → getD xs at 0 ≡ 0) → getD (part from size xs) index 0 ≡ 0
+unfolding part
+getD-part-zeros from size index xs h = ⊎-elim inside outside (lt-cases index size)
+  where
+    inside : index < size → getD (take size (drop from xs)) index 0 ≡ 0
+    inside l = getD-take size (drop from xs) index 0 l ∙ getD-drop from xs index 0 ∙ h (from + index)
+    outside : size ≤ index → getD (take size (drop from xs)) index 0 ≡ 0
+    outside l = List·getD-eq-default (take size (drop from xs)) 0 (omega (arith, length-take size (drop from xs)))
 
 -- ---- equality by a test ----
 

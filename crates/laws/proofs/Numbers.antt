@@ -20,10 +20,11 @@ unfolding littleEndian
 littleEndian-zero zero = refl
 littleEndian-zero (suc size) = ap {B = List ℕ} (λ (bytes : List ℕ). 0 ∷ bytes) (littleEndian-zero size)
 
-pub numberOf-zeros : (size : ℕ) → numberOf (replicate size 0) ≡ 0
+-- bytes that are all 0
+pub numberOf-zeros : (bytes : List ℕ) → ((index : ℕ) → getD bytes index 0 ≡ 0) → numberOf bytes ≡ 0
 unfolding numberOf
-numberOf-zeros zero = refl
-numberOf-zeros (suc size) = rw (numberOf-zeros size)
+numberOf-zeros [] h = refl
+numberOf-zeros (byte ∷ bytes) h = rw (h 0, numberOf-zeros bytes (λ index. h (suc index)))
 
 -- ---- round trips ----
 

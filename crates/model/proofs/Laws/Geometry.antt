@@ -1,0 +1,97 @@
+-- Laws of the geometry: what an accepted one says, and where its areas lie. Assumes nothing.
+use mathlib.Core.Path.{_≡_, refl, sym, ap, _∙_, subst}
+use mathlib.Core.Logic.{_≢_, _⊎_, inl, inr, ⊎-elim}
+use mathlib.Core.Bool.{Bool, true, false, _&&_, _||_}
+use mathlib.Core.List.{List, [], _∷_}
+use Prim.Native.Nat.{ℕ, zero, suc, _+_, _*_, _-_, _/_, _%_, _^_, _≤_, _<_}
+use native.Mathlib.Nat.{mul-le-mul-right}
+use native.Mathlib.Omega.{arith}
+use lib.Dec.{leb, ltb, eqb}
+use borrow.Author.Tests.{ltb-true, leb-true, eqb-true}
+use Rattle.laws.proofs.Cases.{and-left, and-right, or-cases, true-is-not-false}
+use Rattle.laws.proofs.Division.{div-ceilDiv-lt}
+use Rattle.model.specs.Geometry.{Geometry, Fits, fanout, mapBlocks, areaBlocks, bitmapBlocks, rootAddress, areaStart, blockCount, treeCapacity, blockSizes, isOneOf, isGeometry}
+use Rattle.model.specs.Layout.{slotStart, areaPlace, bitAddress, mapAddress}
+
+-- ---- an accepted geometry ----
+
+record Size (n : ℕ) : Type 0 where
+  low : 32 ≤ n
+  high : n ≤ 4096
+  entries : n ≡ 4 * (n / 4)
+
+-- the facts of a block size from a list of numbers that have them
+abbrev AllSizes : List ℕ → Type 0
+AllSizes [] = Unit {0}
+AllSizes (m ∷ ms) = Size m × AllSizes ms
+
+size-in : (n : ℕ) (ms : List ℕ) → AllSizes ms → isOneOf n ms ≡ true → Size n
+size-in n [] s e = true-is-not-false e refl
+size-in n (m ∷ ms) s e =
+    ⊎-elim (λ p. subst Size (sym (eqb-true n m p)) (s .0)) (λ p. size-in n ms (s .1) p) (or-cases (eqb n m) (isOneOf n ms) e)
+
+sizes : AllSizes blockSizes
+sizes = omega arith
+
+pub fits-of-isGeometry : (g : Geometry) → isGeometry g ≡ true → Fits g
+unfolding isGeometry
+fits-of-isGeometry g e =
+    let last = leb (blockCount g) (2 ^ 31 - 1) in
+    let h = isOneOf (g .blockSize) blockSizes in
+    let a = h && leb 2 (g .height) in
+    let b = a && leb (g .height) 4 in
+    let c = b && leb 1 (g .publics) in
+    let d = c && leb 1 (g .hidden) in
+    let p = d && ltb (g .publics) (g .slots) in
+    let q = p && ltb (g .hidden) (g .slots) in
+    let r = q && leb (g .hidden) (treeCapacity g) in
+    let er = and-left r last e in
+    let eq = and-left q (leb (g .hidden) (treeCapacity g)) er in
+    let ep = and-left p (ltb (g .hidden) (g .slots)) eq in
+    let ed = and-left d (ltb (g .publics) (g .slots)) ep in
+    let ec = and-left c (leb 1 (g .hidden)) ed in
+    let eb = and-left b (leb 1 (g .publics)) ec in
+    let ea = and-left a (leb (g .height) 4) eb in
+    let size = size-in (g .blockSize) blockSizes sizes (and-left h (leb 2 (g .height)) ea) in
+    let most : blockCount g ≤ 2 ^ 31 - 1 = leb-true (blockCount g) (2 ^ 31 - 1) (and-right r last e) in
+    record {
+      size-low = size .low; size-high = size .high; size-entries = size .entries;
+      height-low = leb-true 2 (g .height) (and-right h (leb 2 (g .height)) ea);
+      height-high = leb-true (g .height) 4 (and-right a (leb (g .height) 4) eb);
+      publics-low = leb-true 1 (g .publics) (and-right b (leb 1 (g .publics)) ec);
+      hidden-low = leb-true 1 (g .hidden) (and-right c (leb 1 (g .hidden)) ed);
+      publics-high = ltb-true (g .publics) (g .slots) (and-right d (ltb (g .publics) (g .slots)) ep);
+      hidden-high = ltb-true (g .hidden) (g .slots) (and-right p (ltb (g .hidden) (g .slots)) eq);
+      hidden-fits = leb-true (g .hidden) (treeCapacity g) (and-right q (leb (g .hidden) (treeCapacity g)) er);
+      blocks-high = omega arith }
+
+-- ---- entries of a block ----
+
+pub fanout-low : (g : Geometry) → Fits g → 8 ≤ fanout g
+fanout-low g f = omega arith
+
+pub fanout-high : (g : Geometry) → Fits g → fanout g ≤ 1024
+fanout-high g f = omega arith
+
+-- ---- areas ----
+
+pub mapAddress-lt : (g : Geometry) → Fits g → (number : ℕ) → number < g .publics → mapAddress g number < 1 + mapBlocks g
+mapAddress-lt g f number h = omega (arith, div-ceilDiv-lt number (g .publics) (fanout g) h (omega (arith, fanout-low g f)))
+
+-- a slot's blocks, counted over the data area
+pub slot-place-lt : (g : Geometry) (slot place : ℕ) → slot < g .slots → place ≤ g .height → slot * (g .height + 1) + place < areaBlocks g
+slot-place-lt g slot place h k = omega (arith, mul-le-mul-right (g .height + 1) h)
+
+pub bitAddress-lt : (g : Geometry) → Fits g → (slot : ℕ) → slot < g .slots → bitAddress g slot < rootAddress g
+bitAddress-lt g f slot h =
+    let l : areaPlace g slot < areaBlocks g = omega (arith, slot-place-lt g slot 0 h (omega arith)) in
+    omega (arith, div-ceilDiv-lt (areaPlace g slot) (areaBlocks g) (8 * g .blockSize) l (omega (arith, f .size-low)))
+
+pub bitAddress-ge : (g : Geometry) (slot : ℕ) → 1 + mapBlocks g ≤ bitAddress g slot
+bitAddress-ge g slot = omega arith
+
+pub slot-block-lt : (g : Geometry) (slot place : ℕ) → slot < g .slots → place ≤ g .height → slotStart g slot + place < blockCount g
+slot-block-lt g slot place h k = omega (arith, slot-place-lt g slot place h k)
+
+pub rootAddress-lt : (g : Geometry) → rootAddress g < blockCount g
+rootAddress-lt g = omega arith

@@ -1,0 +1,122 @@
+-- Laws of slots: the slot and the place of each of a slot's blocks, which addresses are slot blocks, the next slot, and
+-- slots apart. Assumes nothing.
+use mathlib.Core.Path.{_≡_, refl, sym, ap, _∙_}
+use mathlib.Core.Logic.{_≢_}
+use mathlib.Core.Bool.{Bool, true, false, _&&_}
+use Prim.Native.Nat.{ℕ, zero, suc, _+_, _*_, _-_, _/_, _%_, _≤_, _<_}
+use native.Mathlib.Nat.{mod-lt, div-add-mod', div-lt-iff-lt-mul}
+use native.Mathlib.Omega.{arith}
+use lib.Arith.{digits-mod, digits-div}
+use lib.Dec.{leb, ltb, eqb}
+use borrow.Author.Tests.{ltb-true, leb-true, eqb-true, lt-ltb, le-ltb, le-leb, lt-leb, eq-eqb, ne-eqb}
+use Rattle.laws.proofs.Cases.{and-left, and-right, and-both, and-false-left, and-false-right}
+use Rattle.model.specs.Geometry.{Geometry, Fits, areaBlocks, areaStart, blockCount}
+use Rattle.model.specs.Blocks.{DiskAddress}
+use Rattle.model.specs.Layout.{slotStart, slotOf, nextSlot, levelPlace, levelAddress, isSlotBlock, isWellFormed}
+use Rattle.model.proofs.Laws.Geometry.{slot-block-lt}
+
+-- ---- a slot's blocks ----
+
+module _ (g : Geometry) (slot place : ℕ) (inside : place ≤ g .height) where
+  pub place-of-slot-block : (slotStart g slot + place - areaStart g) % (g .height + 1) ≡ place
+  place-of-slot-block =
+      let e : slotStart g slot + place - areaStart g ≡ slot * (g .height + 1) + place = omega arith in
+      let l : place < g .height + 1 = omega arith in
+      ap (λ (n : ℕ). n % (g .height + 1)) e ∙ digits-mod slot l
+
+  pub slotOf-slot-block : slotOf g (slotStart g slot + place) ≡ slot
+  slotOf-slot-block =
+      let e : slotStart g slot + place - areaStart g ≡ slot * (g .height + 1) + place = omega arith in
+      let l : place < g .height + 1 = omega arith in
+      ap (λ (n : ℕ). n / (g .height + 1)) e ∙ digits-div slot l
+
+  pub isSlotBlock-same : slot < g .slots → isSlotBlock g place (slotStart g slot + place) ≡ true
+  unfolding isSlotBlock
+  isSlotBlock-same h =
+      and-both
+        (and-both (le-leb (areaStart g) (slotStart g slot + place) (omega arith))
+          (lt-ltb (slotStart g slot + place) (blockCount g) (slot-block-lt g slot place h inside)))
+        (eq-eqb ((slotStart g slot + place - areaStart g) % (g .height + 1)) place place-of-slot-block)
+
+  pub isSlotBlock-other : (other : ℕ) → other ≢ place → isSlotBlock g other (slotStart g slot + place) ≡ false
+  unfolding isSlotBlock
+  isSlotBlock-other other ne =
+      and-false-right (leb (areaStart g) (slotStart g slot + place) && ltb (slotStart g slot + place) (blockCount g))
+        (ne-eqb ((slotStart g slot + place - areaStart g) % (g .height + 1)) other (λ e. ne (sym e ∙ place-of-slot-block)))
+
+pub slotOf-slotStart : (g : Geometry) (slot : ℕ) → slotOf g (slotStart g slot) ≡ slot
+slotOf-slotStart g slot =
+    let e : slotStart g slot + 0 ≡ slotStart g slot = omega arith in
+    ap (slotOf g) (sym e) ∙ slotOf-slot-block g slot 0 (omega arith)
+
+pub isSlotBlock-slotStart : (g : Geometry) (slot : ℕ) → slot < g .slots → isSlotBlock g 0 (slotStart g slot) ≡ true
+isSlotBlock-slotStart g slot h =
+    let e : slotStart g slot + 0 ≡ slotStart g slot = omega arith in
+    ap (isSlotBlock g 0) (sym e) ∙ isSlotBlock-same g slot 0 (omega arith) h
+
+-- ---- which addresses are slot blocks ----
+
+-- such an address is at its place in its slot, which is one of the drive's
+pub record SlotBlock (g : Geometry) (place : ℕ) (address : DiskAddress) : Type 0 where
+  pub slot-inside : slotOf g address < g .slots
+  pub address-is : address ≡ slotStart g (slotOf g address) + place
+  pub address-inside : address < blockCount g
+
+pub slotBlock-of : (g : Geometry) (place : ℕ) (address : DiskAddress) → isSlotBlock g place address ≡ true → SlotBlock g place address
+unfolding isSlotBlock
+slotBlock-of g place address e =
+    let front = leb (areaStart g) address && ltb address (blockCount g) in
+    let rest = eqb ((address - areaStart g) % (g .height + 1)) place in
+    let low : areaStart g ≤ address =
+      leb-true (areaStart g) address (and-left (leb (areaStart g) address) (ltb address (blockCount g)) (and-left front rest e)) in
+    let high : address < blockCount g =
+      ltb-true address (blockCount g) (and-right (leb (areaStart g) address) (ltb address (blockCount g)) (and-left front rest e)) in
+    let at : (address - areaStart g) % (g .height + 1) ≡ place =
+      eqb-true ((address - areaStart g) % (g .height + 1)) place (and-right front rest e) in
+    let positive : 0 < g .height + 1 = omega arith in
+    let whole = div-add-mod' (address - areaStart g) (g .height + 1) in
+    record {
+      slot-inside = div-lt-iff-lt-mul positive .1 (omega arith);
+      address-is = omega arith;
+      address-inside = high }
+
+pub isSlotBlock-below : (g : Geometry) (place : ℕ) (address : DiskAddress) → address < areaStart g → isSlotBlock g place address ≡ false
+unfolding isSlotBlock
+isSlotBlock-below g place address h =
+    and-false-left (eqb ((address - areaStart g) % (g .height + 1)) place)
+      (and-false-left (ltb address (blockCount g)) (lt-leb (areaStart g) address h))
+
+pub isSlotBlock-past : (g : Geometry) (place : ℕ) (address : DiskAddress) → blockCount g ≤ address → isSlotBlock g place address ≡ false
+unfolding isSlotBlock
+isSlotBlock-past g place address h =
+    and-false-left (eqb ((address - areaStart g) % (g .height + 1)) place)
+      (and-false-right (leb (areaStart g) address) (le-ltb address (blockCount g) h))
+
+-- within the data area the place decides
+pub isSlotBlock-inside :
+    (g : Geometry) (place : ℕ) (address : DiskAddress) → areaStart g ≤ address → address < blockCount g →
+    isSlotBlock g place address ≡ eqb ((address - areaStart g) % (g .height + 1)) place
+unfolding isSlotBlock
+isSlotBlock-inside g place address low high = rw (le-leb (areaStart g) address low, lt-ltb address (blockCount g) high)
+
+-- ---- levels ----
+
+pub levelPlace-le : (g : Geometry) (level : ℕ) → level < g .height → levelPlace g level ≤ g .height
+levelPlace-le g zero h = omega arith
+levelPlace-le g (suc level) h = omega arith
+
+pub levelPlace-ge : (g : Geometry) (level : ℕ) → 0 < g .height → 1 ≤ levelPlace g level
+levelPlace-ge g zero h = h
+levelPlace-ge g (suc level) h = omega arith
+
+pub isWellFormed-levelAddress :
+    (g : Geometry) (slot level : ℕ) → slot < g .slots → level < g .height → isWellFormed g level (levelAddress g slot level) ≡ true
+isWellFormed-levelAddress g slot level h k = isSlotBlock-same g slot (levelPlace g level) (levelPlace-le g level k) h
+
+pub slotOf-levelAddress : (g : Geometry) (slot level : ℕ) → level < g .height → slotOf g (levelAddress g slot level) ≡ slot
+slotOf-levelAddress g slot level k = slotOf-slot-block g slot (levelPlace g level) (levelPlace-le g level k)
+
+-- ---- the next slot ----
+
+pub nextSlot-lt : (g : Geometry) (slot : ℕ) → Fits g → nextSlot g slot < g .slots
+nextSlot-lt g slot f = let h : 0 < g .slots = omega arith in mod-lt (slot + 1) h

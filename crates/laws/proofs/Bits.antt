@@ -155,8 +155,9 @@ bitAt-setBit-other place other isSet bytes h ne = by (eq-cases (other / 8) (plac
   where
     byte : ℕ
     byte = withBit (place % 8) isSet (getD bytes (place / 8) 0)
+
     by : (other / 8 ≡ place / 8) ⊎ (other / 8 ≢ place / 8) →
-      bitOf (other % 8) (getD (set bytes (place / 8) byte) (other / 8) 0) ≡ bitOf (other % 8) (getD bytes (other / 8) 0)
+        bitOf (other % 8) (getD (set bytes (place / 8) byte) (other / 8) 0) ≡ bitOf (other % 8) (getD bytes (other / 8) 0)
     by (inl e) =
         let apart : other % 8 ≢ place % 8 = omega arith in
         ap (λ (n : ℕ). bitOf (other % 8) (getD (set bytes (place / 8) byte) n 0)) e

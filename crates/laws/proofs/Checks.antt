@@ -31,7 +31,7 @@ firstOf-append-stop [] ds f = absurd (f refl)
 firstOf-append-stop (c ∷ cs) ds f = by (c .holds) refl (λ g. firstOf-append-stop cs ds g)
   where
     by : (b : Bool) → c .holds ≡ b → (firstOf cs ≢ 0 → firstOf (cs ++ ds) ≡ firstOf cs) →
-      cond (c .holds) (c .number) (firstOf (cs ++ ds)) ≡ cond (c .holds) (c .number) (firstOf cs)
+        cond (c .holds) (c .number) (firstOf (cs ++ ds)) ≡ cond (c .holds) (c .number) (firstOf cs)
     by true e later = rw e
     by false e later = rw e (later (λ z. f (rw e z)))
 

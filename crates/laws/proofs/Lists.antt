@@ -107,8 +107,8 @@ module _ {A : Type 0} where
         let t : length (take from old) ≡ from = length-front in
         let r : length (take from old ++ new) + (index - (from + length new)) ≡ index = simp length-append (omega arith) in
         let q : drop (length (take from old ++ new) + (index - (from + length new))) (over from new old) ≡
-            drop (index - (from + length new)) (drop (from + length new) old) =
-          drop-append-add (take from old ++ new) (drop (from + length new) old) (index - (from + length new)) in
+        drop (index - (from + length new)) (drop (from + length new) old) =
+        drop-append-add (take from old ++ new) (drop (from + length new) old) (index - (from + length new)) in
         let u : from + length new + (index - (from + length new)) ≡ index = omega arith in
         rw r at q ∙ drop-drop (index - (from + length new)) (from + length new) old ∙ ap (λ (n : ℕ). drop n old) u
 
@@ -137,9 +137,9 @@ module _ {A : Type 0} where
     over-append more h =
         let t : length (take from old) ≡ from = length-front in
         let p : take (from + length new) (over from new old) ≡ take from old ++ new =
-          take-at (take from old ++ new) (drop (from + length new) old) (from + length new) (simp length-append (omega arith)) in
+        take-at (take from old ++ new) (drop (from + length new) old) (from + length new) (simp length-append (omega arith)) in
         let q : drop (from + length new + length more) (over from new old) ≡ drop (from + length new + length more) old =
-          drop-over-after (from + length new + length more) (omega arith) in
+        drop-over-after (from + length new + length more) (omega arith) in
         let e : from + length (new ++ more) ≡ from + length new + length more = simp length-append (omega arith) in
         rw (p, q, e) (ap (λ (ys : List A). ys ++ drop (from + length new + length more) old) (append-assoc (take from old) new more))
 
@@ -149,7 +149,7 @@ module _ {A : Type 0} where
     over-over-same again e =
         let p : take from (over from new old) ≡ take from old = take-over-before from (omega arith) in
         let q : drop (from + length again) (over from new old) ≡ drop (from + length again) old =
-          rw e (drop-over-after (from + length new) (omega arith)) in
+        rw e (drop-over-after (from + length new) (omega arith)) in
         rw (p, q)
 
   -- ---- special cases ----
@@ -182,6 +182,7 @@ getD-part-zeros from size index xs h = ⊎-elim inside outside (lt-cases index s
   where
     inside : index < size → getD (take size (drop from xs)) index 0 ≡ 0
     inside l = getD-take size (drop from xs) index 0 l ∙ getD-drop from xs index 0 ∙ h (from + index)
+
     outside : size ≤ index → getD (take size (drop from xs)) index 0 ≡ 0
     outside l = List·getD-eq-default (take size (drop from xs)) 0 (omega (arith, length-take size (drop from xs)))
 
@@ -200,4 +201,4 @@ same-of-isSame [] (y ∷ ys) e = true-is-not-false e refl
 same-of-isSame (x ∷ xs) [] e = true-is-not-false e refl
 same-of-isSame (x ∷ xs) (y ∷ ys) e =
     ap₂ {C = List ℕ} (λ (z : ℕ) (zs : List ℕ). z ∷ zs) (eqb-true x y (and-left (eqb x y) (isSame xs ys) e))
-      (same-of-isSame xs ys (and-right (eqb x y) (isSame xs ys) e))
+    (same-of-isSame xs ys (and-right (eqb x y) (isSame xs ys) e))

@@ -44,7 +44,7 @@ littleEndian-numberOf (byte ∷ bytes) h =
     let low : (byte + 256 * numberOf bytes) % 256 ≡ byte = omega arith in
     let high : (byte + 256 * numberOf bytes) / 256 ≡ numberOf bytes = omega arith in
     ap₂ {C = List ℕ} (λ (z : ℕ) (zs : List ℕ). z ∷ zs) low
-      (ap (littleEndian (length bytes)) high ∙ littleEndian-numberOf bytes (λ index. h (suc index)))
+    (ap (littleEndian (length bytes)) high ∙ littleEndian-numberOf bytes (λ index. h (suc index)))
 
 -- ---- bound ----
 

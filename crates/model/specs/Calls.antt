@@ -76,9 +76,9 @@ outcomeNumber damagedWalk = 12
 unfoldable pub outcomeOf : (refusal : ℕ) → HiddenState → Outcome
 outcomeOf refusal state =
     cond (eqb refusal 10) badNumber
-      (cond (eqb refusal 11) badSize
-        (cond (not (eqb (state .placed) 0)) placed
-          (cond (state .metDamage) damagedWalk (cond (isWaiting (state .waiting)) waiting noWrite))))
+    (cond (eqb refusal 11) badSize
+    (cond (not (eqb (state .placed) 0)) placed
+    (cond (state .metDamage) damagedWalk (cond (isWaiting (state .waiting)) waiting noWrite))))
 
 -- ---- the write ----
 
@@ -123,7 +123,7 @@ written disk number content random room offer =
     let g = geometryIn disk in
     let refusal = writeRefusal disk number content (length random) room in
     cond (eqb refusal 0) (doneWrite (offerRefusal g offer) (writeRun g disk number content random offer))
-      (refusedWrite refusal)
+    (refusedWrite refusal)
 
 -- the disk that a write leaves
 abbrev pub writtenDisk : Written → (disk : Bytes) → Bytes

@@ -55,15 +55,15 @@ abbrev pub placeConditions : Geometry → (disk : Bytes) → (number size : ℕ)
 placeConditions g disk number size =
     condition 4 (g .publics ≤ number) ∷ condition 5 (size ≢ g .blockSize) ∷
     condition 6
-      ((mapEntry g disk number ≢ 0) ×
-      ((slot : ℕ) → slot < g .slots → isAllocated g disk slot ≡ true → mapEntry g disk number ≢ slotStart g slot)) ∷ []
+    ((mapEntry g disk number ≢ 0) ×
+    ((slot : ℕ) → slot < g .slots → isAllocated g disk slot ≡ true → mapEntry g disk number ≢ slotStart g slot)) ∷ []
 
 -- so many rounds: the least number from 1 on for which slot (h + number − 1) mod M is free
 pub record TakesRounds (g : Geometry) (disk : Bytes) (rounds : ℕ) : Type 0 where
   pub at-least-one : 1 ≤ rounds
   pub last-free : isAllocated g disk ((headIn disk + rounds - 1) % g .slots) ≡ false
   pub others-allocated :
-    (round : ℕ) → 1 ≤ round → round < rounds → isAllocated g disk ((headIn disk + round - 1) % g .slots) ≡ true
+      (round : ℕ) → 1 ≤ round → round < rounds → isAllocated g disk ((headIn disk + round - 1) % g .slots) ≡ true
 
 -- the stores of so many rounds: k + 3 for each but the last, k + 5 or k + 6 for the last
 abbrev pub storesOf : Geometry → (rounds : ℕ) → (entry : DiskAddress) → ℕ
@@ -75,7 +75,7 @@ roundConditions g disk number random room =
     condition 7 ((slot : ℕ) → slot < g .slots → isAllocated g disk slot ≡ true) ∷
     condition 8 ((rounds : ℕ) × TakesRounds g disk rounds × (random < rounds * g .height * g .blockSize)) ∷
     condition 9
-      ((rounds : ℕ) × TakesRounds g disk rounds × (room < storesOf g rounds (mapEntry g disk number))) ∷ []
+    ((rounds : ℕ) × TakesRounds g disk rounds × (room < storesOf g rounds (mapEntry g disk number))) ∷ []
 
 -- 10 and 11: of a hidden number and the length of its data or blank
 abbrev pub hiddenConditions : Geometry → (number size : ℕ) → List Condition

@@ -84,4 +84,4 @@ rowOf g disk slot waiting = rowAt (isWaiting waiting) (isAllocated g disk slot) 
 unfoldable pub hiddenHalf : Geometry → (disk : Bytes) → (slot : ℕ) → (random : Bytes) → HiddenState → HiddenHalf
 hiddenHalf g disk slot random state =
     cond (isBlocked g disk slot (state .waiting)) (half (writtenBack g disk slot) (blockedState state))
-      (hiddenBy (rowOf g disk slot (state .waiting) .hidden) g disk slot random state (state .waiting))
+    (hiddenBy (rowOf g disk slot (state .waiting) .hidden) g disk slot random state (state .waiting))

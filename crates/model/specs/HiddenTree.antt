@@ -59,9 +59,9 @@ walkFrom g disk number zero node =
 walkFrom g disk number (suc level) node =
     let entry = entryAt (branchAt g number (suc level)) node in
     cond (eqb entry 0) (ended g node (suc level) unmapped)
-      (cond (isWellFormed g (suc level) entry)
-        (passing node (walkFrom g disk number level (blockAt (g .blockSize) disk entry)))
-        (ended g node (suc level) damaged))
+    (cond (isWellFormed g (suc level) entry)
+    (passing node (walkFrom g disk number level (blockAt (g .blockSize) disk entry)))
+    (ended g node (suc level) damaged))
 
 -- the walk for a number from the root
 abbrev pub walk : Geometry → (disk : Bytes) → (number : ℕ) → Walk

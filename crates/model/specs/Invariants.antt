@@ -16,10 +16,10 @@ use Rattle.model.specs.HiddenHalf.{ownerOf}
 -- each entry is 0 or block A of an allocated slot, and no two numbers share a place
 pub record PublicInvariant (g : Geometry) (disk : Bytes) : Type 0 where
   pub in-place :
-    (number : ℕ) → number < g .publics → mapEntry g disk number ≢ 0 → isPlace g disk (mapEntry g disk number) ≡ true
+      (number : ℕ) → number < g .publics → mapEntry g disk number ≢ 0 → isPlace g disk (mapEntry g disk number) ≡ true
   pub apart :
-    (number other : ℕ) → number < g .publics → other < g .publics → mapEntry g disk number ≢ 0 →
-    mapEntry g disk number ≡ mapEntry g disk other → number ≡ other
+      (number other : ℕ) → number < g .publics → other < g .publics → mapEntry g disk number ≢ 0 →
+      mapEntry g disk number ≡ mapEntry g disk other → number ≡ other
 
 -- a bit of the whole bitmap, its padding included
 unfoldable pub bitmapBit : Geometry → (disk : Bytes) → (place : ℕ) → Bool
@@ -29,8 +29,8 @@ bitmapBit g disk place =
 -- each set bit of the bitmap is that of a public number's place; with PublicInvariant the set bits are just these
 pub record BitmapInvariant (g : Geometry) (disk : Bytes) : Type 0 where
   pub mapped :
-    (place : ℕ) → place < bitmapBlocks g * (8 * g .blockSize) → bitmapBit g disk place ≡ true →
-    (number : ℕ) × (number < g .publics) × (mapEntry g disk number ≡ areaStart g + place)
+      (place : ℕ) → place < bitmapBlocks g * (8 * g .blockSize) → bitmapBit g disk place ≡ true →
+      (number : ℕ) × (number < g .publics) × (mapEntry g disk number ≡ areaStart g + place)
 
 -- ---- the hidden volume ----
 
@@ -42,10 +42,10 @@ entriesIn g (suc level) = fanout g
 -- the entries met from the root down: an entry of a level, and how many of that level's entries stand before it
 pub data Met (g : Geometry) (disk : Bytes) : (level index : ℕ) → (entry : DiskAddress) → Type 0 where
   inRoot : {level index entry : ℕ} → suc level ≡ g .height → index < entriesIn g level →
-    entry ≡ entryAt index (blockAt (g .blockSize) disk (rootAddress g)) → Met g disk level index entry
+      entry ≡ entryAt index (blockAt (g .blockSize) disk (rootAddress g)) → Met g disk level index entry
   inNode : {level index entry above node place : ℕ} → Met g disk (suc level) above node →
-    isWellFormed g (suc level) node ≡ true → place < entriesIn g level → index ≡ above * entriesIn g level + place →
-    entry ≡ entryAt place (blockAt (g .blockSize) disk node) → Met g disk level index entry
+      isWellFormed g (suc level) node ≡ true → place < entriesIn g level → index ≡ above * entriesIn g level + place →
+      entry ≡ entryAt place (blockAt (g .blockSize) disk node) → Met g disk level index entry
 
 -- what holds of an entry that is met and is not 0; the numbers below it are those n with n div span level = index
 pub record GoodEntry (g : Geometry) (disk : Bytes) (level index : ℕ) (entry : DiskAddress) : Type 0 where
@@ -60,5 +60,5 @@ pub record GoodEntry (g : Geometry) (disk : Bytes) (level index : ℕ) (entry : 
 -- every entry met is 0 or good
 pub record HiddenInvariant (g : Geometry) (disk : Bytes) : Type 0 where
   pub good-entries :
-    (level index : ℕ) (entry : DiskAddress) → Met g disk level index entry → entry ≢ 0 →
-    GoodEntry g disk level index entry
+      (level index : ℕ) (entry : DiskAddress) → Met g disk level index entry → entry ≢ 0 →
+      GoodEntry g disk level index entry

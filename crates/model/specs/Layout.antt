@@ -15,8 +15,12 @@ use Rattle.model.specs.Blocks.{Bytes, DiskAddress, blockAt, entryAt}
 abbrev pub geometryIn : (disk : Bytes) → Geometry
 geometryIn disk =
     record {
-      blockSize = entryAt 0 disk; height = entryAt 1 disk; publics = entryAt 2 disk; hidden = entryAt 3 disk;
-      slots = entryAt 4 disk }
+      blockSize = entryAt 0 disk;
+      height = entryAt 1 disk;
+      publics = entryAt 2 disk;
+      hidden = entryAt 3 disk;
+      slots = entryAt 4 disk;
+    }
 
 -- the head slot, where the next round is
 abbrev pub headIn : (disk : Bytes) → ℕ

@@ -32,7 +32,7 @@ pathStores g number slot content [] = []
 pathStores g number slot content (root ∷ below) =
     nodeStores g number slot below ++
     (store (levelAddress g slot 0) content ∷
-      store (rootAddress g) (linkedNode g number slot (length below) root) ∷ [])
+    store (rootAddress g) (linkedNode g number slot (length below) root) ∷ [])
 
 -- a number's current path stored in a slot, with a block for its data
 abbrev pub currentPath : Geometry → (disk : Bytes) → (number slot : ℕ) → (content : Bytes) → Trace

@@ -24,7 +24,7 @@ publicStore writePublic g disk slot content = store (slotStart g slot) content
 abbrev pub mapStore : Geometry → (disk : Bytes) → (number slot : ℕ) → Store
 mapStore g disk number slot =
     store (mapAddress g number)
-      (setEntry (number % fanout g) (slotStart g slot) (blockAt (g .blockSize) disk (mapAddress g number)))
+    (setEntry (number % fanout g) (slotStart g slot) (blockAt (g .blockSize) disk (mapAddress g number)))
 
 -- a slot's bitmap block with its bit 1 or 0 as asked
 abbrev pub bitStore : Geometry → (disk : Bytes) → (slot : ℕ) → (isSet : Bool) → Store
@@ -83,7 +83,7 @@ runFrom (suc most) g number content slot random disk state =
     let hidden = hiddenHalf g disk slot random state in
     let round = roundTrace choice g disk number slot content (hidden .trace) in
     followedBy round
-      (cond (goesOn choice)
-        (runFrom most g number content (nextSlot g slot) (drop (g .height * g .blockSize) random)
-          (apply (g .blockSize) round disk) (hidden .state))
-        (stopped (hidden .state)))
+    (cond (goesOn choice)
+    (runFrom most g number content (nextSlot g slot) (drop (g .height * g .blockSize) random)
+    (apply (g .blockSize) round disk) (hidden .state))
+    (stopped (hidden .state)))

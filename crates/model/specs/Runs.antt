@@ -77,15 +77,25 @@ pub record Seen : Type 0 where
 abbrev pub seenOfWrite : Written → (disk : Bytes) → (list : List DiskAddress) → Seen
 seenOfWrite result disk list =
     record {
-      answer = result .answer; shown = []; rounds = result .rounds; stores = length (result .trace);
-      entries = take (length (result .trace)) (writtenList result list); view = viewOf (writtenDisk result disk) }
+      answer = result .answer;
+      shown = [];
+      rounds = result .rounds;
+      stores = length (result .trace);
+      entries = take (length (result .trace)) (writtenList result list);
+      view = viewOf (writtenDisk result disk);
+    }
 
 -- nothing is seen of a hidden read
 abbrev pub seenOf : (disk : Bytes) → Call → List Seen
 seenOf disk (readPublic number blank) =
     record {
-      answer = publicReadRefusal disk number blank; shown = publicRead disk number blank; rounds = 0; stores = 0;
-      entries = []; view = viewOf disk } ∷ []
+      answer = publicReadRefusal disk number blank;
+      shown = publicRead disk number blank;
+      rounds = 0;
+      stores = 0;
+      entries = [];
+      view = viewOf disk;
+    } ∷ []
 seenOf disk (readHidden number blank) = []
 seenOf disk (write number content random list offer) =
     seenOfWrite (written disk number content random (length list) offer) disk list ∷ []

@@ -23,8 +23,12 @@ pub record CallLengths : Type 0 where
 abbrev pub lengthsOf : PublicCall → CallLengths
 lengthsOf call =
     record {
-      isWrite = call .isWrite; number = call .number; content = length (call .content); random = call .random;
-      room = call .room }
+      isWrite = call .isWrite;
+      number = call .number;
+      content = length (call .content);
+      random = call .random;
+      room = call .room;
+    }
 
 unfoldable pub lengthsOfAll : List PublicCall → List CallLengths
 lengthsOfAll [] = []
@@ -52,8 +56,11 @@ unfoldable pub simulatorOf : (view : Bytes) → Simulator
 simulatorOf view =
     let g = geometryIn view in
     record {
-      geometry = g; head = headIn view; entries = entriesFrom g view 0 (g .publics);
-      allocated = allocatedFrom g view 0 (g .slots) }
+      geometry = g;
+      head = headIn view;
+      entries = entriesFrom g view 0 (g .publics);
+      allocated = allocatedFrom g view 0 (g .slots);
+    }
 
 abbrev pub entryFor : Simulator → (number : ℕ) → DiskAddress
 entryFor sim number = getD (sim .entries) number 0
@@ -143,7 +150,7 @@ isDone sim call = call .isWrite && eqb (simulatedAnswer sim call) 0
 unfoldable pub toldOf : Simulator → CallLengths → Told
 toldOf sim call =
     cond (isDone sim call) (toldStores 0 (simulatedRounds sim) (simulatedStores sim (call .number)))
-      (toldStores (simulatedAnswer sim call) 0 [])
+    (toldStores (simulatedAnswer sim call) 0 [])
 
 -- the old slot, if any, is freed
 abbrev pub freedOld : Simulator → (number : ℕ) → List Bool
@@ -156,9 +163,11 @@ abbrev pub simulatedWrite : Simulator → (number : ℕ) → Simulator
 simulatedWrite sim number =
     let last = slotOfRound sim (simulatedRounds sim) in
     record {
-      geometry = sim .geometry; head = nextSlot (sim .geometry) last;
+      geometry = sim .geometry;
+      head = nextSlot (sim .geometry) last;
       entries = set (sim .entries) number (slotStart (sim .geometry) last);
-      allocated = set (freedOld sim number) last true }
+      allocated = set (freedOld sim number) last true;
+    }
 
 unfoldable pub simulatorAfter : Simulator → CallLengths → Simulator
 simulatorAfter sim call = cond (isDone sim call) (simulatedWrite sim (call .number)) sim

@@ -54,8 +54,8 @@ module _ (g : Geometry) (f : Fits g) where
       let b = div-add-mod' (areaPlace g other) (8 * g .blockSize) in
       let q : areaPlace g other / (8 * g .blockSize) ≡ areaPlace g slot / (8 * g .blockSize) = omega arith in
       let same : areaPlace g other ≡ areaPlace g slot =
-        sym b ∙ ap (λ (n : ℕ). n * (8 * g .blockSize) + bitPlace g other) q
-        ∙ ap (λ (n : ℕ). areaPlace g slot / (8 * g .blockSize) * (8 * g .blockSize) + n) p ∙ a in
+      sym b ∙ ap (λ (n : ℕ). n * (8 * g .blockSize) + bitPlace g other) q
+      ∙ ap (λ (n : ℕ). areaPlace g slot / (8 * g .blockSize) * (8 * g .blockSize) + n) p ∙ a in
       let positive : 0 < g .height + 1 = omega arith in
       ne (sym (mul-div-cancel other positive) ∙ ap (λ (n : ℕ). n / (g .height + 1)) same ∙ mul-div-cancel slot positive)
 
@@ -78,7 +78,7 @@ module _ (g : Geometry) (f : Fits g) (disk : Bytes) (whole : length disk ≡ blo
   block-marked : (isSet : Bool) → blockAt (g .blockSize) (marked isSet) (bitAddress g slot) ≡ bitmapWith g disk slot isSet
   block-marked isSet =
       blockAt-setBlock-same (g .blockSize) disk (blockCount g) whole (bitAddress g slot) address-inside
-        (bitmapWith g disk slot isSet) (length-bitmapWith isSet)
+      (bitmapWith g disk slot isSet) (length-bitmapWith isSet)
 
   byte-inside : bitPlace g slot / 8 < length (blockAt (g .blockSize) disk (bitAddress g slot))
   byte-inside =
@@ -95,18 +95,19 @@ module _ (g : Geometry) (f : Fits g) (disk : Bytes) (whole : length disk ≡ blo
   isAllocated-marked-other isSet other ne = ⊎-elim same-block other-block (eq-cases (bitAddress g other) (bitAddress g slot))
     where
       same-block : bitAddress g other ≡ bitAddress g slot →
-        bitAt (bitPlace g other) (blockAt (g .blockSize) (marked isSet) (bitAddress g other)) ≡
-        bitAt (bitPlace g other) (blockAt (g .blockSize) disk (bitAddress g other))
+          bitAt (bitPlace g other) (blockAt (g .blockSize) (marked isSet) (bitAddress g other)) ≡
+          bitAt (bitPlace g other) (blockAt (g .blockSize) disk (bitAddress g other))
       same-block e =
           ap (λ (n : ℕ). bitAt (bitPlace g other) (blockAt (g .blockSize) (marked isSet) n)) e
           ∙ ap (bitAt (bitPlace g other)) (block-marked isSet)
           ∙ bitAt-setBit-other (bitPlace g slot) (bitPlace g other) isSet (blockAt (g .blockSize) disk (bitAddress g slot))
-              byte-inside (bitPlace-apart g f slot other ne e)
+          byte-inside (bitPlace-apart g f slot other ne e)
           ∙ ap (λ (n : ℕ). bitAt (bitPlace g other) (blockAt (g .blockSize) disk n)) (sym e)
+
       other-block : bitAddress g other ≢ bitAddress g slot →
-        bitAt (bitPlace g other) (blockAt (g .blockSize) (marked isSet) (bitAddress g other)) ≡
-        bitAt (bitPlace g other) (blockAt (g .blockSize) disk (bitAddress g other))
+          bitAt (bitPlace g other) (blockAt (g .blockSize) (marked isSet) (bitAddress g other)) ≡
+          bitAt (bitPlace g other) (blockAt (g .blockSize) disk (bitAddress g other))
       other-block e =
           ap (bitAt (bitPlace g other))
-            (blockAt-setBlock-other (g .blockSize) disk (blockCount g) whole (bitAddress g slot) address-inside
-              (bitmapWith g disk slot isSet) (length-bitmapWith isSet) (bitAddress g other) e)
+          (blockAt-setBlock-other (g .blockSize) disk (blockCount g) whole (bitAddress g slot) address-inside
+          (bitmapWith g disk slot isSet) (length-bitmapWith isSet) (bitAddress g other) e)

@@ -63,6 +63,7 @@ module _ (width : ℕ) (disk : Bytes) (count : ℕ) (whole : length disk ≡ cou
         below : other < address → part (other * width) width (over (address * width) block disk) ≡ part (other * width) width disk
         below h =
             part-over-before block disk (address * width) over-inside (other * width) width (omega (arith, mul-le-mul-right width h))
+
         above : address ≤ other → part (other * width) width (over (address * width) block disk) ≡ part (other * width) width disk
         above h =
             let l : suc address ≤ other = omega arith in

@@ -30,13 +30,14 @@ part-four bytes from h =
       drop-one bytes from (from + 1) (omega arith) (omega arith),
       drop-one bytes (from + 1) (from + 2) (omega arith) (omega arith),
       drop-one bytes (from + 2) (from + 3) (omega arith) (omega arith),
-      drop-one bytes (from + 3) (from + 4) (omega arith) (omega arith))
+      drop-one bytes (from + 3) (from + 4) (omega arith) (omega arith),
+    )
 
 pub entryAt-bytes :
     (bytes : Bytes) (index : ℕ) → 4 * index + 4 ≤ length bytes →
     entryAt index bytes ≡
     getD bytes (4 * index) 0 +
-      256 * (getD bytes (4 * index + 1) 0 + 256 * (getD bytes (4 * index + 2) 0 + 256 * getD bytes (4 * index + 3) 0))
+    256 * (getD bytes (4 * index + 1) 0 + 256 * (getD bytes (4 * index + 2) 0 + 256 * getD bytes (4 * index + 3) 0))
 unfolding entryAt numberOf
 entryAt-bytes bytes index h = rw (part-four bytes (4 * index) h) (omega arith)
 
@@ -44,7 +45,7 @@ entryAt-bytes bytes index h = rw (part-four bytes (4 * index) h) (omega arith)
 pub setEntry-bytes :
     (bytes : Bytes) (index value : ℕ) → 4 * index + 4 ≤ length bytes →
     set (set (set (set bytes (4 * index) (value % 256)) (4 * index + 1) (value / 256 % 256)) (4 * index + 2)
-      (value / 256 / 256 % 256)) (4 * index + 3) (value / 256 / 256 / 256 % 256) ≡
+    (value / 256 / 256 % 256)) (4 * index + 3) (value / 256 / 256 / 256 % 256) ≡
     setEntry index value bytes
 unfolding setEntry littleEndian over
 setEntry-bytes bytes index value h =
@@ -55,7 +56,7 @@ setEntry-bytes bytes index value h =
 pub entryAt-lt : (bytes : Bytes) (index : ℕ) → 4 * index + 4 ≤ length bytes → ((at : ℕ) → getD bytes at 0 < 256) → entryAt index bytes < 2 ^ 32
 entryAt-lt bytes index h b =
     rw (entryAt-bytes bytes index h)
-      (omega (arith, b (4 * index), b (4 * index + 1), b (4 * index + 2), b (4 * index + 3)))
+    (omega (arith, b (4 * index), b (4 * index + 1), b (4 * index + 2), b (4 * index + 3)))
 
 -- ---- zeros ----
 
@@ -88,6 +89,7 @@ module _ (index value : ℕ) (bytes : Bytes) (fits : 4 * index + 4 ≤ length by
     where
       below : other < index → part (4 * other) 4 (over (4 * index) (littleEndian 4 value) bytes) ≡ part (4 * other) 4 bytes
       below h = part-over-before (littleEndian 4 value) bytes (4 * index) four (4 * other) 4 (omega arith)
+
       above : index ≤ other → part (4 * other) 4 (over (4 * index) (littleEndian 4 value) bytes) ≡ part (4 * other) 4 bytes
       above h = part-over-after (littleEndian 4 value) bytes (4 * index) four (4 * other) 4 (omega (arith, length-littleEndian 4 value))
 

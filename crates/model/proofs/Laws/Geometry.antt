@@ -55,7 +55,9 @@ fits-of-isGeometry g e =
     let size = size-in (g .blockSize) blockSizes sizes (and-left h (leb 2 (g .height)) ea) in
     let most : blockCount g ≤ 2 ^ 31 - 1 = leb-true (blockCount g) (2 ^ 31 - 1) (and-right r last e) in
     record {
-      size-low = size .low; size-high = size .high; size-entries = size .entries;
+      size-low = size .low;
+      size-high = size .high;
+      size-entries = size .entries;
       height-low = leb-true 2 (g .height) (and-right h (leb 2 (g .height)) ea);
       height-high = leb-true (g .height) 4 (and-right a (leb (g .height) 4) eb);
       publics-low = leb-true 1 (g .publics) (and-right b (leb 1 (g .publics)) ec);
@@ -63,7 +65,8 @@ fits-of-isGeometry g e =
       publics-high = ltb-true (g .publics) (g .slots) (and-right d (ltb (g .publics) (g .slots)) ep);
       hidden-high = ltb-true (g .hidden) (g .slots) (and-right p (ltb (g .hidden) (g .slots)) eq);
       hidden-fits = leb-true (g .hidden) (treeCapacity g) (and-right q (leb (g .hidden) (treeCapacity g)) er);
-      blocks-high = omega arith }
+      blocks-high = omega arith;
+    }
 
 -- ---- entries of a block ----
 

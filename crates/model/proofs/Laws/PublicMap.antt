@@ -44,7 +44,7 @@ module _ (g : Geometry) (f : Fits g) where
       let p = div-add-mod' number (fanout g) in
       let q = ap (λ (n : ℕ). number / fanout g * n) (f .size-entries) in
       let e : mapAddress g number * g .blockSize + 4 * (number % fanout g) ≡ 4 * (fanout g + number) =
-        omega (arith, f .size-entries) in
+      omega (arith, f .size-entries) in
       entryAt-blockAt (g .blockSize) disk (mapAddress g number) (number % fanout g) (map-index-fits number)
       ∙ ap (λ (n : ℕ). numberOf (part n 4 disk)) e
 
@@ -58,7 +58,7 @@ module _ (g : Geometry) (f : Fits g) where
 -- ---- an entry set on the disk ----
 
 module _ (g : Geometry) (f : Fits g) (disk : Bytes) (whole : length disk ≡ blockCount g * g .blockSize) (number : ℕ)
-  (inside : number < g .publics) (value : ℕ) where
+    (inside : number < g .publics) (value : ℕ) where
   address-inside : mapAddress g number < blockCount g
   address-inside = omega (arith, mapAddress-lt g f number inside)
 
@@ -95,18 +95,19 @@ module _ (g : Geometry) (f : Fits g) (disk : Bytes) (whole : length disk ≡ blo
   mapEntry-mapped-other other ne = ⊎-elim same-block other-block (eq-cases (mapAddress g other) (mapAddress g number))
     where
       same-block : mapAddress g other ≡ mapAddress g number →
-        entryAt (other % fanout g) (blockAt (g .blockSize) mapped (mapAddress g other)) ≡
-        entryAt (other % fanout g) (blockAt (g .blockSize) disk (mapAddress g other))
+          entryAt (other % fanout g) (blockAt (g .blockSize) mapped (mapAddress g other)) ≡
+          entryAt (other % fanout g) (blockAt (g .blockSize) disk (mapAddress g other))
       same-block e =
           ap (λ (n : ℕ). entryAt (other % fanout g) (blockAt (g .blockSize) mapped n)) e
           ∙ ap (entryAt (other % fanout g)) block-mapped
           ∙ entryAt-setEntry-other (number % fanout g) value (blockAt (g .blockSize) disk (mapAddress g number)) index-inside
-              (other % fanout g) (map-index-apart g f number other ne e)
+          (other % fanout g) (map-index-apart g f number other ne e)
           ∙ ap (λ (n : ℕ). entryAt (other % fanout g) (blockAt (g .blockSize) disk n)) (sym e)
+
       other-block : mapAddress g other ≢ mapAddress g number →
-        entryAt (other % fanout g) (blockAt (g .blockSize) mapped (mapAddress g other)) ≡
-        entryAt (other % fanout g) (blockAt (g .blockSize) disk (mapAddress g other))
+          entryAt (other % fanout g) (blockAt (g .blockSize) mapped (mapAddress g other)) ≡
+          entryAt (other % fanout g) (blockAt (g .blockSize) disk (mapAddress g other))
       other-block e =
           ap (entryAt (other % fanout g))
-            (blockAt-setBlock-other (g .blockSize) disk (blockCount g) whole (mapAddress g number) address-inside
-              mapBlockWith length-mapBlockWith (mapAddress g other) e)
+          (blockAt-setBlock-other (g .blockSize) disk (blockCount g) whole (mapAddress g number) address-inside
+          mapBlockWith length-mapBlockWith (mapAddress g other) e)

@@ -36,8 +36,10 @@ sized-of-passed bytes g p =
     let a : isGeometry g ≡ true = not-false (isGeometry g) (or-false-right (ltb bytes 24) (not (isGeometry g)) (p .0)) in
     record {
       long = ltb-false bytes 24 (or-false-left (ltb bytes 24) (not (isGeometry g)) (p .0));
-      accepted = a; fits = fits-of-isGeometry g a;
-      whole = eqb-true bytes (driveSize g) (not-false (eqb bytes (driveSize g)) (p .1 .0)) }
+      accepted = a;
+      fits = fits-of-isGeometry g a;
+      whole = eqb-true bytes (driveSize g) (not-false (eqb bytes (driveSize g)) (p .1 .0));
+    }
 
 pub sized-of-refusal : (bytes : ℕ) (g : Geometry) → sizeRefusal bytes g ≡ 0 → Sized bytes g
 unfolding sizeRefusal
@@ -66,7 +68,8 @@ accepted-of-refusal disk e =
     let last = check (leb (geometryIn disk .slots) (headIn disk)) 3 ∷ [] in
     record {
       sized = sized-of-passed (length disk) (geometryIn disk) (passed-front front last p);
-      head-inside = leb-false (geometryIn disk .slots) (headIn disk) (passed-rest front last p .0) }
+      head-inside = leb-false (geometryIn disk .slots) (headIn disk) (passed-rest front last p .0);
+    }
 
 pub drive-of-refusal : (disk : Bytes) → driveRefusal disk ≡ 0 → Drive (geometryIn disk) disk
 drive-of-refusal disk e =
@@ -79,10 +82,13 @@ pub refusal-of-accepted :
     headIn disk < geometryIn disk .slots → driveRefusal disk ≡ 0
 unfolding driveRefusal driveChecks sizeChecks
 refusal-of-accepted disk long good whole head =
-    zero-of-passed (driveChecks disk)
-      (or-neither (le-ltb (length disk) 24 long) (ap not good),
-        (ap not (eq-eqb (length disk) (driveSize (geometryIn disk)) whole),
-          (lt-leb (geometryIn disk .slots) (headIn disk) head, tt)))
+    zero-of-passed (driveChecks disk) (
+      or-neither (le-ltb (length disk) 24 long) (ap not good),
+      (
+        ap not (eq-eqb (length disk) (driveSize (geometryIn disk)) whole),
+        (lt-leb (geometryIn disk .slots) (headIn disk) head, tt),
+      ),
+    )
 
 -- ---- a call's chain after the drive's ----
 

@@ -34,15 +34,15 @@ module _ (g : Geometry) (slot place : ℕ) (inside : place ≤ g .height) where
   unfolding isSlotBlock
   isSlotBlock-same h =
       and-both
-        (and-both (le-leb (areaStart g) (slotStart g slot + place) (omega arith))
-          (lt-ltb (slotStart g slot + place) (blockCount g) (slot-block-lt g slot place h inside)))
-        (eq-eqb ((slotStart g slot + place - areaStart g) % (g .height + 1)) place place-of-slot-block)
+      (and-both (le-leb (areaStart g) (slotStart g slot + place) (omega arith))
+      (lt-ltb (slotStart g slot + place) (blockCount g) (slot-block-lt g slot place h inside)))
+      (eq-eqb ((slotStart g slot + place - areaStart g) % (g .height + 1)) place place-of-slot-block)
 
   pub isSlotBlock-other : (other : ℕ) → other ≢ place → isSlotBlock g other (slotStart g slot + place) ≡ false
   unfolding isSlotBlock
   isSlotBlock-other other ne =
       and-false-right (leb (areaStart g) (slotStart g slot + place) && ltb (slotStart g slot + place) (blockCount g))
-        (ne-eqb ((slotStart g slot + place - areaStart g) % (g .height + 1)) other (λ e. ne (sym e ∙ place-of-slot-block)))
+      (ne-eqb ((slotStart g slot + place - areaStart g) % (g .height + 1)) other (λ e. ne (sym e ∙ place-of-slot-block)))
 
 pub slotOf-slotStart : (g : Geometry) (slot : ℕ) → slotOf g (slotStart g slot) ≡ slot
 slotOf-slotStart g slot =
@@ -68,29 +68,30 @@ slotBlock-of g place address e =
     let front = leb (areaStart g) address && ltb address (blockCount g) in
     let rest = eqb ((address - areaStart g) % (g .height + 1)) place in
     let low : areaStart g ≤ address =
-      leb-true (areaStart g) address (and-left (leb (areaStart g) address) (ltb address (blockCount g)) (and-left front rest e)) in
+    leb-true (areaStart g) address (and-left (leb (areaStart g) address) (ltb address (blockCount g)) (and-left front rest e)) in
     let high : address < blockCount g =
-      ltb-true address (blockCount g) (and-right (leb (areaStart g) address) (ltb address (blockCount g)) (and-left front rest e)) in
+    ltb-true address (blockCount g) (and-right (leb (areaStart g) address) (ltb address (blockCount g)) (and-left front rest e)) in
     let at : (address - areaStart g) % (g .height + 1) ≡ place =
-      eqb-true ((address - areaStart g) % (g .height + 1)) place (and-right front rest e) in
+    eqb-true ((address - areaStart g) % (g .height + 1)) place (and-right front rest e) in
     let positive : 0 < g .height + 1 = omega arith in
     let whole = div-add-mod' (address - areaStart g) (g .height + 1) in
     record {
       slot-inside = div-lt-iff-lt-mul positive .1 (omega arith);
       address-is = omega arith;
-      address-inside = high }
+      address-inside = high;
+    }
 
 pub isSlotBlock-below : (g : Geometry) (place : ℕ) (address : DiskAddress) → address < areaStart g → isSlotBlock g place address ≡ false
 unfolding isSlotBlock
 isSlotBlock-below g place address h =
     and-false-left (eqb ((address - areaStart g) % (g .height + 1)) place)
-      (and-false-left (ltb address (blockCount g)) (lt-leb (areaStart g) address h))
+    (and-false-left (ltb address (blockCount g)) (lt-leb (areaStart g) address h))
 
 pub isSlotBlock-past : (g : Geometry) (place : ℕ) (address : DiskAddress) → blockCount g ≤ address → isSlotBlock g place address ≡ false
 unfolding isSlotBlock
 isSlotBlock-past g place address h =
     and-false-left (eqb ((address - areaStart g) % (g .height + 1)) place)
-      (and-false-right (leb (areaStart g) address) (le-ltb address (blockCount g) h))
+    (and-false-right (leb (areaStart g) address) (le-ltb address (blockCount g) h))
 
 -- within the data area the place decides
 pub isSlotBlock-inside :

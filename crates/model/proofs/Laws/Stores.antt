@@ -89,7 +89,7 @@ module _ (width count : ℕ) where
   length-apply [] disk whole h = refl
   length-apply (x ∷ xs) disk whole h =
       let l : length (setBlock width disk (x .address) (x .content)) ≡ length disk =
-        length-setBlock width disk count whole (x .address) (h .0 .0) (x .content) (h .0 .1) in
+      length-setBlock width disk count whole (x .address) (h .0 .0) (x .content) (h .0 .1) in
       length-apply xs (setBlock width disk (x .address) (x .content)) (l ∙ whole) (h .1) ∙ l
 
   pub blockAt-apply :
@@ -99,21 +99,21 @@ module _ (width count : ℕ) where
   blockAt-apply [] disk address whole h = sym (lastAt-nil address (blockAt width disk address))
   blockAt-apply (x ∷ xs) disk address whole h =
       let l : length (setBlock width disk (x .address) (x .content)) ≡ length disk =
-        length-setBlock width disk count whole (x .address) (h .0 .0) (x .content) (h .0 .1) in
+      length-setBlock width disk count whole (x .address) (h .0 .0) (x .content) (h .0 .1) in
       blockAt-apply xs (setBlock width disk (x .address) (x .content)) address (l ∙ whole) (h .1)
       ∙ one (eq-cases address (x .address))
     where
       one : (address ≡ x .address) ⊎ (address ≢ x .address) →
-        lastAt xs address (blockAt width (setBlock width disk (x .address) (x .content)) address) ≡
-        lastAt (x ∷ xs) address (blockAt width disk address)
+          lastAt xs address (blockAt width (setBlock width disk (x .address) (x .content)) address) ≡
+          lastAt (x ∷ xs) address (blockAt width disk address)
       one (inl e) =
           ap (lastAt xs address)
-            (ap (blockAt width (setBlock width disk (x .address) (x .content))) e
-            ∙ blockAt-setBlock-same width disk count whole (x .address) (h .0 .0) (x .content) (h .0 .1))
+          (ap (blockAt width (setBlock width disk (x .address) (x .content))) e
+          ∙ blockAt-setBlock-same width disk count whole (x .address) (h .0 .0) (x .content) (h .0 .1))
           ∙ sym (lastAt-same x xs address (blockAt width disk address) e)
       one (inr e) =
           ap (lastAt xs address)
-            (blockAt-setBlock-other width disk count whole (x .address) (h .0 .0) (x .content) (h .0 .1) address e)
+          (blockAt-setBlock-other width disk count whole (x .address) (h .0 .0) (x .content) (h .0 .1) address e)
           ∙ sym (lastAt-other x xs address (blockAt width disk address) e)
 
   pub blockAt-apply-outside :

@@ -21,9 +21,26 @@ pub figures : Figures
 unfolding firstOf part over numberOf littleEndian bitOf withBit bitAt setBit isGeometry blockAt setBlock entryAt setEntry packed isSlotBlock isAllocated bitmapWith mapEntry isPlace branchAt walkFrom apply addresses table rowAt ownerOf isLive isOwnerDamaged isNextDamaged linkedNode nodeStores pathStores keptBlocks randomBlocks hiddenBy hiddenHalf publicStore bitStores mapStores roundTrace runFrom sizeChecks sizeRefusal driveChecks placeChecks roundsTo roundChecks hiddenChecks walkChecks driveRefusal publicReadRefusal writeRefusal hiddenReadRefusal hiddenWriteRefusal headerBlock freshFront formatted publicRead outcomeOf offerRefusal offeredWrites writeRun written
 figures =
     record {
-      area-start = refl; block-count = refl; drive-size = refl; hidden-fifty-six = refl;
-      hidden-fifty-seven = refl; publics-three = refl; publics-four = refl; size-thirty-two = refl;
-      size-sixteen = refl; first-answer = refl; first-stores = refl; offer-answer = refl;
-      offer-stores = refl; offer-outcome = refl; fifth-answer = refl; fifth-rounds = refl;
-      fifth-count = refl; fifth-stores = refl; random-short = refl; list-short = refl;
-      blank-answer = refl; blank-shown = refl }
+      area-start = refl;
+      block-count = refl;
+      drive-size = refl;
+      hidden-fifty-six = refl;
+      hidden-fifty-seven = refl;
+      publics-three = refl;
+      publics-four = refl;
+      size-thirty-two = refl;
+      size-sixteen = refl;
+      first-answer = refl;
+      first-stores = refl;
+      offer-answer = refl;
+      offer-stores = refl;
+      offer-outcome = refl;
+      fifth-answer = refl;
+      fifth-rounds = refl;
+      fifth-count = refl;
+      fifth-stores = refl;
+      random-short = refl;
+      list-short = refl;
+      blank-answer = refl;
+      blank-shown = refl;
+    }

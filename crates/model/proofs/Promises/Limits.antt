@@ -22,11 +22,39 @@ pub limits : Limits
 unfolding isSame firstOf part over numberOf littleEndian bitOf withBit bitAt setBit isGeometry blockAt setBlock entryAt setEntry packed isSlotBlock isAllocated bitmapWith mapEntry isPlace branchAt walkFrom apply addresses table rowAt ownerOf isLive isOwnerDamaged isNextDamaged linkedNode nodeStores pathStores keptBlocks randomBlocks hiddenBy hiddenHalf publicStore bitStores mapStores roundTrace runFrom sizeChecks sizeRefusal driveChecks placeChecks roundsTo roundChecks hiddenChecks walkChecks driveRefusal publicReadRefusal writeRefusal hiddenReadRefusal hiddenWriteRefusal headerBlock freshFront formatted publicRead outcomeOf offerRefusal offeredWrites writeRun written
 limits =
     record {
-      hidden-is-slots = refl; hidden-below-slots = refl; most-blocks = refl; most-blocks-fit = refl;
-      too-many-blocks = refl; too-many-blocks-refused = refl; size-largest = refl; size-too-large = refl;
-      size-no-power = refl; height-one = refl; height-four = refl; height-five = refl; no-public = refl;
-      no-hidden = refl; bytes-23 = refl; bytes-24 = refl; format-23 = refl; format-24 = refl;
-      refusal-two = refl; refusal-three = refl; head-three = refl; refusal-four = refl;
-      refusal-five = refl; refusal-six = refl; refusal-six-free = refl; refusal-seven = refl;
-      refusal-eight = refl; random-64 = refl; refusal-nine = refl; list-7 = refl; refusal-ten = refl;
-      refusal-eleven = refl; refusal-twelve = refl; format-leaves = same-of-isSame _ _ refl; three-lines = same-of-isSame threeLines listedDrive refl }
+      hidden-is-slots = refl;
+      hidden-below-slots = refl;
+      most-blocks = refl;
+      most-blocks-fit = refl;
+      too-many-blocks = refl;
+      too-many-blocks-refused = refl;
+      size-largest = refl;
+      size-too-large = refl;
+      size-no-power = refl;
+      height-one = refl;
+      height-four = refl;
+      height-five = refl;
+      no-public = refl;
+      no-hidden = refl;
+      bytes-23 = refl;
+      bytes-24 = refl;
+      format-23 = refl;
+      format-24 = refl;
+      refusal-two = refl;
+      refusal-three = refl;
+      head-three = refl;
+      refusal-four = refl;
+      refusal-five = refl;
+      refusal-six = refl;
+      refusal-six-free = refl;
+      refusal-seven = refl;
+      refusal-eight = refl;
+      random-64 = refl;
+      refusal-nine = refl;
+      list-7 = refl;
+      refusal-ten = refl;
+      refusal-eleven = refl;
+      refusal-twelve = refl;
+      format-leaves = same-of-isSame _ _ refl;
+      three-lines = same-of-isSame threeLines listedDrive refl;
+    }

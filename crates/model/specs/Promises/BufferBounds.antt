@@ -16,19 +16,19 @@ use Rattle.model.specs.Invariants.{BitmapInvariant}
 -- no write on this disk takes more rounds; buffers for so many rounds never get 8 or 9
 pub record AtMost (most : ℕ) (g : Geometry) (disk : Bytes) : Type 0 where
   pub rounds :
-    (number : ℕ) (content random : Bytes) (room : ℕ) (offer : Option HiddenWrite) →
-    written disk number content random room offer .rounds ≤ most
+      (number : ℕ) (content random : Bytes) (room : ℕ) (offer : Option HiddenWrite) →
+      written disk number content random room offer .rounds ≤ most
   pub never-eight :
-    (number : ℕ) (content random : Bytes) (room : ℕ) (offer : Option HiddenWrite) →
-    most * g .height * g .blockSize ≤ length random → written disk number content random room offer .answer ≢ 8
+      (number : ℕ) (content random : Bytes) (room : ℕ) (offer : Option HiddenWrite) →
+      most * g .height * g .blockSize ≤ length random → written disk number content random room offer .answer ≢ 8
   pub never-nine :
-    (number : ℕ) (content random : Bytes) (room : ℕ) (offer : Option HiddenWrite) →
-    most * (g .height + 3) + 3 ≤ room → written disk number content random room offer .answer ≢ 9
+      (number : ℕ) (content random : Bytes) (room : ℕ) (offer : Option HiddenWrite) →
+      most * (g .height + 3) + 3 ≤ room → written disk number content random room offer .answer ≢ 9
 
 pub record BufferBounds : Type 0 where
   -- where each set bit is that of a public number's place, whatever the head: P + 1 rounds
   pub mapped-bits :
-    (g : Geometry) (disk : Bytes) → geometryIn disk ≡ g → driveRefusal disk ≡ 0 → BitmapInvariant g disk →
-    AtMost (g .publics + 1) g disk
+      (g : Geometry) (disk : Bytes) → geometryIn disk ≡ g → driveRefusal disk ≡ 0 → BitmapInvariant g disk →
+      AtMost (g .publics + 1) g disk
   -- on any drive: M rounds
   pub any-drive : (disk : Bytes) → AtMost (geometryIn disk .slots) (geometryIn disk) disk

@@ -75,8 +75,8 @@ pub record Figures : Type 0 where
   pub fifth-rounds : writeOf fourWritten 2 192 18 none .rounds ≡ 3
   pub fifth-count : length (writeOf fourWritten 2 192 18 none .trace) ≡ 18
   pub fifth-stores :
-    addresses (writeOf fourWritten 2 192 18 none .trace) ≡
-    (4 ∷ 5 ∷ 6 ∷ 3 ∷ 0 ∷ 7 ∷ 8 ∷ 9 ∷ 3 ∷ 0 ∷ []) ++ (10 ∷ 11 ∷ 12 ∷ 3 ∷ 1 ∷ 2 ∷ 2 ∷ 0 ∷ [])
+      addresses (writeOf fourWritten 2 192 18 none .trace) ≡
+      (4 ∷ 5 ∷ 6 ∷ 3 ∷ 0 ∷ 7 ∷ 8 ∷ 9 ∷ 3 ∷ 0 ∷ []) ++ (10 ∷ 11 ∷ 12 ∷ 3 ∷ 1 ∷ 2 ∷ 2 ∷ 0 ∷ [])
   pub random-short : writeOf fourWritten 2 191 18 none .answer ≡ 8
   pub list-short : writeOf fourWritten 2 192 17 none .answer ≡ 9
   -- fresh, read 1: the blank

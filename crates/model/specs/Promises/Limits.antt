@@ -121,7 +121,7 @@ pub record Limits : Type 0 where
   pub refusal-twelve : hiddenReadRefusal (withFirstEntry 3 6) 0 (filled 0) ≡ 12
   -- formatting leaves the data area
   pub format-leaves :
-    formatted (replicate 512 170) small ≡
-    small4 32 ++ small4 2 ++ small4 3 ++ small4 2 ++ small4 4 ++ replicate 108 0 ++ replicate 384 170
+      formatted (replicate 512 170) small ≡
+      small4 32 ++ small4 2 ++ small4 3 ++ small4 2 ++ small4 4 ++ replicate 108 0 ++ replicate 384 170
   -- the drive after the three lines of the listing
   pub three-lines : threeLines ≡ listedDrive

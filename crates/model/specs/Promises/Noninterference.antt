@@ -10,7 +10,7 @@ use Rattle.model.specs.Simulator.{simulatorOf, lengthsOfAll, told, repor
 pub record Simulated (disk : Bytes) (calls : List Call) : Type 0 where
   -- answers, rounds and stores are the simulator's, fed the starting view and lengths alone
   pub by-simulator :
-    reportsOf (seenOfAll disk calls) ≡ told (simulatorOf (viewOf disk)) (lengthsOfAll (publicParts calls))
+      reportsOf (seenOfAll disk calls) ≡ told (simulatorOf (viewOf disk)) (lengthsOfAll (publicParts calls))
   -- all of it is what the same list gives with every offer and hidden read taken out
   pub without-offers : seenOfAll disk calls ≡ seenOfAll disk (bareCalls calls)
 

@@ -67,11 +67,11 @@ pub record Sound (g : Geometry) (disk : Bytes) : Type 0 where
 -- on it every good number is read, and no walk is damaged
 pub record Readable (g : Geometry) (disk : Bytes) : Type 0 where
   pub public-answer :
-    (number : ℕ) (blank : Bytes) → number < g .publics → length blank ≡ g .blockSize →
-    publicReadRefusal disk number blank ≡ 0
+      (number : ℕ) (blank : Bytes) → number < g .publics → length blank ≡ g .blockSize →
+      publicReadRefusal disk number blank ≡ 0
   pub hidden-answer :
-    (number : ℕ) (blank : Bytes) → number < g .hidden → length blank ≡ g .blockSize →
-    hiddenReadRefusal disk number blank ≡ 0
+      (number : ℕ) (blank : Bytes) → number < g .hidden → length blank ≡ g .blockSize →
+      hiddenReadRefusal disk number blank ≡ 0
   pub no-damage : (number : ℕ) → number < treeCapacity g → walk g disk number .end ≢ damaged
 
 -- reads after a list of calls: the block last placed, else what the drive showed before
@@ -79,33 +79,33 @@ pub record ReadsBack (g : Geometry) (disk : Bytes) (calls : List Call) : Type 0 
   pub sound : Sound g (diskAfterAll disk calls)
   pub readable : Readable g (diskAfterAll disk calls)
   pub public-shown :
-    (number : ℕ) (blank : Bytes) → number < g .publics → length blank ≡ g .blockSize →
-    publicRead (diskAfterAll disk calls) number blank ≡
-    orElse (lastPublic number none disk calls) (publicRead disk number blank)
+      (number : ℕ) (blank : Bytes) → number < g .publics → length blank ≡ g .blockSize →
+      publicRead (diskAfterAll disk calls) number blank ≡
+      orElse (lastPublic number none disk calls) (publicRead disk number blank)
   pub hidden-shown :
-    (number : ℕ) (blank : Bytes) → number < g .hidden → length blank ≡ g .blockSize →
-    hiddenRead (diskAfterAll disk calls) number blank ≡
-    orElse (lastHidden number none disk calls) (hiddenRead disk number blank)
+      (number : ℕ) (blank : Bytes) → number < g .hidden → length blank ≡ g .blockSize →
+      hiddenRead (diskAfterAll disk calls) number blank ≡
+      orElse (lastHidden number none disk calls) (hiddenRead disk number blank)
 
 pub record ReadAfterWrite : Type 0 where
   -- each invariant is kept by every call, from any drive that has it
   pub public-kept :
-    (g : Geometry) (disk : Bytes) (call : Call) → geometryIn disk ≡ g → driveRefusal disk ≡ 0 →
-    PublicInvariant g disk → PublicInvariant g (diskAfter disk call)
+      (g : Geometry) (disk : Bytes) (call : Call) → geometryIn disk ≡ g → driveRefusal disk ≡ 0 →
+      PublicInvariant g disk → PublicInvariant g (diskAfter disk call)
   pub bitmap-kept :
-    (g : Geometry) (disk : Bytes) (call : Call) → geometryIn disk ≡ g → driveRefusal disk ≡ 0 →
-    PublicInvariant g disk → BitmapInvariant g disk → BitmapInvariant g (diskAfter disk call)
+      (g : Geometry) (disk : Bytes) (call : Call) → geometryIn disk ≡ g → driveRefusal disk ≡ 0 →
+      PublicInvariant g disk → BitmapInvariant g disk → BitmapInvariant g (diskAfter disk call)
   pub hidden-kept :
-    (g : Geometry) (disk : Bytes) (call : Call) → geometryIn disk ≡ g → driveRefusal disk ≡ 0 →
-    HiddenInvariant g disk → HiddenInvariant g (diskAfter disk call)
+      (g : Geometry) (disk : Bytes) (call : Call) → geometryIn disk ≡ g → driveRefusal disk ≡ 0 →
+      HiddenInvariant g disk → HiddenInvariant g (diskAfter disk call)
   -- a formatted drive is sound, and shows the blank everywhere
   pub fresh-sound :
-    (disk : Bytes) (g : Geometry) → formatRefusal disk g ≡ 0 → Sound g (formatted disk g)
+      (disk : Bytes) (g : Geometry) → formatRefusal disk g ≡ 0 → Sound g (formatted disk g)
   pub fresh-public :
-    (disk : Bytes) (g : Geometry) (number : ℕ) (blank : Bytes) → formatRefusal disk g ≡ 0 → number < g .publics →
-    length blank ≡ g .blockSize → publicRead (formatted disk g) number blank ≡ blank
+      (disk : Bytes) (g : Geometry) (number : ℕ) (blank : Bytes) → formatRefusal disk g ≡ 0 → number < g .publics →
+      length blank ≡ g .blockSize → publicRead (formatted disk g) number blank ≡ blank
   pub fresh-hidden :
-    (disk : Bytes) (g : Geometry) (number : ℕ) (blank : Bytes) → formatRefusal disk g ≡ 0 → number < g .hidden →
-    length blank ≡ g .blockSize → hiddenRead (formatted disk g) number blank ≡ blank
+      (disk : Bytes) (g : Geometry) (number : ℕ) (blank : Bytes) → formatRefusal disk g ≡ 0 → number < g .hidden →
+      length blank ≡ g .blockSize → hiddenRead (formatted disk g) number blank ≡ blank
   -- from any sound drive on, a fresh one among them
   pub reads-back : (g : Geometry) (disk : Bytes) (calls : List Call) → Sound g disk → ReadsBack g disk calls

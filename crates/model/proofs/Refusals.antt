@@ -1,0 +1,3 @@
+-- Why each refusal's chain of checks answers its conditions, and what a chain cannot answer.
+pub mod Answers
+

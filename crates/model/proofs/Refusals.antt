@@ -1,3 +1,5 @@
 -- Why each refusal's chain of checks answers its conditions, and what a chain cannot answer.
 pub mod Answers
-
+pub mod Drive
+pub mod Places
+pub mod Hidden

@@ -2,4 +2,6 @@
 pub mod Answers
 pub mod Drive
 pub mod Places
+pub mod Circle
 pub mod Hidden
+pub mod Rounds

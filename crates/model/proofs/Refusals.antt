@@ -3,5 +3,8 @@ pub mod Answers
 pub mod Drive
 pub mod Places
 pub mod Circle
-pub mod Hidden
 pub mod Rounds
+pub mod Hidden
+pub mod Calls
+pub mod Pigeonhole
+pub mod Mapped

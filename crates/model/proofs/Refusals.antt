@@ -8,3 +8,4 @@ pub mod Hidden
 pub mod Calls
 pub mod Pigeonhole
 pub mod Mapped
+pub mod Bounds

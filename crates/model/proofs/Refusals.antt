@@ -6,6 +6,7 @@ pub mod Circle
 pub mod Rounds
 pub mod Hidden
 pub mod Calls
+pub mod Allowed
 pub mod Pigeonhole
 pub mod Mapped
 pub mod Bounds

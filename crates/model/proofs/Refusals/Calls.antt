@@ -16,7 +16,7 @@ use Rattle.model.specs.Geometry.{Geometry}
 use Rattle.model.specs.Blocks.{Bytes}
 use Rattle.model.specs.Layout.{geometryIn, headIn}
 use Rattle.model.specs.HiddenHalf.{HiddenWrite}
-use Rattle.model.specs.Rounds.{runFrom}
+use Rattle.model.specs.Rounds.{Run, runFrom}
 use Rattle.model.specs.Conditions.{Answers, sizeConditions, driveConditions, placeConditions, roundConditions, hiddenConditions, walkConditions}
 use Rattle.model.specs.Refusals.{sizeChecks, sizeRefusal, driveChecks, driveRefusal, placeChecks, roundChecks, hiddenChecks, walkChecks, formatRefusal, publicReadRefusal, writeRefusal, hiddenReadRefusal, hiddenWriteRefusal}
 use Rattle.model.specs.Calls.{formatted, publicRead, hiddenRead, offerRefusal, offeredWrites, startState, writeRun, Written, refusedWrite, doneWrite, written}
@@ -134,3 +134,20 @@ unfolding writeRun offeredWrites
 writeRun-bad g disk number content random offer f =
     ap (λ (writes : List HiddenWrite). runFrom (g .slots) g number content (headIn disk) random disk (startState writes))
     (offeredWrites-bad g offer f)
+
+-- a bad offer's stores are those of a write with none
+pub trace-written-bad :
+    (disk : Bytes) (number : ℕ) (content random : Bytes) (room : ℕ) (offer : Option HiddenWrite) →
+    offerRefusal (geometryIn disk) offer ≢ 0 →
+    written disk number content random room offer .trace ≡ written disk number content random room none .trace
+trace-written-bad disk number content random room offer f = by (eq-cases (writeRefusal disk number content (length random) room) 0)
+  where
+    by : (writeRefusal disk number content (length random) room ≡ 0) ⊎ (writeRefusal disk number content (length random) room ≢ 0) →
+        written disk number content random room offer .trace ≡ written disk number content random room none .trace
+    by (inl e) =
+        ap (λ (w : Written). w .trace) (written-done disk number content random room offer e)
+        ∙ ap (λ (run : Run). run .trace) (writeRun-bad (geometryIn disk) disk number content random offer f)
+        ∙ ap (λ (w : Written). w .trace) (sym (written-done disk number content random room none e))
+    by (inr p) =
+        ap (λ (w : Written). w .trace) (written-refused disk number content random room offer p)
+        ∙ ap (λ (w : Written). w .trace) (sym (written-refused disk number content random room none p))

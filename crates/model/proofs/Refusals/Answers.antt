@@ -1,17 +1,19 @@
--- The general laws of answers: tests that decide a condition, how they are joined, and that a chain of checks answers a
--- list of conditions where each check decides its condition on whatever has passed those before it. Assumes nothing.
-use mathlib.Core.Path.{_≡_, refl, sym, _∙_}
+-- The general laws of answers: tests that decide a condition, how they are joined, and that a chain of checks
+-- answers a list of conditions where each check decides its condition on whatever has passed those before it.
+-- Assumes nothing.
+use mathlib.Core.Path.{_≡_, sym, _∙_}
 use mathlib.Core.Logic.{_≢_, _⊎_, inl, inr, ⊎-elim}
-use mathlib.Core.Bool.{Bool, true, false, cond, not, _&&_, _||_}
+use mathlib.Core.Bool.{Bool, true, false, not, _&&_, _||_}
 use mathlib.Core.List.{List, [], _∷_, _++_}
 use Prim.Native.Nat.{ℕ, _≤_, _<_}
 use native.Mathlib.Nat.{not-le-of-lt}
 use lib.Dec.{ltb, leb, eqb}
 use borrow.Author.Tests.{ltb-true, ltb-false, leb-true, leb-false, eqb-true, eqb-false, not-true, not-false}
-use Rattle.laws.specs.Checks.{Check, check, firstOf}
-use Rattle.laws.proofs.Cases.{bool-cases, or-cases, or-false-left, or-false-right, and-left, and-right, true-is-not-false}
+use Rattle.laws.specs.Checks.{Check, firstOf}
+use Rattle.laws.proofs.Cases.{bool-cases, or-cases, or-false-left, or-false-right, and-left, and-right}
+use Rattle.laws.proofs.Cases.{true-is-not-false}
 use Rattle.laws.proofs.Checks.{Passed, firstOf-nil, firstOf-stop, firstOf-pass}
-use Rattle.model.specs.Conditions.{Condition, condition, Answers}
+use Rattle.model.specs.Conditions.{Condition, Answers}
 
 -- ---- a test that decides ----
 
@@ -31,7 +33,7 @@ decides-eq n m = record { holds = eqb-true n m; fails = eqb-false n m }
 
 module _ {a : Bool} {A : Type 0} (d : Decides a A) where
   -- the test of what holds
-  pub test-of : A → a ≡ true
+  test-of : A → a ≡ true
   test-of h = ⊎-elim (λ e. e) (λ e. absurd (d .fails e h)) (bool-cases a)
 
   pub decides-not : Decides (not a) (A → ⊥)
@@ -96,7 +98,8 @@ abbrev pub Never : (number : ℕ) → List Check → Type 0
 Never number [] = Unit {0}
 Never number (c ∷ cs) = (c .number ≡ number → c .holds ≡ false) × Never number cs
 
-pub never-append : (number : ℕ) (cs es : List Check) → Never number cs → Never number es → Never number (cs ++ es)
+pub never-append :
+    (number : ℕ) (cs es : List Check) → Never number cs → Never number es → Never number (cs ++ es)
 never-append number [] es h k = k
 never-append number (c ∷ cs) es h k = (h .0, never-append number cs es (h .1) k)
 

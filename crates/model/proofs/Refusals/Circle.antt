@@ -1,6 +1,6 @@
--- The slots in a circle, counted from one on: the slot so many on, how many on a slot is, and what `roundsTo` finds there:
--- 0 where all are taken, else the first free one. Assumes nothing.
-use mathlib.Core.Path.{_≡_, refl, sym, ap, _∙_}
+-- The slots in a circle, counted from one on: the slot so many on, how many on a slot is, and what `roundsTo`
+-- finds there: 0 where all are taken, else the first free one. Assumes nothing.
+use mathlib.Core.Path.{_≡_, sym, ap, _∙_}
 use mathlib.Core.Logic.{_⊎_, inl, inr}
 use mathlib.Core.Bool.{Bool, true, false, cond}
 use Prim.Native.Nat.{ℕ, zero, suc, _+_, _-_, _%_, _≤_, _<_}
@@ -21,7 +21,8 @@ slotAfter g slot index = (slot + index) % g .slots
 abbrev pub indexFrom : Geometry → (slot other : ℕ) → ℕ
 indexFrom g slot other = (other + (g .slots - slot)) % g .slots
 
-pub slotAfter-next : (g : Geometry) (slot index : ℕ) → slotAfter g (nextSlot g slot) index ≡ slotAfter g slot (suc index)
+pub slotAfter-next :
+    (g : Geometry) (slot index : ℕ) → slotAfter g (nextSlot g slot) index ≡ slotAfter g slot (suc index)
 slotAfter-next g slot index =
     let e : slot + 1 + index ≡ slot + suc index = omega arith in
     mod-add-mod (slot + 1) (g .slots) index ∙ ap (λ (n : ℕ). n % g .slots) e
@@ -49,7 +50,8 @@ module _ (g : Geometry) (slot : ℕ) (inside : slot < g .slots) where
 
 -- of so many slots from one on: all are taken, or the last of the rounds is at the first free one
 pub data RoundsTo (most : ℕ) (isTaken : ℕ → Bool) (g : Geometry) (slot : ℕ) : (rounds : ℕ) → Type 0 where
-  noneFree : ((index : ℕ) → index < most → isTaken (slotAfter g slot index) ≡ true) → RoundsTo most isTaken g slot 0
+  noneFree : ((index : ℕ) → index < most → isTaken (slotAfter g slot index) ≡ true) →
+      RoundsTo most isTaken g slot 0
   firstFree : {index : ℕ} → index < most → isTaken (slotAfter g slot index) ≡ false →
       ((before : ℕ) → before < index → isTaken (slotAfter g slot before) ≡ true) →
       RoundsTo most isTaken g slot (suc index)
@@ -61,26 +63,32 @@ module _ (isTaken : ℕ → Bool) (g : Geometry) where
       ((index : ℕ) → index < count → isTaken (slotAfter g (nextSlot g slot) index) ≡ true) →
       (index : ℕ) → index < suc count → isTaken (slotAfter g slot index) ≡ true
   taken-before slot count h e f zero l = ap isTaken (slotAfter-zero g slot h) ∙ e
-  taken-before slot count h e f (suc index) l = ap isTaken (sym (slotAfter-next g slot index)) ∙ f index (omega arith)
+  taken-before slot count h e f (suc index) l =
+      ap isTaken (sym (slotAfter-next g slot index)) ∙ f index (omega arith)
 
   one-more :
       (most slot : ℕ) {rounds : ℕ} → slot < g .slots → isTaken slot ≡ true →
       RoundsTo most isTaken g (nextSlot g slot) rounds → RoundsTo (suc most) isTaken g slot (oneMore rounds)
   one-more most slot h e (noneFree f) = noneFree (taken-before slot most h e f)
   one-more most slot h e (firstFree {index = index} l q f) =
-      firstFree {index = suc index} (omega arith) (ap isTaken (sym (slotAfter-next g slot index)) ∙ q) (taken-before slot index h e f)
+      firstFree {index = suc index} (omega arith) (ap isTaken (sym (slotAfter-next g slot index)) ∙ q)
+      (taken-before slot index h e f)
 
-  pub roundsTo-is : (most slot : ℕ) → slot < g .slots → RoundsTo most isTaken g slot (roundsTo most isTaken g slot)
+  pub roundsTo-is :
+      (most slot : ℕ) → slot < g .slots → RoundsTo most isTaken g slot (roundsTo most isTaken g slot)
   unfolding roundsTo
   roundsTo-is zero slot h = noneFree (λ index l. absurd (omega arith))
-  roundsTo-is (suc most) slot h = by (bool-cases (isTaken slot)) (roundsTo-is most (nextSlot g slot) (mod-lt (slot + 1) (omega arith)))
+  roundsTo-is (suc most) slot h =
+      by (bool-cases (isTaken slot)) (roundsTo-is most (nextSlot g slot) (mod-lt (slot + 1) (omega arith)))
     where
       by : (isTaken slot ≡ true) ⊎ (isTaken slot ≡ false) →
           RoundsTo most isTaken g (nextSlot g slot) (roundsTo most isTaken g (nextSlot g slot)) →
-          RoundsTo (suc most) isTaken g slot (cond (isTaken slot) (oneMore (roundsTo most isTaken g (nextSlot g slot))) 1)
+          RoundsTo (suc most) isTaken g slot
+          (cond (isTaken slot) (oneMore (roundsTo most isTaken g (nextSlot g slot))) 1)
       by (inl e) later = rw e (one-more most slot h e later)
       by (inr e) later =
-          rw e (firstFree {index = 0} (omega arith) (ap isTaken (slotAfter-zero g slot h) ∙ e) (λ index l. absurd (omega arith)))
+          rw e (firstFree {index = 0} (omega arith) (ap isTaken (slotAfter-zero g slot h) ∙ e)
+          (λ index l. absurd (omega arith)))
 
   oneMore-le : (rounds most : ℕ) → rounds ≤ most → oneMore rounds ≤ suc most
   oneMore-le zero most h = omega arith
@@ -91,4 +99,5 @@ module _ (isTaken : ℕ → Bool) (g : Geometry) where
   roundsTo-le zero slot = omega arith
   roundsTo-le (suc most) slot =
       cond-cases (λ (n : ℕ). n ≤ suc most) (isTaken slot)
-      (λ e. oneMore-le (roundsTo most isTaken g (nextSlot g slot)) most (roundsTo-le most (nextSlot g slot))) (λ e. omega arith)
+      (λ e. oneMore-le (roundsTo most isTaken g (nextSlot g slot)) most (roundsTo-le most (nextSlot g slot)))
+      (λ e. omega arith)

@@ -1,8 +1,7 @@
 -- Refusals 10 to 12: the chains of a hidden number and of its walk answer their conditions. Assumes nothing.
 use mathlib.Core.Path.{_≡_, refl}
-use mathlib.Core.Bool.{Bool, true, false}
+use mathlib.Core.Bool.{true}
 use Prim.Native.Nat.{ℕ}
-use native.Mathlib.Omega.{arith}
 use Rattle.laws.proofs.Cases.{true-is-not-false}
 use Rattle.model.specs.Geometry.{Geometry}
 use Rattle.model.specs.Blocks.{Bytes}
@@ -26,6 +25,7 @@ decides-damaged end = record { holds = holds end; fails = λ e p. true-is-not-fa
     holds damaged e = refl
 
 pub judges-walk :
-    (g : Geometry) (disk : Bytes) (number : ℕ) → Judges (walkChecks g disk number) (walkConditions g disk number)
+    (g : Geometry) (disk : Bytes) (number : ℕ) →
+    Judges (walkChecks g disk number) (walkConditions g disk number)
 unfolding walkChecks
 judges-walk g disk number = (refl, decides-damaged (walk g disk number .end), λ e. tt)

@@ -1,7 +1,8 @@
--- The pigeonhole: the values of a function at so many numbers do not reach more numbers than that. Assumes nothing.
-use mathlib.Core.Path.{_≡_, refl, sym, ap, _∙_}
+-- The pigeonhole: the values of a function at so many numbers do not reach more numbers than that.
+-- Assumes nothing.
+use mathlib.Core.Path.{_≡_, sym, ap, _∙_}
 use mathlib.Core.Logic.{_≢_, _⊎_, inl, inr, ⊎-elim}
-use mathlib.Core.Bool.{Bool, cond}
+use mathlib.Core.Bool.{cond}
 use Prim.Native.Nat.{ℕ, zero, suc, _≤_, _<_}
 use native.Mathlib.Omega.{arith}
 use lib.Dec.{eqb}
@@ -18,7 +19,7 @@ pub record Reached (f : ℕ → ℕ) (bound value : ℕ) : Type 0 where
 abbrev swapped : (f : ℕ → ℕ) → (from to : ℕ) → ℕ → ℕ
 swapped f from to n = cond (eqb (f n) from) to (f n)
 
--- without the last number the values below the last one are still reached, the last number's in the place of the last one
+-- without the last number all but the last value are still reached: its value takes the last one's place
 reached-below :
     (f : ℕ → ℕ) (bound count : ℕ) → ((value : ℕ) → value < suc count → Reached f (suc bound) value) →
     (value : ℕ) → value < count → Reached (swapped f count (f bound)) bound value
@@ -26,25 +27,31 @@ reached-below f bound count h value l = by (h value (omega arith)) (h count (ome
   where
     kept : (n : ℕ) → n < bound → f n ≡ value → Reached (swapped f count (f bound)) bound value
     kept n k e =
-        record { at = n; below = k; value-is = cond-false (f bound) (f n) (ne-eqb (f n) count (omega arith)) ∙ e }
+        let other : f n ≢ count = omega arith in
+        record { at = n; below = k; value-is = cond-false (f bound) (f n) (ne-eqb (f n) count other) ∙ e }
 
-    moved : (n : ℕ) → n < bound → f n ≡ count → f bound ≡ value → Reached (swapped f count (f bound)) bound value
+    moved : (n : ℕ) → n < bound → f n ≡ count → f bound ≡ value →
+        Reached (swapped f count (f bound)) bound value
     moved n k e p =
         record { at = n; below = k; value-is = cond-true (f bound) (f n) (eq-eqb (f n) count e) ∙ p }
 
-    by : Reached f (suc bound) value → Reached f (suc bound) count → Reached (swapped f count (f bound)) bound value
-    by r last =
-        ⊎-elim
-        (λ e.
-          let p : f bound ≡ value = ap f (sym e) ∙ r .value-is in
-          ⊎-elim (λ z. absurd (let q : f bound ≡ count = ap f (sym z) ∙ last .value-is in omega arith))
-          (λ ne. moved (last .at) (omega arith) (last .value-is) p) (eq-cases (last .at) bound))
+    by : Reached f (suc bound) value → Reached f (suc bound) count →
+        Reached (swapped f count (f bound)) bound value
+    by r last = ⊎-elim (at-last (eq-cases (last .at) bound))
         (λ ne. kept (r .at) (omega arith) (r .value-is)) (eq-cases (r .at) bound)
+      where
+        at-last : (last .at ≡ bound) ⊎ (last .at ≢ bound) → r .at ≡ bound →
+            Reached (swapped f count (f bound)) bound value
+        at-last (inl z) e =
+            let p : value ≡ count = sym (r .value-is) ∙ ap f (e ∙ sym z) ∙ last .value-is in
+            absurd (omega arith)
+        at-last (inr ne) e = moved (last .at) (omega arith) (last .value-is) (ap f (sym e) ∙ r .value-is)
 
 pub reached-le :
     (count bound : ℕ) (f : ℕ → ℕ) → ((value : ℕ) → value < count → Reached f bound value) → count ≤ bound
 reached-le zero bound f h = omega arith
 reached-le (suc count) zero f h = let r = h 0 (omega arith) in absurd (omega arith)
 reached-le (suc count) (suc bound) f h =
-    let l : count ≤ bound = reached-le count bound (swapped f count (f bound)) (reached-below f bound count h) in
+    let rest = reached-below f bound count h in
+    let l : count ≤ bound = reached-le count bound (swapped f count (f bound)) rest in
     omega arith

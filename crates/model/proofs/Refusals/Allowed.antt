@@ -71,7 +71,8 @@ allowed-of-passed disk number content random room a p =
       accepted = a;
       number-inside = leb-false (g .publics) number (p .0);
       content-whole =
-          eqb-true (length content) (g .blockSize) (not-false (eqb (length content) (g .blockSize)) (p .1 .0));
+          eqb-true (length content) (g .blockSize)
+          (not-false (eqb (length content) (g .blockSize)) (p .1 .0));
       old-place =
           ⊎-elim (λ e. inl (eqb-true entry 0 e)) inr
           (or-cases (eqb entry 0) (isPlace g disk entry)

@@ -7,6 +7,7 @@ pub mod Rounds
 pub mod Hidden
 pub mod Calls
 pub mod Allowed
+pub mod Writes
 pub mod Pigeonhole
 pub mod Mapped
 pub mod Bounds

@@ -10,12 +10,9 @@ use Rattle.laws.proofs.Cases.{bool-cases, cond-cases}
 use Rattle.model.specs.Geometry.{Geometry}
 use Rattle.model.specs.Layout.{nextSlot}
 use Rattle.model.specs.Refusals.{oneMore, roundsTo}
+use Rattle.model.proofs.Laws.Runs.{slotAfter}
 
 -- ---- so many slots on ----
-
--- the slot so many after a slot
-abbrev pub slotAfter : Geometry → (slot index : ℕ) → ℕ
-slotAfter g slot index = (slot + index) % g .slots
 
 -- how many slots on another slot is
 abbrev pub indexFrom : Geometry → (slot other : ℕ) → ℕ

@@ -13,7 +13,8 @@ use Rattle.model.specs.Invariants.{bitmapBit, BitmapInvariant}
 use Rattle.model.specs.Refusals.{roundCount}
 use Rattle.model.proofs.Laws.Geometry.{slot-place-lt}
 use Rattle.model.proofs.Laws.Slots.{slotOf-slotStart}
-use Rattle.model.proofs.Refusals.Circle.{slotAfter, indexFrom, indexFrom-slotAfter, noneFree}
+use Rattle.model.proofs.Laws.Runs.{slotAfter}
+use Rattle.model.proofs.Refusals.Circle.{indexFrom, indexFrom-slotAfter, noneFree}
 use Rattle.model.proofs.Refusals.Circle.{firstFree}
 use Rattle.model.proofs.Refusals.Rounds.{HeadFinds, head-finds}
 use Rattle.model.proofs.Refusals.Pigeonhole.{Reached, reached-le}

@@ -1,8 +1,8 @@
 -- What a write that is not refused has: an accepted drive, a public number with a block of data and a place
 -- or none, a free slot, and buffers long enough. Assumes nothing.
 use mathlib.Core.Path.{_≡_, sym, _∙_}
-use mathlib.Core.Logic.{_≢_, _⊎_, inl, inr, ⊎-elim}
-use mathlib.Core.Bool.{true, _||_}
+use mathlib.Core.Logic.{_≢_, inl, inr, ⊎-elim}
+use mathlib.Core.Bool.{_||_}
 use mathlib.Core.List.{List, _++_}
 use Prim.Native.Nat.{ℕ, _*_, _≤_, _<_}
 use native.Mathlib.Omega.{arith}
@@ -19,15 +19,14 @@ use Rattle.model.specs.Refusals.{driveChecks, driveRefusal, placeChecks,
 use Rattle.model.specs.Refusals.{roundChecks, writeRefusal}
 use Rattle.model.proofs.Laws.Refusals.{Accepted, accepted-of-refusal, after-drive-stop}
 use Rattle.model.proofs.Laws.Refusals.{after-drive-pass}
+use Rattle.model.proofs.Laws.Wrote.{Placed}
 
 -- so many random bytes and a list of so many entries are enough for a write of this number and data
 pub record Allowed (disk : Bytes) (number : ℕ) (content : Bytes) (random room : ℕ) : Type 0 where
   pub accepted : Accepted disk
   pub number-inside : number < geometryIn disk .publics
   pub content-whole : length content ≡ geometryIn disk .blockSize
-  pub old-place :
-      (mapEntry (geometryIn disk) disk number ≡ 0) ⊎
-      (isPlace (geometryIn disk) disk (mapEntry (geometryIn disk) disk number) ≡ true)
+  pub old-place : Placed (geometryIn disk) disk number
   pub some-round : roundCount (geometryIn disk) disk ≢ 0
   pub random-enough :
       roundCount (geometryIn disk) disk * geometryIn disk .height * geometryIn disk .blockSize ≤ random

@@ -1,5 +1,5 @@
--- The rounds and stores of a write that is not refused: whatever is offered, they are those that header, map and bitmap
--- give, and the lent list holds them. Assumes nothing.
+-- The rounds and stores of a write that is not refused: whatever is offered, they are those that header, map
+-- and bitmap give, and the lent list holds them. Assumes nothing.
 use mathlib.Core.Path.{_≡_}
 use mathlib.Core.List.{_++_}
 use mathlib.Core.Option.{Option}
@@ -19,19 +19,21 @@ use Rattle.model.proofs.Refusals.Calls.{doneWith, written-cases}
 use Rattle.model.proofs.Refusals.Allowed.{Allowed, allowed-of-refusal}
 
 module _ (disk : Bytes) (number : ℕ) (content random : Bytes) (room : ℕ) (offer : Option HiddenWrite) where
-  ran-of-allowed :
+  -- such a write runs as the laws of runs say
+  pub ran-of-allowed :
       Allowed disk number content (length random) room →
       Ran (geometryIn disk) number content (headIn disk) (roundCount (geometryIn disk) disk - 1) disk
       (writeRun (geometryIn disk) disk number content random offer)
   ran-of-allowed a =
-      writeRun-accepted disk (a .accepted) number (a .number-inside) content (a .content-whole) (a .old-place) random
-      (a .some-round) (a .random-enough) offer
+      writeRun-accepted disk (a .accepted) number (a .number-inside) content (a .content-whole)
+      (a .old-place) random (a .some-round) (a .random-enough) offer
 
   module _ (e : writeRefusal disk number content (length random) room ≡ 0) where
     allowed : Allowed disk number content (length random) room
     allowed = allowed-of-refusal disk number content (length random) room e
 
-    pub rounds-done : doneWith disk number content random room offer .rounds ≡ roundCount (geometryIn disk) disk
+    pub rounds-done :
+        doneWith disk number content random room offer .rounds ≡ roundCount (geometryIn disk) disk
     rounds-done =
         rounds-ran (geometryIn disk) number content (headIn disk) (roundCount (geometryIn disk) disk)
         (allowed .some-round) disk _ (ran-of-allowed allowed)
@@ -48,7 +50,8 @@ module _ (disk : Bytes) (number : ℕ) (content random : Bytes) (room : ℕ) (of
         omega (
           arith,
           length-ran (geometryIn disk) number content (headIn disk) (roundCount (geometryIn disk) disk)
-          (allowed .some-round) disk (writeRun (geometryIn disk) disk number content random offer) (ran-of-allowed allowed),
+              (allowed .some-round) disk (writeRun (geometryIn disk) disk number content random offer)
+              (ran-of-allowed allowed),
           allowed .room-enough,
         )
 

@@ -8,3 +8,15 @@ pub mod PublicMap
 pub mod Stores
 pub mod Table
 pub mod Refusals
+pub mod Paths
+pub mod HiddenHalf
+pub mod BitmapBits
+pub mod PublicHalf
+pub mod MapStores
+pub mod RoundStores
+pub mod Rounds
+pub mod RoundEffects
+pub mod Wrote
+pub mod RoundCounts
+pub mod Runs
+pub mod WriteRuns

@@ -1,3 +1,5 @@
 -- The proofs of the promises that specs/Promises states.
 pub mod Figures
 pub mod Limits
+pub mod Refusals
+pub mod BufferBounds

@@ -1,0 +1,93 @@
+-- Demand 1: each call's answer by the laws of its chain, and what a refused call and a bad offer leave.
+-- Assumes nothing.
+use mathlib.Core.Path.{_≡_, refl, sym, ap, _∙_}
+use mathlib.Core.Logic.{_≢_}
+use mathlib.Core.List.{List}
+use mathlib.Core.Option.{Option, none}
+use Prim.Native.Nat.{ℕ, _+_, _≤_}
+use native.Mathlib.Omega.{arith}
+use lib.ListN.{length}
+use Rattle.laws.proofs.Lists.{over-nil, length-over, getD-over-after}
+use Rattle.model.specs.Blocks.{Bytes, DiskAddress}
+use Rattle.model.specs.Layout.{geometryIn}
+use Rattle.model.specs.Stores.{apply, addresses}
+use Rattle.model.specs.HiddenHalf.{HiddenWrite}
+use Rattle.model.specs.Rounds.{Run}
+use Rattle.model.specs.Refusals.{writeRefusal}
+use Rattle.model.specs.Calls.{Written, refusedWrite, written, writtenDisk, writtenList, outcomeNumber}
+use Rattle.model.specs.Promises.Refusals.{WriteRefusals, Refusals}
+use Rattle.model.proofs.Laws.Stores.{apply-nil, length-addresses}
+use Rattle.model.proofs.Refusals.Calls.{answers-format, answers-public-read, answers-hidden-read}
+use Rattle.model.proofs.Refusals.Calls.{answers-write, formatted-refused, publicRead-refused}
+use Rattle.model.proofs.Refusals.Calls.{hiddenRead-refused, written-refused, answer-written}
+use Rattle.model.proofs.Refusals.Calls.{written-same, writeRun-bad}
+use Rattle.model.proofs.Refusals.Writes.{rounds-done, stores-done, stores-written-le}
+
+module _ (disk : Bytes) (number : ℕ) (content random : Bytes) (list : List DiskAddress)
+    (offer : Option HiddenWrite) where
+  abbrev result : Written
+  result = written disk number content random (length list) offer
+
+  -- nothing of a refused write is left open
+  result-refused :
+      result .answer ≢ 0 →
+      result ≡ refusedWrite (writeRefusal disk number content (length random) (length list))
+  result-refused f =
+      written-refused disk number content random (length list) offer
+      (λ e. f (answer-written disk number content random (length list) offer ∙ e))
+
+  -- the list holds the stores' addresses
+  stores-fit : 0 + length (addresses (result .trace)) ≤ length list
+  stores-fit =
+      omega (
+        arith,
+        length-addresses (result .trace),
+        stores-written-le disk number content random (length list) offer,
+      )
+
+  write-refusals : WriteRefusals disk number content random list offer
+  unfolding addresses
+  write-refusals =
+      record {
+        exact =
+            rw (answer-written disk number content random (length list) offer)
+            (answers-write disk number content (length random) (length list));
+        offer-answer =
+            written-same disk number content random (length list) offer none (λ w. w .answer) (λ e. refl);
+        offer-rounds =
+            written-same disk number content random (length list) offer none (λ w. w .rounds)
+            (λ e. rounds-done disk number content random (length list) offer e
+            ∙ sym (rounds-done disk number content random (length list) none e));
+        offer-stores =
+            written-same disk number content random (length list) offer none (λ w. addresses (w .trace))
+            (λ e. stores-done disk number content random (length list) offer e
+            ∙ sym (stores-done disk number content random (length list) none e));
+        bad-offer = λ f.
+            written-same disk number content random (length list) offer none (λ w. writtenDisk w disk)
+            (λ e. ap (λ (run : Run). apply (geometryIn disk .blockSize) (run .trace) disk)
+            (writeRun-bad (geometryIn disk) disk number content random offer f));
+        refused-rounds = λ f. ap (λ (w : Written). w .rounds) (result-refused f);
+        refused-outcome = λ f. ap (λ (w : Written). outcomeNumber (w .outcome)) (result-refused f);
+        refused-disk = λ f.
+            ap (λ (w : Written). writtenDisk w disk) (result-refused f)
+            ∙ apply-nil (geometryIn disk .blockSize) disk;
+        refused-list = λ f.
+            ap (λ (w : Written). writtenList w list) (result-refused f) ∙ over-nil 0 list (omega arith);
+        list-length = length-over (addresses (result .trace)) list 0 stores-fit;
+        list-rest = λ index h.
+            getD-over-after (addresses (result .trace)) list 0 stores-fit index 0
+            (omega (arith, length-addresses (result .trace)));
+      }
+
+pub refusals : Refusals
+refusals =
+    record {
+      format-exact = answers-format;
+      format-refused = formatted-refused;
+      public-read-exact = answers-public-read;
+      public-read-refused = publicRead-refused;
+      hidden-read-exact = answers-hidden-read;
+      hidden-read-refused = hiddenRead-refused;
+      reads-change-nothing = λ disk number blank. (refl, refl);
+      writes = write-refusals;
+    }

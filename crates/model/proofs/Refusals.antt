@@ -1,0 +1,13 @@
+-- Why each refusal's chain of checks answers its conditions, and what a chain cannot answer.
+pub mod Answers
+pub mod Drive
+pub mod Places
+pub mod Circle
+pub mod Rounds
+pub mod Hidden
+pub mod Calls
+pub mod Allowed
+pub mod Writes
+pub mod Pigeonhole
+pub mod Mapped
+pub mod Bounds

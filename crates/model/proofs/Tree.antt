@@ -1,0 +1,2 @@
+-- The hidden tree as a ghost, its invariant, and what one round does to it.
+pub mod Keys

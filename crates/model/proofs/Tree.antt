@@ -2,3 +2,5 @@
 pub mod Keys
 pub mod Ghost
 pub mod Walks
+pub mod Invariant
+pub mod FromInvariant

@@ -4,3 +4,5 @@ pub mod Ghost
 pub mod Walks
 pub mod Invariant
 pub mod FromInvariant
+pub mod Nodes
+pub mod Planting

@@ -6,3 +6,6 @@ pub mod Invariant
 pub mod FromInvariant
 pub mod Nodes
 pub mod Planting
+pub mod Stored
+pub mod Unused
+pub mod Turns

@@ -8,4 +8,5 @@ pub mod Nodes
 pub mod Planting
 pub mod Stored
 pub mod Unused
+pub mod Placing
 pub mod Turns

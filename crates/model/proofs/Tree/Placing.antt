@@ -15,11 +15,12 @@ use Rattle.model.specs.Stores.{Trace}
 use Rattle.model.specs.HiddenHalf.{ownerOf, isLive}
 use Rattle.model.specs.Paths.{linkedNode, pathStores, currentPath, writtenBack, dummyStores}
 use Rattle.model.proofs.Laws.Stores.{All, lastAt}
-use Rattle.model.proofs.Tree.Keys.{keyOf, keyOf-zero}
-use Rattle.model.proofs.Tree.Ghost.{Tree, slotAt, nodeAt, nodesFrom, Linked, Owned, Ghost, blockIn, valueOf, length-nodesFrom, length-nodeAt}
+use Rattle.model.proofs.Tree.Keys.{keyOf, keyOf-zero, lt-treeCapacity}
+use Rattle.model.proofs.Tree.Ghost.{Tree, slotAt, nodeAt, nodesFrom, Linked, Owned, Ghost, blockIn, valueOf, blockIn-same, length-nodesFrom, length-nodeAt}
 use Rattle.model.proofs.Tree.Walks.{walk-nodes, isLive-of-used, unused-of-not-isLive}
 use Rattle.model.proofs.Tree.Nodes.{entryAt-linkedNode-owner}
-use Rattle.model.proofs.Tree.Planting.{planted, Apart, Planted, planted-same, planted-other, ghost-planted}
+use Rattle.model.proofs.Tree.Planted.{planted, Apart, Planted, planted-same, planted-other}
+use Rattle.model.proofs.Tree.Planting.{ghost-planted}
 use Rattle.model.proofs.Tree.Stored.{Follows, Confined, lastAt-confined, confined-pathStores, confined-dummyStores, path-node, path-data, path-root, dummy-root, lastAt-writtenBack}
 use Rattle.model.proofs.Tree.Unused.{ghost-unused, valueOf-unused}
 
@@ -37,16 +38,13 @@ module _ (g : Geometry) (f : Fits g) (disk after : Bytes) (tree : Tree) (whole :
   top : suc (g .height - 1) ≡ g .height
   top = omega (arith, f .height-low)
 
-  low-capacity : number < treeCapacity g
-  low-capacity = omega (arith, low, f .hidden-fits)
-
   abbrev path : Trace
   path = pathStores g number slot content (nodesFrom g disk tree number (suc (g .height - 1)))
 
   path-is : currentPath g disk number slot content ≡ path
   path-is =
       ap (pathStores g number slot content)
-      (walk-nodes g disk tree (ghost .links) number low-capacity f ∙ ap (nodesFrom g disk tree number) (sym top))
+      (walk-nodes g disk tree (ghost .links) number (lt-treeCapacity g f number low) f ∙ ap (nodesFrom g disk tree number) (sym top))
 
   on-path : Follows g disk after path
   on-path = rw (← path-is) follows
@@ -78,7 +76,7 @@ module _ (g : Geometry) (f : Fits g) (disk after : Bytes) (tree : Tree) (whole :
         owner =
         ap (entryAt (fanout g - 1)) (nodes 0 (omega (arith, f .height-low)))
         ∙ entryAt-linkedNode-owner g f number slot here (nodeAt g disk tree 1 number)
-        (length-nodeAt g disk tree whole (ghost .links) 1 number (omega (arith, f .height-low)) low-capacity)
+        (length-nodeAt g disk tree whole (ghost .links) 1 number (omega (arith, f .height-low)) (lt-treeCapacity g f number low))
         (omega (arith, low, f .hidden-high, f .blocks-high));
         joined =
         inl (top, on-path .in-root ∙ path-root g disk tree number slot content (g .height - 1) top _);
@@ -106,16 +104,16 @@ module _ (g : Geometry) (f : Fits g) (disk after : Bytes) (tree : Tree) (whole :
       ∙ path-data g disk tree number slot content (g .height - 1) top _)
 
   pub valueOf-path-other : (other : ℕ) → other < treeCapacity g → other ≢ number → valueOf g after placedTree other ≡ valueOf g disk tree other
-  valueOf-path-other other h ne = ap (blockIn g after) (slotAt-path-other other ne) ∙ by (slotAt g tree 0 other) refl
+  valueOf-path-other other h ne =
+      ap (blockIn g after) (slotAt-path-other other ne)
+      ∙ blockIn-same g disk after (slotAt g tree 0 other)
+      (λ held e.
+      path-planted .apart held (g .height) (ghost .links .inside other 0 held h positive e)
+      (λ z. ne (sym (keyOf-zero g other) ∙ ours other 0 h positive (e ∙ ap {B = Option ℕ} some z) ∙ keyOf-zero g number))
+      positive (omega arith))
     where
-      by : (held : Option ℕ) → slotAt g tree 0 other ≡ held → blockIn g after held ≡ blockIn g disk held
-      by none e = refl
-      by (some held) e =
-          let positive : 0 < g .height = omega (arith, f .height-low) in
-          ap {B = Option Bytes} some
-          (path-planted .apart held (g .height) (ghost .links .inside other 0 held h positive e)
-          (λ z. ne (sym (keyOf-zero g other) ∙ ours other 0 h positive (e ∙ ap {B = Option ℕ} some z) ∙ keyOf-zero g number))
-          (omega (arith, f .height-low)) (omega arith))
+      positive : 0 < g .height
+      positive = omega (arith, f .height-low)
 
 -- ---- random blocks, and blocks written back ----
 

@@ -92,10 +92,10 @@ module _ (g : Geometry) (f : Fits g) (disk : Bytes) (tree : Tree) (whole : lengt
 
   -- the table's choice for the slot
   choice-live : isLive g disk slot ≡ true → rowOf g disk slot (state .waiting) .hidden ≡ keepHidden
-  choice-live live = ap (λ (r : Row). r .hidden) (rowAt-ruled (isWaiting (state .waiting)) (isAllocated g disk slot) (isLive g disk slot)) ∙ rw live
+  choice-live live = ap (λ (chosen : Row). chosen .hidden) (rowAt-ruled (isWaiting (state .waiting)) (isAllocated g disk slot) (isLive g disk slot)) ∙ rw live
 
   choice-free : isLive g disk slot ≡ false → rowOf g disk slot (state .waiting) .hidden ≡ cond (isWaiting (state .waiting)) placeHidden fillHidden
-  choice-free free = ap (λ (r : Row). r .hidden) (rowAt-ruled (isWaiting (state .waiting)) (isAllocated g disk slot) (isLive g disk slot)) ∙ rw free
+  choice-free free = ap (λ (chosen : Row). chosen .hidden) (rowAt-ruled (isWaiting (state .waiting)) (isAllocated g disk slot) (isLive g disk slot)) ∙ rw free
 
   turns-free : isLive g disk slot ≡ false → (random : Bytes) (waiting : List HiddenWrite) → state .waiting ≡ waiting →
       All (λ (write : HiddenWrite). write .number < g .hidden) waiting →

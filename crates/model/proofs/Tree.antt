@@ -6,8 +6,10 @@ pub mod Invariant
 pub mod FromInvariant
 pub mod Nodes
 pub mod Planted
+pub mod Linking
 pub mod Planting
 pub mod Stored
 pub mod Unused
 pub mod Placing
 pub mod Turns
+pub mod Shown

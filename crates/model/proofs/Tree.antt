@@ -2,6 +2,7 @@
 pub mod Keys
 pub mod Ghost
 pub mod Walks
+pub mod Live
 pub mod Invariant
 pub mod FromInvariant
 pub mod Nodes

@@ -1,8 +1,7 @@
 -- The ghost tree from the hidden invariant: the tree that a disk's entries spell from the root down, and that
--- a disk with
--- the invariant has it. Assumes nothing.
+-- a disk with the invariant has it. Assumes nothing.
 use mathlib.Core.Path.{_≡_, refl, sym, ap, ap₂, _∙_, subst}
-use mathlib.Core.Logic.{_≢_, ⊎-elim}
+use mathlib.Core.Logic.{_≢_, _⊎_, inl, inr, ⊎-elim}
 use mathlib.Core.Bool.{true, cond}
 use mathlib.Core.Option.{Option, none, some}
 use Prim.Native.Nat.{ℕ, zero, suc, _+_, _*_, _-_, _/_, _%_, _<_}
@@ -22,7 +21,7 @@ use Rattle.model.proofs.Laws.Slots.{slotBlock-of}
 use Rattle.model.proofs.Tree.Keys.{keyOf, keyOf-suc, branchAt-keyOf, entriesIn-positive, keyOf-height}
 use Rattle.model.proofs.Tree.Keys.{lt-of-keyOf-same, span-zero}
 use Rattle.model.proofs.Tree.Ghost.{Tree, slotAt, entryTo, nodeIn, nodeAt, Linked, Owned, Ghost}
-use Rattle.model.proofs.Tree.Ghost.{some-inj, nodeAt-height, nodeAt-below}
+use Rattle.model.proofs.Tree.Ghost.{some-inj, none-is-not-some, nodeAt-height, nodeAt-below}
 use Rattle.model.proofs.Tree.Walks.{walk-end, some-of-endIn}
 
 -- ---- the tree that a disk spells ----
@@ -35,8 +34,8 @@ blockTo g disk entry = cond (eqb entry 0) (zeroBlock (g .blockSize)) (blockAt (g
 unfoldable pub nodeOf : Geometry → (disk : Bytes) → (depth level key : ℕ) → Bytes
 nodeOf g disk zero level key = blockAt (g .blockSize) disk (rootAddress g)
 nodeOf g disk (suc depth) level key =
-    blockTo g disk (entryAt (key % entriesIn g level)
-    (nodeOf g disk depth (suc level) (key / entriesIn g level)))
+    blockTo g disk
+    (entryAt (key % entriesIn g level) (nodeOf g disk depth (suc level) (key / entriesIn g level)))
 
 -- the entry with a level and a key, in a node so many steps below the root
 abbrev entryOf : Geometry → (disk : Bytes) → (depth level key : ℕ) → DiskAddress
@@ -47,6 +46,7 @@ entryOf g disk depth level key =
 abbrev slotIn : Geometry → (entry : DiskAddress) → Option ℕ
 slotIn g entry = cond (eqb entry 0) none (some (slotOf g entry))
 
+-- the slots that the entries from the root down lead to
 unfoldable pub treeOf : Geometry → (disk : Bytes) → Tree
 treeOf g disk level key = slotIn g (entryOf g disk (g .height - 1 - level) level key)
 
@@ -69,36 +69,33 @@ module _ (g : Geometry) (disk : Bytes) (level : ℕ) (entry : DiskAddress)
       ∙ sym (cond-true (zeroBlock (g .blockSize)) (blockAt (g .blockSize) disk entry) (eq-eqb entry 0 e)))
       (λ e.
       ap (nodeIn g disk level) (cond-false none (some (slotOf g entry)) (ne-eqb entry 0 e))
-      ∙ ap (blockAt (g .blockSize) disk) (sym (slotBlock-of g (levelPlace g level) entry
-      (formed e) .address-is))
+      ∙ ap (blockAt (g .blockSize) disk)
+      (sym (slotBlock-of g (levelPlace g level) entry (formed e) .address-is))
       ∙ sym (cond-false (zeroBlock (g .blockSize)) (blockAt (g .blockSize) disk entry) (ne-eqb entry 0 e)))
       (eq-cases entry 0)
 
   some-of-slotIn : (slot : ℕ) → slotIn g entry ≡ some slot → (entry ≢ 0) × (slotOf g entry ≡ slot)
-  some-of-slotIn slot e = ⊎-elim
-      (λ p. absurd (let q : none ≡ some slot = sym (cond-true none (some (slotOf g entry))
-      (eq-eqb entry 0 p)) ∙ e in
-      let z : _≡_ {A = ℕ} 0 1 = cc in omega arith))
-      (λ p. (
-        p,
-        some-inj (slotOf g entry) slot (sym (cond-false none (some (slotOf g entry))
-            (ne-eqb entry 0 p)) ∙ e),
-      ))
-      (eq-cases entry 0)
+  some-of-slotIn slot e = by (eq-cases entry 0)
+    where
+      by : (entry ≡ 0) ⊎ (entry ≢ 0) → (entry ≢ 0) × (slotOf g entry ≡ slot)
+      by (inl p) = none-is-not-some slot (sym (cond-true none (some (slotOf g entry)) (eq-eqb entry 0 p)) ∙ e)
+      by (inr p) =
+          let q = sym (cond-false none (some (slotOf g entry)) (ne-eqb entry 0 p)) ∙ e in
+          (p, some-inj (slotOf g entry) slot q)
 
 -- ---- a disk with the invariant ----
 
 module _ (g : Geometry) (f : Fits g) (disk : Bytes) (sound : HiddenInvariant g disk) where
   abbrev Reached : (depth level key : ℕ) → Type 0
-  Reached depth level key = entryOf g disk depth level key ≢ 0 →
-      Met g disk level key (entryOf g disk depth level key)
+  Reached depth level key =
+      entryOf g disk depth level key ≢ 0 → Met g disk level key (entryOf g disk depth level key)
 
   below-root : (level number : ℕ) → suc level ≡ g .height → number < treeCapacity g →
       keyOf g level number < entriesIn g level
   below-root level number e h =
       let z : keyOf g level number / entriesIn g level ≡ 0 =
-      sym (keyOf-suc g level number) ∙ subst (λ (l : ℕ). keyOf g l number ≡ 0) (sym e)
-      (keyOf-height g f number h) in
+      sym (keyOf-suc g level number)
+      ∙ subst (λ (l : ℕ). keyOf g l number ≡ 0) (sym e) (keyOf-height g f number h) in
       let k : keyOf g level number / entriesIn g level < 1 = omega arith in
       rw (one-mul (entriesIn g level)) at (div-lt-iff-lt-mul (entriesIn-positive g f level) .0 k)
 
@@ -108,10 +105,8 @@ module _ (g : Geometry) (f : Fits g) (disk : Bytes) (sound : HiddenInvariant g d
   unfolding nodeOf
   reached-step depth level key higher ne =
       inNode met (sound .good-entries (suc level) above node met there .well-formed)
-      (mod-lt key (entriesIn-positive g f level))
-      (sym (div-add-mod' key (entriesIn g level)))
-      (ap (entryAt (key % entriesIn g level)) (cond-false (zeroBlock (g .blockSize))
-      (blockAt (g .blockSize) disk node) (ne-eqb node 0 there)))
+      (mod-lt key (entriesIn-positive g f level)) (sym (div-add-mod' key (entriesIn g level)))
+      (ap (entryAt (key % entriesIn g level)) (cond-false _ _ (ne-eqb node 0 there)))
     where
       above : ℕ
       above = key / entriesIn g level
@@ -121,8 +116,7 @@ module _ (g : Geometry) (f : Fits g) (disk : Bytes) (sound : HiddenInvariant g d
 
       there : node ≢ 0
       there z =
-          ne (ap (entryAt (key % entriesIn g level)) (cond-true (zeroBlock (g .blockSize))
-          (blockAt (g .blockSize) disk node) (eq-eqb node 0 z))
+          ne (ap (entryAt (key % entriesIn g level)) (cond-true _ _ (eq-eqb node 0 z))
           ∙ entryAt-replicate (g .blockSize) (key % entriesIn g level))
 
       met : Met g disk (suc level) above node
@@ -228,15 +222,15 @@ module _ (g : Geometry) (f : Fits g) (disk : Bytes) (sound : HiddenInvariant g d
       holds : slotAt g (treeOf g disk) 0 owner ≡ some held
       holds =
           some-of-endIn g held (slotAt g (treeOf g disk) 0 owner) positive
-          (ap (isFoundAt (levelAddress g held 0)) (sym (walk-end g disk
-          (treeOf g disk) linked-treeOf owner low f) ∙ fine .owner-found)
+          (ap (isFoundAt (levelAddress g held 0))
+          (sym (walk-end g disk (treeOf g disk) linked-treeOf owner low f) ∙ fine .owner-found)
           ∙ eq-eqb (levelAddress g held 0) (levelAddress g held 0) refl)
 
       -- the owner's own entry is good too, so the owner is below H
       small : owner < g .hidden
       small =
-          let there = some-of-slotIn g disk 0 (entryFor owner 0 low positive)
-          (formed owner 0 low positive) held
+          let there =
+          some-of-slotIn g disk 0 (entryFor owner 0 low positive) (formed owner 0 low positive) held
           (sym (slotAt-treeOf owner 0 low positive) ∙ holds) in
           let within : keyOf g 0 owner * span g 0 < g .hidden =
           good owner 0 low positive (there .0) .within in

@@ -1,6 +1,5 @@
 -- The hidden invariant from the ghost tree: every entry met from the root down is the one that the tree
--- gives, and each
--- that is not 0 is good. Assumes nothing.
+-- gives, and each that is not 0 is good. Assumes nothing.
 use mathlib.Core.Path.{_≡_, refl, sym, ap, ap₂, _∙_, subst}
 use mathlib.Core.Logic.{_≢_}
 use mathlib.Core.Bool.{true}
@@ -18,7 +17,7 @@ use Rattle.model.specs.HiddenHalf.{ownerOf}
 use Rattle.model.specs.Invariants.{entriesIn, Met, inRoot, inNode, GoodEntry, HiddenInvariant}
 use Rattle.model.proofs.Laws.Slots.{isSlotBlock-below, isWellFormed-levelAddress, slotOf-levelAddress}
 use Rattle.model.proofs.Tree.Keys.{keyOf, keyOf-suc, branchAt-keyOf, keyOf-first, lt-of-keyOf-height}
-use Rattle.model.proofs.Tree.Keys.{lt-of-keyOf-same}
+use Rattle.model.proofs.Tree.Keys.{lt-of-keyOf-same, lt-treeCapacity}
 use Rattle.model.proofs.Tree.Ghost.{Tree, slotAt, entryTo, nodeIn, nodeAt, Owned, Ghost, nodeAt-height}
 use Rattle.model.proofs.Tree.Ghost.{nodeAt-below}
 use Rattle.model.proofs.Tree.Walks.{endIn, walk-end}
@@ -47,8 +46,8 @@ module _ (g : Geometry) (f : Fits g) (disk : Bytes) (tree : Tree) (ghost : Ghost
 
   key-above : (level index : ℕ) → keyOf g (suc level) (firstBelow level index) ≡ index / entriesIn g level
   key-above level index =
-      keyOf-suc g level (firstBelow level index) ∙ ap (λ (n : ℕ). n / entriesIn g level)
-      (keyOf-first g f level index)
+      keyOf-suc g level (firstBelow level index)
+      ∙ ap (λ (n : ℕ). n / entriesIn g level) (keyOf-first g f level index)
 
   in-root : (level index : ℕ) (entry : DiskAddress) → suc level ≡ g .height → index < entriesIn g level →
       entry ≡ entryAt index (blockAt (g .blockSize) disk (rootAddress g)) → MetBy level index entry
@@ -79,7 +78,8 @@ module _ (g : Geometry) (f : Fits g) (disk : Bytes) (tree : Tree) (ghost : Ghost
         level-lt = l;
         first-lt = low;
         entry-is =
-            p ∙ ap₂ (λ (n : ℕ) (b : Bytes). entryAt n b) (sym at) (sym (block (tree (suc level) above) refl))
+            p ∙ ap₂ (λ (n : ℕ) (bytes : Bytes). entryAt n bytes) (sym at)
+            (sym (block (tree (suc level) above) refl))
             ∙ entry-linked level index l low;
       }
     where
@@ -92,15 +92,13 @@ module _ (g : Geometry) (f : Fits g) (disk : Bytes) (tree : Tree) (ghost : Ghost
       low : firstBelow level index < treeCapacity g
       low =
           lt-of-keyOf-same g f (suc level) (firstBelow level index) (firstBelow (suc level) above)
-          (omega (arith, met .level-lt))
-          (up ∙ sym (keyOf-first g f (suc level) above)) (met .first-lt)
+          (omega (arith, met .level-lt)) (up ∙ sym (keyOf-first g f (suc level) above)) (met .first-lt)
 
       block : (slot : Option ℕ) → tree (suc level) above ≡ slot →
           nodeAt g disk tree (suc level) (firstBelow level index) ≡ blockAt (g .blockSize) disk node
       block none q =
-          true-is-not-false formed
-          (isSlotBlock-below g (suc level) node (let z : node ≡ 0 =
-          met .entry-is ∙ ap (entryTo g (suc level)) q in omega arith))
+          let z : node ≡ 0 = met .entry-is ∙ ap (entryTo g (suc level)) q in
+          true-is-not-false formed (isSlotBlock-below g (suc level) node (omega arith))
       block (some slot) q =
           nodeAt-below g disk tree (suc level) (firstBelow level index) (met .level-lt)
           ∙ ap (λ (n : ℕ). nodeIn g disk (suc level) (tree (suc level) n)) up
@@ -118,8 +116,8 @@ module _ (g : Geometry) (f : Fits g) (disk : Bytes) (tree : Tree) (ghost : Ghost
     where
       by : (slot : Option ℕ) → tree level index ≡ slot → GoodEntry g disk level index entry
       by none q = absurd (ne (met .entry-is ∙ ap (entryTo g level) q))
-      by (some slot) q = subst (GoodEntry g disk level index)
-          (sym (met .entry-is ∙ ap (entryTo g level) q)) good
+      by (some slot) q =
+          subst (GoodEntry g disk level index) (sym (met .entry-is ∙ ap (entryTo g level) q)) good
         where
           first : keyOf g level (firstBelow level index) ≡ index
           first = keyOf-first g f level index
@@ -136,7 +134,7 @@ module _ (g : Geometry) (f : Fits g) (disk : Bytes) (tree : Tree) (ghost : Ghost
           end : walk g disk (ownerOf g disk slot) .end ≡ found (levelAddress g slot 0)
           end =
               walk-end g disk tree (ghost .links) (ownerOf g disk slot)
-              (omega (arith, own .owner-lt, f .hidden-fits)) f
+              (lt-treeCapacity g f (ownerOf g disk slot) (own .owner-lt)) f
               ∙ ap (endIn g) (own .holds)
 
           good : GoodEntry g disk level index (levelAddress g slot level)
@@ -159,6 +157,6 @@ module _ (g : Geometry) (f : Fits g) (disk : Bytes) (tree : Tree) (ghost : Ghost
   pub hiddenInvariant-of-ghost : HiddenInvariant g disk
   hiddenInvariant-of-ghost =
       record {
-        good-entries = λ level index entry met ne. good-of-met level index entry
-            (met-by level index entry met) ne;
+        good-entries = λ level index entry met ne.
+            good-of-met level index entry (met-by level index entry met) ne;
       }

@@ -1,5 +1,5 @@
--- A path stored in a slot up to a level: the new disk's nodes lead just where the ghost tree with the path planted in it
--- says. Assumes nothing.
+-- A path stored in a slot up to a level: the new disk's nodes lead just where the ghost tree with the path
+-- planted in it says. Assumes nothing.
 use mathlib.Core.Path.{_≡_, sym, ap, ap₂, _∙_, subst}
 use mathlib.Core.Logic.{_≢_, _⊎_, inl, inr, ⊎-elim}
 use mathlib.Core.Option.{Option, some}

@@ -1,6 +1,5 @@
 -- A node as a path stores it: its entry leads into the path's slot, its other entries are as they were, and a
--- leaf's last
--- entry is the path's number. Assumes nothing.
+-- leaf's last entry is the path's number. Assumes nothing.
 use mathlib.Core.Path.{_≡_, _∙_}
 use mathlib.Core.Logic.{_≢_}
 use Prim.Native.Nat.{ℕ, zero, suc, _+_, _*_, _-_, _^_, _≤_, _<_}
@@ -38,8 +37,8 @@ module _ (g : Geometry) (f : Fits g) (number slot : ℕ) (here : slot < g .slots
       )
 
   pub entryAt-linkedNode-same :
-      (level : ℕ) → level < g .height → entryAt (branchAt g number level)
-      (linkedNode g number slot level node) ≡ levelAddress g slot level
+      (level : ℕ) → level < g .height →
+      entryAt (branchAt g number level) (linkedNode g number slot level node) ≡ levelAddress g slot level
   unfolding linkedNode
   entryAt-linkedNode-same zero h =
       entryAt-setEntry-other (fanout g - 1) number placed last-fits (branchAt g number 0)
@@ -48,8 +47,7 @@ module _ (g : Geometry) (f : Fits g) (number slot : ℕ) (here : slot < g .slots
       (address-lt 0 h)
   entryAt-linkedNode-same (suc level) h =
       entryAt-setEntry-same (branchAt g number (suc level)) (levelAddress g slot (suc level)) node
-      (branch-fits (suc level))
-      (address-lt (suc level) h)
+      (branch-fits (suc level)) (address-lt (suc level) h)
 
   pub entryAt-linkedNode-other :
       (level other : ℕ) → branchAt g other level ≢ branchAt g number level →
@@ -63,8 +61,7 @@ module _ (g : Geometry) (f : Fits g) (number slot : ℕ) (here : slot < g .slots
       (branchAt g other 0) ne
   entryAt-linkedNode-other (suc level) other ne =
       entryAt-setEntry-other (branchAt g number (suc level)) (levelAddress g slot (suc level)) node
-      (branch-fits (suc level))
-      (branchAt g other (suc level)) ne
+      (branch-fits (suc level)) (branchAt g other (suc level)) ne
 
   pub entryAt-linkedNode-owner : number < 2 ^ 32 →
       entryAt (fanout g - 1) (linkedNode g number slot 0 node) ≡ number

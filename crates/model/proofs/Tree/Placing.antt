@@ -1,6 +1,5 @@
 -- Whole traces under the ghost tree: a current path stored in a slot plants it, random blocks in a slot that
--- is not live
--- and blocks written back leave the tree. Assumes nothing.
+-- is not live and blocks written back leave the tree. Assumes nothing.
 use mathlib.Core.Path.{_≡_, refl, sym, ap, _∙_}
 use mathlib.Core.Logic.{_≢_, inl}
 use mathlib.Core.Bool.{true, false}
@@ -18,7 +17,8 @@ use Rattle.model.proofs.Laws.Stores.{All}
 use Rattle.model.proofs.Tree.Keys.{keyOf, keyOf-zero, lt-treeCapacity}
 use Rattle.model.proofs.Tree.Ghost.{Tree, slotAt, nodeAt, nodesFrom, Ghost, blockIn, valueOf}
 use Rattle.model.proofs.Tree.Ghost.{blockIn-same, length-nodesFrom, length-nodeAt}
-use Rattle.model.proofs.Tree.Walks.{walk-nodes, isLive-of-used, unused-of-not-isLive}
+use Rattle.model.proofs.Tree.Walks.{walk-nodes}
+use Rattle.model.proofs.Tree.Live.{isLive-of-used, unused-of-not-isLive}
 use Rattle.model.proofs.Tree.Nodes.{entryAt-linkedNode-owner}
 use Rattle.model.proofs.Tree.Planted.{planted, Apart, Planted, planted-same, planted-other}
 use Rattle.model.proofs.Tree.Planting.{ghost-planted}

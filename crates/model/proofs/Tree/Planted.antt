@@ -1,6 +1,5 @@
 -- A path planted in the ghost tree, and what it means that a disk holds it: a number's path stands in a slot
--- up to a
--- level, all of it with the root or a live slot's own path in part. Assumes nothing.
+-- up to a level, all of it with the root or a live slot's own path in part. Assumes nothing.
 use mathlib.Core.Path.{_≡_}
 use mathlib.Core.Logic.{_≢_, _⊎_}
 use mathlib.Core.Bool.{cond, _&&_}
@@ -22,7 +21,7 @@ abbrev pub planted : Geometry → Tree → (number slot top : ℕ) → Tree
 planted g tree number slot top level key =
     cond (leb level top && eqb key (keyOf g level number)) (some slot) (tree level key)
 
--- a slot's hidden blocks are as they were on another disk
+-- the hidden blocks of all other slots are as they were on another disk
 abbrev pub Apart : Geometry → (disk after : Bytes) → (slot : ℕ) → Type 0
 Apart g disk after slot =
     (other place : ℕ) → other < g .slots → other ≢ slot → 1 ≤ place → place ≤ g .height →
@@ -67,8 +66,8 @@ module _ (g : Geometry) (tree : Tree) (number slot top : ℕ) where
       (and-both (le-leb level top h) (eq-eqb (keyOf g level other) (keyOf g level number) e))
 
   pub planted-above :
-      (level other : ℕ) → top < level → slotAt g (planted g tree number slot top) level other ≡
-      slotAt g tree level other
+      (level other : ℕ) → top < level →
+      slotAt g (planted g tree number slot top) level other ≡ slotAt g tree level other
   planted-above level other h =
       cond-false (some slot) (slotAt g tree level other)
       (and-false-left (eqb (keyOf g level other) (keyOf g level number)) (lt-leb level top h))

@@ -1,5 +1,5 @@
--- A path stored in a slot up to a level: the ghost tree with the path planted in it is that of the new disk. Assumes
--- nothing.
+-- A path stored in a slot up to a level: the ghost tree with the path planted in it is that of the new disk.
+-- Owners, by whether a slot is the path's or was there before. Assumes nothing.
 use mathlib.Core.Path.{_≡_, refl, sym, ap, _∙_, subst}
 use mathlib.Core.Logic.{_≢_, _⊎_, inl, inr, ⊎-elim}
 use mathlib.Core.Option.{Option, some}

@@ -1,6 +1,5 @@
 -- What a hidden half's stores leave in each block: of a path its nodes, its data and its root, of random
--- blocks and of
--- blocks written back the root; and none of them reaches another slot. Assumes nothing.
+-- blocks and of blocks written back the root; and none of them reaches another slot. Assumes nothing.
 use mathlib.Core.Path.{_≡_, refl, sym, ap, _∙_}
 use mathlib.Core.Logic.{_≢_, _⊎_, inl, inr, ⊎-elim}
 use mathlib.Core.List.{List, [], _∷_}

@@ -1,6 +1,5 @@
 -- One round's hidden half under the ghost tree: it is never blocked, the new disk has a ghost tree again, and
--- at most the
--- hidden write that it places changes what a number shows. Assumes nothing.
+-- at most the hidden write that it places changes what a number shows. Assumes nothing.
 use mathlib.Core.Path.{_≡_, refl, sym, ap, _∙_, subst}
 use mathlib.Core.Logic.{_≢_, ⊎-elim}
 use mathlib.Core.Bool.{true, false, cond}
@@ -16,10 +15,9 @@ use Rattle.model.specs.Table.{Row, HiddenChoice, keepHidden, placeHidden
 use Rattle.model.specs.HiddenHalf.{HiddenWrite, HiddenState, HiddenHalf, half, isWaiting, ownerOf}
 use Rattle.model.specs.HiddenHalf.{isLive, placedState, blockedState, hiddenBy, rowOf, hiddenHalf}
 use Rattle.model.specs.Paths.{currentPath, writtenBack, dummyStores}
-use Rattle.model.proofs.Laws.Stores.{All}
 use Rattle.model.proofs.Laws.Table.{rowAt-ruled}
 use Rattle.model.proofs.Tree.Ghost.{Tree, Ghost, blockIn, valueOf}
-use Rattle.model.proofs.Tree.Walks.{owner-lt-of-isLive, holds-of-isLive, isBlocked-false}
+use Rattle.model.proofs.Tree.Live.{GoodNumbers, owner-lt-of-isLive, holds-of-isLive, isBlocked-false}
 use Rattle.model.proofs.Tree.Stored.{Follows}
 use Rattle.model.proofs.Tree.Placing.{placedTree, ghost-path, valueOf-path-same, valueOf-path-other}
 use Rattle.model.proofs.Tree.Placing.{ghost-dummy, valueOf-dummy}
@@ -120,14 +118,14 @@ module _ (g : Geometry) (f : Fits g) (disk : Bytes) (tree : Tree)
 
   turns-free : isLive g disk slot ≡ false → (random : Bytes) (waiting : List HiddenWrite) →
       state .waiting ≡ waiting →
-      All (λ (write : HiddenWrite). write .number < g .hidden) waiting →
+      GoodNumbers g waiting →
       Turns (hiddenBy (cond (isWaiting waiting) placeHidden fillHidden) g disk slot random state waiting)
   unfolding hiddenBy
   turns-free free random [] e h = turns-dummy free random
   turns-free free random (write ∷ later) e h = turns-placed free write later e (h .0)
 
   pub hiddenHalf-turns :
-      (random : Bytes) → All (λ (write : HiddenWrite). write .number < g .hidden) (state .waiting) →
+      (random : Bytes) → GoodNumbers g (state .waiting) →
       (after : Bytes) →
       Follows g disk after (hiddenHalf g disk slot random state .trace) →
       Turned g disk after tree state (hiddenHalf g disk slot random state .state)

@@ -12,11 +12,10 @@ use Rattle.model.specs.Blocks.{Bytes, blockAt, entryAt}
 use Rattle.model.specs.Layout.{levelAddress}
 use Rattle.model.specs.HiddenTree.{branchAt}
 use Rattle.model.specs.Paths.{linkedNode}
-use Rattle.model.proofs.Tree.Keys.{keyOf, keyOf-up, keyOf-down, branchAt-same}
-use Rattle.model.proofs.Tree.Keys.{keyOf-height, lt-treeCapacity}
-use Rattle.model.proofs.Tree.Ghost.{Tree, slotAt, entryTo, nodeIn, nodeAt, Ghost}
-use Rattle.model.proofs.Tree.Ghost.{nodeAt-height, nodeAt-below, nodeAt-same, nodeIn-same}
-use Rattle.model.proofs.Tree.Ghost.{length-nodeAt}
+use Rattle.model.proofs.Tree.Keys.{keyOf, keyOf-up, keyOf-down, branchAt-same, keyOf-height}
+use Rattle.model.proofs.Tree.Keys.{lt-treeCapacity}
+use Rattle.model.proofs.Tree.Ghost.{Tree, slotAt, entryTo, nodeIn, nodeAt, Ghost, nodeAt-height}
+use Rattle.model.proofs.Tree.Ghost.{nodeAt-below, nodeAt-same, nodeIn-same, length-nodeAt}
 use Rattle.model.proofs.Tree.Nodes.{entryAt-linkedNode-same, entryAt-linkedNode-other}
 use Rattle.model.proofs.Tree.Planted.{planted, Planted, planted-same, planted-above, planted-other}
 

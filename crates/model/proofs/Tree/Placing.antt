@@ -20,7 +20,7 @@ use Rattle.model.proofs.Tree.Ghost.{blockIn-same, length-nodesFrom, len
 use Rattle.model.proofs.Tree.Walks.{walk-nodes}
 use Rattle.model.proofs.Tree.Live.{isLive-of-used, unused-of-not-isLive}
 use Rattle.model.proofs.Tree.Nodes.{entryAt-linkedNode-owner}
-use Rattle.model.proofs.Tree.Planted.{planted, Apart, Planted, planted-same, planted-other}
+use Rattle.model.proofs.Tree.Planted.{placedTree, Apart, Planted, planted-same, planted-other}
 use Rattle.model.proofs.Tree.Planting.{ghost-planted}
 use Rattle.model.proofs.Tree.Stored.{Follows, Confined, lastAt-confined, confined-pathStores}
 use Rattle.model.proofs.Tree.Stored.{confined-dummyStores, path-node, path-data, path-root, dummy-root}
@@ -36,6 +36,17 @@ apart-of-confined g disk after slot trace follows confined other place h ne low 
     (blockAt (g .blockSize) disk (slotStart g other + place)) ne high
 
 -- ---- a path ----
+
+-- a number's path placed in a slot with a block: the tree is the new disk's, and only this number changes
+pub record Placement (g : Geometry) (disk after : Bytes) (tree grown : Tree) (number slot : ℕ)
+    (content : Bytes) : Type 0 where
+  pub ghost : Ghost g after grown
+  pub slot-same : slotAt g grown 0 number ≡ some slot
+  pub slot-other : (other : ℕ) → other ≢ number → slotAt g grown 0 other ≡ slotAt g tree 0 other
+  pub value-same : valueOf g after grown number ≡ some content
+  pub value-other :
+      (other : ℕ) → other < treeCapacity g → other ≢ number →
+      valueOf g after grown other ≡ valueOf g disk tree other
 
 module _ (g : Geometry) (f : Fits g) (disk after : Bytes) (tree : Tree)
     (whole : length disk ≡ blockCount g * g .blockSize)
@@ -94,41 +105,49 @@ module _ (g : Geometry) (f : Fits g) (disk after : Bytes) (tree : Tree)
             inl (top, on-path .in-root ∙ path-root g disk tree number slot content (g .height - 1) top _);
       }
 
-  -- the tree with the path in its slot
-  abbrev pub placedTree : Tree
-  placedTree = planted g tree number slot (g .height - 1)
+  abbrev new : Tree
+  new = placedTree g tree number slot
 
-  pub ghost-path : Ghost g after placedTree
-  ghost-path = ghost-planted g f disk after tree whole ghost number slot (g .height - 1) low here path-planted
+  slot-same : slotAt g new 0 number ≡ some slot
+  slot-same = planted-same g tree number slot (g .height - 1) 0 number (omega arith) refl
 
-  pub slotAt-path-same : slotAt g placedTree 0 number ≡ some slot
-  slotAt-path-same = planted-same g tree number slot (g .height - 1) 0 number (omega arith) refl
-
-  pub slotAt-path-other : (other : ℕ) → other ≢ number → slotAt g placedTree 0 other ≡ slotAt g tree 0 other
-  slotAt-path-other other ne =
+  slot-other : (other : ℕ) → other ≢ number → slotAt g new 0 other ≡ slotAt g tree 0 other
+  slot-other other ne =
       planted-other g tree number slot (g .height - 1) 0 other
       (λ e. ne (sym (keyOf-zero g other) ∙ e ∙ keyOf-zero g number))
 
-  pub valueOf-path-same : valueOf g after placedTree number ≡ some content
-  valueOf-path-same =
-      ap (blockIn g after) slotAt-path-same
+  value-same : valueOf g after new number ≡ some content
+  value-same =
+      ap (blockIn g after) slot-same
       ∙ ap {B = Option Bytes} some
       (on-path .in-slot slot (g .height) here (omega (arith, f .height-low)) (omega arith)
       ∙ path-data g disk tree number slot content (g .height - 1) top _)
 
-  pub valueOf-path-other : (other : ℕ) → other < treeCapacity g → other ≢ number →
-      valueOf g after placedTree other ≡ valueOf g disk tree other
-  valueOf-path-other other h ne =
-      ap (blockIn g after) (slotAt-path-other other ne)
+  value-other : (other : ℕ) → other < treeCapacity g → other ≢ number →
+      valueOf g after new other ≡ valueOf g disk tree other
+  value-other other h ne =
+      ap (blockIn g after) (slot-other other ne)
       ∙ blockIn-same g disk after (slotAt g tree 0 other)
       (λ held e.
       path-planted .apart held (g .height) (ghost .links .inside other 0 held h positive e)
-      (λ z. ne (sym (keyOf-zero g other) ∙ ours other 0 h positive (e ∙ ap {B = Option ℕ} some z)
-      ∙ keyOf-zero g number))
-      positive (omega arith))
+      (λ z. ne (shared (e ∙ ap {B = Option ℕ} some z))) positive (omega arith))
     where
       positive : 0 < g .height
       positive = omega (arith, f .height-low)
+
+      shared : slotAt g tree 0 other ≡ some slot → other ≡ number
+      shared e = sym (keyOf-zero g other) ∙ ours other 0 h positive e ∙ keyOf-zero g number
+
+  pub placement : Placement g disk after tree (placedTree g tree number slot) number slot content
+  placement =
+      record {
+        ghost = ghost-planted g f disk after tree whole ghost number slot
+            (g .height - 1) low here path-planted;
+        slot-same = slot-same;
+        slot-other = slot-other;
+        value-same = value-same;
+        value-other = value-other;
+      }
 
 -- ---- random blocks, and blocks written back ----
 

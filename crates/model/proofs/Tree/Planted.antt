@@ -4,7 +4,7 @@ use mathlib.Core.Path.{_≡_}
 use mathlib.Core.Logic.{_≢_, _⊎_}
 use mathlib.Core.Bool.{cond, _&&_}
 use mathlib.Core.Option.{some}
-use Prim.Native.Nat.{ℕ, suc, _+_, _≤_, _<_}
+use Prim.Native.Nat.{ℕ, suc, _+_, _-_, _≤_, _<_}
 use lib.Dec.{eqb, leb}
 use borrow.Author.Tests.{eq-eqb, ne-eqb, le-leb, lt-leb}
 use Rattle.laws.proofs.Cases.{cond-true, cond-false, and-both, and-false-left, and-false-right}
@@ -20,6 +20,10 @@ use Rattle.model.proofs.Tree.Ghost.{Tree, slotAt, nodeAt}
 abbrev pub planted : Geometry → Tree → (number slot top : ℕ) → Tree
 planted g tree number slot top level key =
     cond (leb level top && eqb key (keyOf g level number)) (some slot) (tree level key)
+
+-- the tree with all of a number's path in a slot
+abbrev pub placedTree : Geometry → Tree → (number slot : ℕ) → Tree
+placedTree g tree number slot = planted g tree number slot (g .height - 1)
 
 -- the hidden blocks of all other slots are as they were on another disk
 abbrev pub Apart : Geometry → (disk after : Bytes) → (slot : ℕ) → Type 0

@@ -19,16 +19,15 @@ use Rattle.model.proofs.Laws.Table.{rowAt-ruled}
 use Rattle.model.proofs.Tree.Ghost.{Tree, Ghost, blockIn, valueOf}
 use Rattle.model.proofs.Tree.Live.{GoodNumbers, owner-lt-of-isLive, holds-of-isLive, isBlocked-false}
 use Rattle.model.proofs.Tree.Stored.{Follows}
-use Rattle.model.proofs.Tree.Placing.{placedTree, ghost-path, valueOf-path-same, valueOf-path-other}
-use Rattle.model.proofs.Tree.Placing.{ghost-dummy, valueOf-dummy}
+use Rattle.model.proofs.Tree.Planted.{placedTree}
+use Rattle.model.proofs.Tree.Placing.{placement, ghost-dummy, valueOf-dummy}
 
 -- what a half changes of what the numbers show: nothing, or the number of the hidden write that it places
 pub data Turn (g : Geometry) (state next : HiddenState) (before now : ℕ → Option Bytes) : Type 0 where
   still : next ≡ state → ((number : ℕ) → number < treeCapacity g → now number ≡ before number) →
       Turn g state next before now
   places : (write : HiddenWrite) (later : List HiddenWrite) → state .waiting ≡ write ∷ later →
-      next ≡ placedState state later →
-      now (write .number) ≡ some (write .content) →
+      next ≡ placedState state later → now (write .number) ≡ some (write .content) →
       ((number : ℕ) → number < treeCapacity g → number ≢ write .number → now number ≡ before number) →
       Turn g state next before now
 
@@ -43,38 +42,35 @@ module _ (g : Geometry) (f : Fits g) (disk : Bytes) (tree : Tree)
     (start : Ghost g disk tree) (slot : ℕ) (here : slot < g .slots) (state : HiddenState) where
   -- a half after which every disk that follows it has its tree
   abbrev Turns : HiddenHalf → Type 0
-  Turns part = (after : Bytes) → Follows g disk after (part .trace) →
-      Turned g disk after tree state (part .state)
+  Turns part =
+      (after : Bytes) → Follows g disk after (part .trace) → Turned g disk after tree state (part .state)
 
   -- a live slot: its owner's path anew, the data kept
   turns-live : isLive g disk slot ≡ true →
-      Turns (half (currentPath g disk (ownerOf g disk slot) slot
+      Turns
+      (half (currentPath g disk (ownerOf g disk slot) slot
       (blockAt (g .blockSize) disk (levelAddress g slot 0))) state)
   turns-live live after follows =
+      let placed = placement g f disk after tree whole start owner slot _ low here (λ e. refl) follows in
       record {
-        grown = placedTree g f disk after tree whole start owner slot content low here (λ e. refl) follows;
-        ghost = ghost-path g f disk after tree whole start owner slot content low here (λ e. refl) follows;
-        turn = still refl (λ number h. ⊎-elim
+        grown = placedTree g tree owner slot;
+        ghost = placed .ghost;
+        turn = still refl (λ number h.
+            ⊎-elim
             (λ e.
-            ap (valueOf g after (placedTree g f disk after tree whole start owner slot content low here
-            (λ e. refl) follows)) e
-            ∙ valueOf-path-same g f disk after tree whole start owner slot content low here (λ e. refl) follows
+            ap (valueOf g after (placedTree g tree owner slot)) e ∙ placed .value-same
             ∙ sym (ap (blockIn g disk) (holds-of-isLive g f disk tree start slot live))
             ∙ ap (valueOf g disk tree) (sym e))
-            (valueOf-path-other g f disk after tree whole start owner slot content low here
-            (λ e. refl) follows number h)
-            (eq-cases number owner));
+            (placed .value-other number h) (eq-cases number owner));
       }
     where
       owner : ℕ
       owner = ownerOf g disk slot
 
-      content : Bytes
-      content = blockAt (g .blockSize) disk (levelAddress g slot 0)
-
       low : ownerOf g disk slot < g .hidden
       low = owner-lt-of-isLive g f disk tree start slot live
 
+  -- a slot that is not live and no hidden write waiting
   turns-dummy : isLive g disk slot ≡ false → (random : Bytes) →
       Turns (half (dummyStores g disk slot random) state)
   turns-dummy free random after follows =
@@ -86,47 +82,38 @@ module _ (g : Geometry) (f : Fits g) (disk : Bytes) (tree : Tree)
 
   -- a hidden write placed
   turns-placed : isLive g disk slot ≡ false → (write : HiddenWrite) (later : List HiddenWrite) →
-      state .waiting ≡ write ∷ later →
-      write .number < g .hidden → Turns (half (currentPath g disk (write .number) slot (write .content))
-      (placedState state later))
+      state .waiting ≡ write ∷ later → write .number < g .hidden →
+      Turns (half (currentPath g disk (write .number) slot (write .content)) (placedState state later))
   turns-placed free write later e low after follows =
+      let placed = placement g f disk after tree whole start (write .number) slot (write .content) low here
+      (λ live. true-is-not-false live free) follows in
       record {
-        grown = placedTree g f disk after tree whole start (write .number) slot
-            (write .content) low here mine follows;
-        ghost = ghost-path g f disk after tree whole start (write .number) slot
-            (write .content) low here mine follows;
-        turn =
-            places write later e refl
-            (valueOf-path-same g f disk after tree whole start (write .number) slot
-            (write .content) low here mine follows)
-            (valueOf-path-other g f disk after tree whole start (write .number) slot
-            (write .content) low here mine follows);
+        grown = placedTree g tree (write .number) slot;
+        ghost = placed .ghost;
+        turn = places write later e refl (placed .value-same) (placed .value-other);
       }
-    where
-      mine : isLive g disk slot ≡ true → ownerOf g disk slot ≡ write .number
-      mine live = true-is-not-false live free
 
   -- the table's choice for the slot
   choice-live : isLive g disk slot ≡ true → rowOf g disk slot (state .waiting) .hidden ≡ keepHidden
-  choice-live live = ap (λ (chosen : Row). chosen .hidden)
+  choice-live live =
+      ap (λ (chosen : Row). chosen .hidden)
       (rowAt-ruled (isWaiting (state .waiting)) (isAllocated g disk slot) (isLive g disk slot)) ∙ rw live
 
-  choice-free : isLive g disk slot ≡ false → rowOf g disk slot (state .waiting) .hidden ≡
-      cond (isWaiting (state .waiting)) placeHidden fillHidden
-  choice-free free = ap (λ (chosen : Row). chosen .hidden)
+  choice-free : isLive g disk slot ≡ false →
+      rowOf g disk slot (state .waiting) .hidden ≡ cond (isWaiting (state .waiting)) placeHidden fillHidden
+  choice-free free =
+      ap (λ (chosen : Row). chosen .hidden)
       (rowAt-ruled (isWaiting (state .waiting)) (isAllocated g disk slot) (isLive g disk slot)) ∙ rw free
 
   turns-free : isLive g disk slot ≡ false → (random : Bytes) (waiting : List HiddenWrite) →
-      state .waiting ≡ waiting →
-      GoodNumbers g waiting →
+      state .waiting ≡ waiting → GoodNumbers g waiting →
       Turns (hiddenBy (cond (isWaiting waiting) placeHidden fillHidden) g disk slot random state waiting)
   unfolding hiddenBy
   turns-free free random [] e h = turns-dummy free random
   turns-free free random (write ∷ later) e h = turns-placed free write later e (h .0)
 
   pub hiddenHalf-turns :
-      (random : Bytes) → GoodNumbers g (state .waiting) →
-      (after : Bytes) →
+      (random : Bytes) → GoodNumbers g (state .waiting) → (after : Bytes) →
       Follows g disk after (hiddenHalf g disk slot random state .trace) →
       Turned g disk after tree state (hiddenHalf g disk slot random state .state)
   unfolding hiddenHalf hiddenBy
@@ -140,6 +127,5 @@ module _ (g : Geometry) (f : Fits g) (disk : Bytes) (tree : Tree)
       (sym (choice-live e)) (turns-live e))
       (λ e.
       subst (λ (choice : HiddenChoice). Turns (hiddenBy choice g disk slot random state (state .waiting)))
-      (sym (choice-free e))
-      (turns-free e random (state .waiting) refl h))
+      (sym (choice-free e)) (turns-free e random (state .waiting) refl h))
       (bool-cases (isLive g disk slot)))

@@ -55,6 +55,7 @@ limits =
       refusal-ten = refl;
       refusal-eleven = refl;
       refusal-twelve = refl;
+      list-rest = same-of-isSame _ _ refl;
       format-leaves = same-of-isSame _ _ refl;
       three-lines = same-of-isSame threeLines listedDrive refl;
     }

@@ -10,7 +10,7 @@ use Rattle.model.specs.Geometry.{Geometry, blockCount, driveSize}
 use Rattle.model.specs.Blocks.{Bytes, DiskAddress, setEntry, setBlock}
 use Rattle.model.specs.HiddenHalf.{HiddenWrite}
 use Rattle.model.specs.Refusals.{sizeRefusal, driveRefusal, publicReadRefusal, hiddenReadRefusal, writeRefusal}
-use Rattle.model.specs.Calls.{formatted, written, writtenDisk, outcomeNumber}
+use Rattle.model.specs.Calls.{formatted, written, writtenDisk, writtenList}
 use Rattle.model.specs.Promises.Figures.{geometry, small, formatAnswer, fresh, filled}
 
 -- ---- geometries at the limit ----
@@ -119,6 +119,10 @@ pub record Limits : Type 0 where
   pub refusal-ten : hiddenReadRefusal fresh 2 (filled 0) ≡ 10
   pub refusal-eleven : hiddenReadRefusal fresh 1 (replicate 33 0) ≡ 11
   pub refusal-twelve : hiddenReadRefusal (withFirstEntry 3 6) 0 (filled 0) ≡ 12
+  -- list entries past the stores keep their values
+  pub list-rest :
+    writtenList (written fresh 0 (filled 7) (replicate 64 165) 23 none) (replicate 23 99) ≡
+    (4 ∷ 5 ∷ 6 ∷ 3 ∷ 1 ∷ 2 ∷ 0 ∷ []) ++ replicate 16 99
   -- formatting leaves the data area
   pub format-leaves :
       formatted (replicate 512 170) small ≡

@@ -91,8 +91,16 @@ module _ (g : Geometry) where
       leb (blockCount g) 2147483647 ≡ isGeometry g
   unfolding isGeometry
   left-to-blocks e a b c d p q r =
-      rw (e, le-leb 2 (g .height) a, le-leb (g .height) 4 b, le-leb 1 (g .publics) c, le-leb 1 (g .hidden) d,
-      lt-ltb (g .publics) (g .slots) p, lt-ltb (g .hidden) (g .slots) q, le-leb (g .hidden) (treeCapacity g) r)
+      rw (
+        e,
+        le-leb 2 (g .height) a,
+        le-leb (g .height) 4 b,
+        le-leb 1 (g .publics) c,
+        le-leb 1 (g .hidden) d,
+        lt-ltb (g .publics) (g .slots) p,
+        lt-ltb (g .hidden) (g .slots) q,
+        le-leb (g .hidden) (treeCapacity g) r,
+      )
 
 -- ---- bounds ----
 

@@ -45,8 +45,12 @@ bit-at-requires : tie.Need-bit-at-requires
 bit-at-requires c κs =
     let s = c .before .before .before .before in
     let g = geometryOf (s .args .g) in
-    rw (c .bit-place .ensures, shown (c .before), length-blockAt (g .blockSize) (s .args .disk .now) (blockCount g) (s .pre .0 .whole)
-    (bitAddress g (s .args .slot)) (address-inside s)) (bitPlace-byte-lt g (s .pre .0 .fits) (s .args .slot))
+    rw (
+      c .bit-place .ensures,
+      shown (c .before),
+      length-blockAt (g .blockSize) (s .args .disk .now) (blockCount g) (s .pre .0 .whole)
+          (bitAddress g (s .args .slot)) (address-inside s),
+    ) (bitPlace-byte-lt g (s .pre .0 .fits) (s .args .slot))
 
 returns : tie.Need-returns
 returns c =

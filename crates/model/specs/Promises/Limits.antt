@@ -121,8 +121,8 @@ pub record Limits : Type 0 where
   pub refusal-twelve : hiddenReadRefusal (withFirstEntry 3 6) 0 (filled 0) ≡ 12
   -- list entries past the stores keep their values
   pub list-rest :
-    writtenList (written fresh 0 (filled 7) (replicate 64 165) 23 none) (replicate 23 99) ≡
-    (4 ∷ 5 ∷ 6 ∷ 3 ∷ 1 ∷ 2 ∷ 0 ∷ []) ++ replicate 16 99
+      writtenList (written fresh 0 (filled 7) (replicate 64 165) 23 none) (replicate 23 99) ≡
+      (4 ∷ 5 ∷ 6 ∷ 3 ∷ 1 ∷ 2 ∷ 0 ∷ []) ++ replicate 16 99
   -- formatting leaves the data area
   pub format-leaves :
       formatted (replicate 512 170) small ≡

@@ -1,0 +1,3 @@
+-- The laws of the stores' record.
+pub mod Made
+pub mod Copies

@@ -1,0 +1,94 @@
+-- `store_through` meets its contract: the buffer takes the block, then its change, and is stored. Assumes
+-- nothing.
+use mathlib.Core.Path.{_≡_, sym, ap, subst, _∙_}
+use mathlib.Core.List.{[], _∷_}
+use Prim.Native.Nat.{ℕ}
+use native.Mathlib.Omega.{arith}
+use borrow.Author.Needs.{needs}
+use lib.ListN.{length}
+use Rattle.laws.proofs.Lists.{over-whole}
+use Rattle.model.specs.Geometry.{blockCount}
+use Rattle.model.specs.Blocks.{Bytes, blockAt}
+use Rattle.model.specs.Stores.{store}
+use Rattle.model.proofs.Laws.Blocks.{length-blockAt}
+use Rattle.layout.specs.Geometries.{geometryOf}
+use Rattle.stores.specs.Made.{Made}
+use Rattle.stores.specs.Changes.{changed, Inside}
+use Rattle.stores.proofs.blocks.store_through.Statement.{statement}
+use Rattle.stores.proofs.blocks.store_through.Tie as tie
+
+block-at-requires : tie.Need-block-at-requires
+block-at-requires c κs = search needs
+
+-- the block that is taken out is as long as the buffer
+taken : (c : tie.After-block-at) →
+    let start = c .before .before .before .before .before .before in
+    length (c .block-at .result .now) ≡ length (start .args .own .now)
+taken c =
+    let start = c .before .before .before .before .before .before in
+    let g = geometryOf (start .args .g) in
+    ap length (c .block-at .ensures)
+    ∙ length-blockAt (g .blockSize) (start .args .disk .now) (blockCount g) (start .pre .0 .whole)
+    (start .args .address .0)
+    (start .pre .1 .0)
+    ∙ sym (start .pre .1 .1 .1 .0)
+
+copy-to-requires : tie.Need-copy-to-requires
+copy-to-requires c κs = omega (arith, taken c)
+
+change-block-requires : tie.Need-change-block-requires
+change-block-requires c κs =
+    let copied = c .before .before .before in
+    let start = copied .before .before .before .before .before .before .before in
+    subst (λ (n : ℕ). Inside n (start .args .change))
+    (sym (copied .copy-to .kept .0 ∙ start .pre .1 .1 .1 .0))
+    (start .pre .1 .1 .0)
+
+store-block-requires : tie.Need-store-block-requires
+store-block-requires c κs = search needs
+
+same-length : tie.Need-same-length
+same-length c = search needs
+
+same-length-2 : tie.Need-same-length-2
+same-length-2 c = search needs
+
+same-length-3 : tie.Need-same-length-3
+same-length-3 c = search needs
+
+-- what the buffer holds when it is stored
+made : (c : tie.After-change-block) →
+    let copied = c .before .before .before .before in
+    let start = copied .before .before .before .before .before .before .before in
+    c .change-block .last .0 ≡
+    changed (start .args .change) (blockAt (start .args .g .«block_size») (start .args .disk .now)
+    (start .args .address .0))
+made c =
+    let copied = c .before .before .before .before in
+    let start = copied .before .before .before .before .before .before .before in
+    c .change-block .ensures
+    ∙ ap (changed (start .args .change))
+    (copied .copy-to .ensures
+    ∙ over-whole (copied .before .block-at .result .now) (start .args .own .now) (taken (copied .before))
+    ∙ copied .before .block-at .ensures)
+
+returns : tie.Need-returns
+returns c =
+    let stored = c .before .before .before .before in
+    let altered = stored .before .before .before .before .before .before in
+    let start =
+    altered .before .before .before .before .before .before .before .before .before .before .before in
+    subst
+    (λ (block : Bytes).
+    Made (start .args .g .«block_size») (store (start .args .address .0) block ∷ [])
+    (start .args .disk .now)
+    (start .args .list .now) (start .args .next) (stored .store-block .last .0)
+    (stored .store-block .last .1 .0)
+    (stored .store-block .result))
+    (made altered) (stored .store-block .ensures)
+
+pub store-through-spec : {M : Type 1} → statement M
+store-through-spec =
+    tie.close
+    (tie.spec block-at-requires copy-to-requires change-block-requires store-block-requires same-length same-length-2
+    same-length-3 returns)

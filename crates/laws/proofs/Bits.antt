@@ -1,5 +1,5 @@
--- Laws of bits: of a byte, then of a list of bytes; read after write at the same and at another place, lengths, bound.
--- Assumes nothing.
+-- Laws of bits: of a byte, then of a list of bytes; read after write at the same and at another place,
+-- lengths, bound. Assumes nothing.
 use mathlib.Core.Path.{_≡_, refl, sym, ap, _∙_}
 use mathlib.Core.Logic.{_≢_, _⊎_, inl, inr, ⊎-elim}
 use mathlib.Core.Bool.{Bool, true, false, cond}
@@ -33,7 +33,8 @@ digitOf-set-same byte (suc place) h =
     ∙ digitOf-set-same (byte / 2) place (sym (digitOf-suc byte place) ∙ h)
 
 digitOf-set-other :
-    (byte place other : ℕ) → digitOf byte place ≡ 0 → other ≢ place → digitOf (byte + 2 ^ place) other ≡ digitOf byte other
+    (byte place other : ℕ) → digitOf byte place ≡ 0 → other ≢ place →
+    digitOf (byte + 2 ^ place) other ≡ digitOf byte other
 digitOf-set-other byte zero zero h ne = absurd (ne refl)
 digitOf-set-other byte zero (suc other) h ne =
     let e : (byte + 1) / 2 ≡ byte / 2 = omega arith in
@@ -60,7 +61,8 @@ digitOf-clear-same byte (suc place) h =
     ∙ digitOf-clear-same (byte / 2) place (sym (digitOf-suc byte place) ∙ h)
 
 digitOf-clear-other :
-    (byte place other : ℕ) → digitOf byte place ≡ 1 → other ≢ place → digitOf (byte - 2 ^ place) other ≡ digitOf byte other
+    (byte place other : ℕ) → digitOf byte place ≡ 1 → other ≢ place →
+    digitOf (byte - 2 ^ place) other ≡ digitOf byte other
 digitOf-clear-other byte zero zero h ne = absurd (ne refl)
 digitOf-clear-other byte zero (suc other) h ne =
     let e : (byte - 1) / 2 ≡ byte / 2 = omega arith in
@@ -105,26 +107,32 @@ pub withBit-clear-already : (place byte : ℕ) → bitOf place byte ≡ false �
 unfolding withBit
 withBit-clear-already place byte e = rw e
 
-pub bitOf-withBit-same : (place : ℕ) (isSet : Bool) (byte : ℕ) → bitOf place (withBit place isSet byte) ≡ isSet
+pub bitOf-withBit-same : (place : ℕ) (isSet : Bool) (byte : ℕ) →
+    bitOf place (withBit place isSet byte) ≡ isSet
 unfolding bitOf
 bitOf-withBit-same place isSet byte = by isSet (bool-cases (bitOf place byte))
   where
-    by : (isSet : Bool) → (bitOf place byte ≡ true) ⊎ (bitOf place byte ≡ false) → bitOf place (withBit place isSet byte) ≡ isSet
+    by : (isSet : Bool) → (bitOf place byte ≡ true) ⊎ (bitOf place byte ≡ false) →
+        bitOf place (withBit place isSet byte) ≡ isSet
     by true (inl e) = ap (bitOf place) (withBit-set-already place byte e) ∙ e
     by true (inr e) =
         ap (bitOf place) (withBit-set place byte e)
-        ∙ eq-eqb (digitOf (byte + 2 ^ place) place) 1 (digitOf-set-same byte place (zero-of-bitOf place byte e))
+        ∙ eq-eqb (digitOf (byte + 2 ^ place) place) 1
+        (digitOf-set-same byte place (zero-of-bitOf place byte e))
     by false (inl e) =
         ap (bitOf place) (withBit-clear place byte e)
-        ∙ ne-eqb (digitOf (byte - 2 ^ place) place) 1 (λ z. omega (arith, digitOf-clear-same byte place (one-of-bitOf place byte e)))
+        ∙ ne-eqb (digitOf (byte - 2 ^ place) place) 1
+        (λ z. omega (arith, digitOf-clear-same byte place (one-of-bitOf place byte e)))
     by false (inr e) = ap (bitOf place) (withBit-clear-already place byte e) ∙ e
 
 pub bitOf-withBit-other :
-    (place other : ℕ) (isSet : Bool) (byte : ℕ) → other ≢ place → bitOf other (withBit place isSet byte) ≡ bitOf other byte
+    (place other : ℕ) (isSet : Bool) (byte : ℕ) → other ≢ place →
+    bitOf other (withBit place isSet byte) ≡ bitOf other byte
 unfolding bitOf
 bitOf-withBit-other place other isSet byte ne = by isSet (bool-cases (bitOf place byte))
   where
-    by : (isSet : Bool) → (bitOf place byte ≡ true) ⊎ (bitOf place byte ≡ false) → bitOf other (withBit place isSet byte) ≡ bitOf other byte
+    by : (isSet : Bool) → (bitOf place byte ≡ true) ⊎ (bitOf place byte ≡ false) →
+        bitOf other (withBit place isSet byte) ≡ bitOf other byte
     by true (inl e) = ap (bitOf other) (withBit-set-already place byte e)
     by true (inr e) =
         ap (bitOf other) (withBit-set place byte e)
@@ -136,15 +144,18 @@ bitOf-withBit-other place other isSet byte ne = by isSet (bool-cases (bitOf plac
 
 -- ---- a bit of a list of bytes ----
 
-pub length-setBit : (place : ℕ) (isSet : Bool) (bytes : List ℕ) → length (setBit place isSet bytes) ≡ length bytes
+pub length-setBit : (place : ℕ) (isSet : Bool) (bytes : List ℕ) →
+    length (setBit place isSet bytes) ≡ length bytes
 unfolding setBit
 length-setBit place isSet bytes = length-set bytes (place / 8) _
 
 pub bitAt-setBit-same :
-    (place : ℕ) (isSet : Bool) (bytes : List ℕ) → place / 8 < length bytes → bitAt place (setBit place isSet bytes) ≡ isSet
+    (place : ℕ) (isSet : Bool) (bytes : List ℕ) → place / 8 < length bytes →
+    bitAt place (setBit place isSet bytes) ≡ isSet
 unfolding bitAt setBit
 bitAt-setBit-same place isSet bytes h =
-    ap (bitOf (place % 8)) (getD-set-same bytes (place / 8) (withBit (place % 8) isSet (getD bytes (place / 8) 0)) 0 h)
+    ap (bitOf (place % 8)) (getD-set-same bytes (place / 8)
+    (withBit (place % 8) isSet (getD bytes (place / 8) 0)) 0 h)
     ∙ bitOf-withBit-same (place % 8) isSet (getD bytes (place / 8) 0)
 
 pub bitAt-setBit-other :
@@ -157,7 +168,8 @@ bitAt-setBit-other place other isSet bytes h ne = by (eq-cases (other / 8) (plac
     byte = withBit (place % 8) isSet (getD bytes (place / 8) 0)
 
     by : (other / 8 ≡ place / 8) ⊎ (other / 8 ≢ place / 8) →
-        bitOf (other % 8) (getD (set bytes (place / 8) byte) (other / 8) 0) ≡ bitOf (other % 8) (getD bytes (other / 8) 0)
+        bitOf (other % 8) (getD (set bytes (place / 8) byte) (other / 8) 0) ≡
+        bitOf (other % 8) (getD bytes (other / 8) 0)
     by (inl e) =
         let apart : other % 8 ≢ place % 8 = omega arith in
         ap (λ (n : ℕ). bitOf (other % 8) (getD (set bytes (place / 8) byte) n 0)) e

@@ -1,4 +1,5 @@
--- Cases of a test, an order and an equation; conjunctions and disjunctions of tests; what a choice gives. Assumes nothing.
+-- Cases of a test, an order and an equation; conjunctions and disjunctions of tests; what a choice gives.
+-- Assumes nothing.
 use mathlib.Core.Path.{_≡_, refl}
 use mathlib.Core.Logic.{_≢_, _⊎_, inl, inr}
 use mathlib.Core.Bool.{Bool, true, false, _&&_, _||_, cond}
@@ -82,6 +83,7 @@ module _ {A : Type 0} where
   cond-false x y p = rw p
 
   -- what holds of both ways of a choice, each known by its test
-  pub cond-cases : (P : A → Type 0) (b : Bool) {x y : A} → (b ≡ true → P x) → (b ≡ false → P y) → P (cond b x y)
+  pub cond-cases : (P : A → Type 0) (b : Bool) {x y : A} → (b ≡ true → P x) → (b ≡ false → P y) →
+      P (cond b x y)
   cond-cases P true p q = p refl
   cond-cases P false p q = q refl

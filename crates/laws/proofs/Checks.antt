@@ -14,11 +14,13 @@ pub firstOf-nil : firstOf [] ≡ 0
 unfolding firstOf
 firstOf-nil = refl
 
-pub firstOf-stop : {holds : Bool} (number : ℕ) (cs : List Check) → holds ≡ true → firstOf (check holds number ∷ cs) ≡ number
+pub firstOf-stop : {holds : Bool} (number : ℕ) (cs : List Check) → holds ≡ true →
+    firstOf (check holds number ∷ cs) ≡ number
 unfolding firstOf
 firstOf-stop number cs e = rw e
 
-pub firstOf-pass : {holds : Bool} (number : ℕ) (cs : List Check) → holds ≡ false → firstOf (check holds number ∷ cs) ≡ firstOf cs
+pub firstOf-pass : {holds : Bool} (number : ℕ) (cs : List Check) → holds ≡ false →
+    firstOf (check holds number ∷ cs) ≡ firstOf cs
 unfolding firstOf
 firstOf-pass number cs e = rw e
 
@@ -52,7 +54,8 @@ unfolding firstOf
 passed-of-zero [] n e = tt
 passed-of-zero (c ∷ cs) n e = by (c .holds) refl e (λ z. passed-of-zero cs (n .1) z)
   where
-    by : (b : Bool) → c .holds ≡ b → cond b (c .number) (firstOf cs) ≡ 0 → (firstOf cs ≡ 0 → Passed cs) → (c .holds ≡ false) × Passed cs
+    by : (b : Bool) → c .holds ≡ b → cond b (c .number) (firstOf cs) ≡ 0 → (firstOf cs ≡ 0 → Passed cs) →
+        (c .holds ≡ false) × Passed cs
     by true p z later = absurd (n .0 z)
     by false p z later = (p, later z)
 

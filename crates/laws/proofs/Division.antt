@@ -9,12 +9,17 @@ use Rattle.laws.specs.Division.{ceilDiv}
 
 -- so many pieces hold the whole
 pub ceilDiv-covers : (whole piece : ℕ) → 0 < piece → whole ≤ ceilDiv whole piece * piece
-ceilDiv-covers whole piece h = omega (arith, div-add-mod' (whole + piece - 1) piece, mod-lt (whole + piece - 1) h)
+ceilDiv-covers whole piece h =
+    omega (arith, div-add-mod' (whole + piece - 1) piece, mod-lt (whole + piece - 1) h)
 
 -- whatever stands in the whole stands in one of its pieces
 pub div-ceilDiv-lt : (index whole piece : ℕ) → index < whole → 0 < piece → index / piece < ceilDiv whole piece
 div-ceilDiv-lt index whole piece h p =
-    div-lt-iff-lt-mul p .1 (omega (arith, div-add-mod' (whole + piece - 1) piece, mod-lt (whole + piece - 1) p))
+    div-lt-iff-lt-mul p .1 (omega (
+      arith,
+      div-add-mod' (whole + piece - 1) piece,
+      mod-lt (whole + piece - 1) p,
+    ))
 
 -- ---- small powers ----
 

@@ -1,5 +1,5 @@
--- Laws of `part` and `over`: lengths, equations, read after write at the same place, before and after it, one element;
--- and equality of lists of numbers by a test. Assumes nothing.
+-- Laws of `part` and `over`: lengths, equations, read after write at the same place, before and after it, one
+-- element; and equality of lists of numbers by a test. Assumes nothing.
 use mathlib.Core.Path.{_≡_, refl, sym, ap, ap₂, _∙_}
 use mathlib.Core.Logic.{⊎-elim}
 use mathlib.Core.Bool.{Bool, true, false, _&&_}
@@ -9,8 +9,11 @@ use native.Mathlib.Nat.{suc-add, zero-add, add-zero}
 use native.Mathlib.Numerals.{add-one}
 use native.Mathlib.Omega.{arith}
 use lib.Dec.{eqb}
-use lib.ListN.{length, getD, take, drop, set, replicate, length-append, length-take, length-drop, take-append-drop, drop-of-length-le, List·getD-eq-default}
-use lib.Seq.{length-take-le, take-at, drop-at, take-append-le, drop-append-add, drop-drop, take-take, take-nil, getD-take, getD-drop, drop-set-add, take-set-lt, drop-set-lt, take-set-le, set-split, append-snoc, take-add}
+use lib.ListN.{length, getD, take, drop, set, replicate, length-append, length-take, length-drop}
+use lib.ListN.{take-append-drop, drop-of-length-le, List·getD-eq-default}
+use lib.Seq.{length-take-le, take-at, drop-at, take-append-le, drop-append-add, drop-drop, take-take}
+use lib.Seq.{take-nil, getD-take, getD-drop, drop-set-add, take-set-lt, drop-set-lt, take-set-le, set-split}
+use lib.Seq.{append-snoc, take-add}
 use borrow.Author.Tests.{eqb-true}
 use Rattle.laws.specs.Lists.{part, over}
 use Rattle.laws.proofs.Cases.{lt-cases, and-left, and-right, true-is-not-false}
@@ -22,11 +25,13 @@ module _ {A : Type 0} where
   unfolding part
   part-is from size xs = refl
 
-  pub length-part : (from size : ℕ) (xs : List A) → from + size ≤ length xs → length (part from size xs) ≡ size
+  pub length-part : (from size : ℕ) (xs : List A) → from + size ≤ length xs →
+      length (part from size xs) ≡ size
   unfolding part
   length-part from size xs h = length-take-le size (drop from xs) (simp length-drop (omega arith))
 
-  pub getD-part : (from size index : ℕ) (xs : List A) (d : A) → index < size → getD (part from size xs) index d ≡ getD xs (from + index) d
+  pub getD-part : (from size index : ℕ) (xs : List A) (d : A) → index < size →
+      getD (part from size xs) index d ≡ getD xs (from + index) d
   unfolding part
   getD-part from size index xs d h = rw (getD-take, getD-drop)
 
@@ -45,34 +50,43 @@ module _ {A : Type 0} where
       part index count (part from size xs) ≡ part (from + index) count xs
   unfolding part
   part-part from size index count xs h =
-      part-of-take index count (part from size xs) ∙ ap (drop index) (take-take (index + count) size (drop from xs) h)
+      part-of-take index count (part from size xs) ∙ ap (drop index)
+      (take-take (index + count) size (drop from xs) h)
       ∙ sym (part-of-take index count (drop from xs)) ∙ ap (take count) (drop-drop index from xs)
 
   -- two parts that touch
   pub part-add :
-      (from size more : ℕ) (xs : List A) → part from (size + more) xs ≡ part from size xs ++ part (from + size) more xs
+      (from size more : ℕ) (xs : List A) → part from (size + more) xs ≡ part from size xs ++
+      part (from + size) more xs
   unfolding part
   part-add from size more xs =
-      take-add size more (drop from xs) ∙ ap (λ (ys : List A). take size (drop from xs) ++ take more ys) (drop-drop size from xs)
+      take-add size more (drop from xs) ∙ ap (λ (ys : List A). take size (drop from xs) ++ take more ys)
+      (drop-drop size from xs)
 
   -- ---- one element set ----
 
   pub part-set-in :
-      (from size index : ℕ) (x : A) (xs : List A) → index < size → part from size (set xs (from + index) x) ≡ set (part from size xs) index x
+      (from size index : ℕ) (x : A) (xs : List A) → index < size →
+      part from size (set xs (from + index) x) ≡ set (part from size xs) index x
   unfolding part
-  part-set-in from size index x xs h = ap (take size) (drop-set-add from xs index x) ∙ take-set-lt size (drop from xs) index x h
+  part-set-in from size index x xs h =
+      ap (take size) (drop-set-add from xs index x) ∙ take-set-lt size (drop from xs) index x h
 
-  pub part-set-before : (from size index : ℕ) (x : A) (xs : List A) → index < from → part from size (set xs index x) ≡ part from size xs
+  pub part-set-before : (from size index : ℕ) (x : A) (xs : List A) → index < from →
+      part from size (set xs index x) ≡ part from size xs
   unfolding part
   part-set-before from size index x xs h = ap (take size) (drop-set-lt from xs index x h)
 
-  pub part-set-after : (from size index : ℕ) (x : A) (xs : List A) → from + size ≤ index → part from size (set xs index x) ≡ part from size xs
+  pub part-set-after : (from size index : ℕ) (x : A) (xs : List A) → from + size ≤ index →
+      part from size (set xs index x) ≡ part from size xs
   part-set-after from size index x xs h =
-      part-of-take from size (set xs index x) ∙ ap (drop from) (take-set-le (from + size) xs index x h) ∙ sym (part-of-take from size xs)
+      part-of-take from size (set xs index x) ∙ ap (drop from) (take-set-le (from + size) xs index x h)
+      ∙ sym (part-of-take from size xs)
 
   -- ---- over ----
 
-  pub over-is : (from : ℕ) (new old : List A) → over from new old ≡ take from old ++ new ++ drop (from + length new) old
+  pub over-is : (from : ℕ) (new old : List A) → over from new old ≡ take from old ++ new ++
+      drop (from + length new) old
   unfolding over
   over-is from new old = refl
 
@@ -101,26 +115,33 @@ module _ {A : Type 0} where
         let l : index ≤ length (take from old) = omega arith in
         rw (append-assoc, take-append-le index (take from old), take-take)
 
-    pub drop-over-after : (index : ℕ) → from + length new ≤ index → drop index (over from new old) ≡ drop index old
+    pub drop-over-after : (index : ℕ) → from + length new ≤ index →
+        drop index (over from new old) ≡ drop index old
     unfolding over
     drop-over-after index h =
         let t : length (take from old) ≡ from = length-front in
-        let r : length (take from old ++ new) + (index - (from + length new)) ≡ index = simp length-append (omega arith) in
+        let r : length (take from old ++ new) + (index - (from + length new)) ≡ index =
+        simp length-append (omega arith) in
         let q : drop (length (take from old ++ new) + (index - (from + length new))) (over from new old) ≡
         drop (index - (from + length new)) (drop (from + length new) old) =
         drop-append-add (take from old ++ new) (drop (from + length new) old) (index - (from + length new)) in
         let u : from + length new + (index - (from + length new)) ≡ index = omega arith in
-        rw r at q ∙ drop-drop (index - (from + length new)) (from + length new) old ∙ ap (λ (n : ℕ). drop n old) u
+        rw r at q ∙ drop-drop (index - (from + length new)) (from + length new) old
+        ∙ ap (λ (n : ℕ). drop n old) u
 
-    pub part-over-before : (index count : ℕ) → index + count ≤ from → part index count (over from new old) ≡ part index count old
+    pub part-over-before : (index count : ℕ) → index + count ≤ from →
+        part index count (over from new old) ≡ part index count old
     part-over-before index count h =
-        part-of-take index count (over from new old) ∙ rw take-over-before (sym (part-of-take index count old))
+        part-of-take index count (over from new old) ∙ rw take-over-before
+        (sym (part-of-take index count old))
 
-    pub part-over-after : (index count : ℕ) → from + length new ≤ index → part index count (over from new old) ≡ part index count old
+    pub part-over-after : (index count : ℕ) → from + length new ≤ index →
+        part index count (over from new old) ≡ part index count old
     unfolding part
     part-over-after index count h = ap (take count) (drop-over-after index h)
 
-    pub getD-over-after : (index : ℕ) (d : A) → from + length new ≤ index → getD (over from new old) index d ≡ getD old index d
+    pub getD-over-after : (index : ℕ) (d : A) → from + length new ≤ index →
+        getD (over from new old) index d ≡ getD old index d
     getD-over-after index d h =
         let e : index + 0 ≡ index = omega arith in
         ap (λ (n : ℕ). getD (over from new old) n d) (sym e) ∙ sym (getD-drop index (over from new old) 0 d)
@@ -137,14 +158,19 @@ module _ {A : Type 0} where
     over-append more h =
         let t : length (take from old) ≡ from = length-front in
         let p : take (from + length new) (over from new old) ≡ take from old ++ new =
-        take-at (take from old ++ new) (drop (from + length new) old) (from + length new) (simp length-append (omega arith)) in
-        let q : drop (from + length new + length more) (over from new old) ≡ drop (from + length new + length more) old =
+        take-at (take from old ++ new) (drop (from + length new) old) (from + length new)
+        (simp length-append (omega arith)) in
+        let q : drop (from + length new + length more) (over from new old) ≡
+        drop (from + length new + length more) old =
         drop-over-after (from + length new + length more) (omega arith) in
-        let e : from + length (new ++ more) ≡ from + length new + length more = simp length-append (omega arith) in
-        rw (p, q, e) (ap (λ (ys : List A). ys ++ drop (from + length new + length more) old) (append-assoc (take from old) new more))
+        let e : from + length (new ++ more) ≡ from + length new + length more =
+        simp length-append (omega arith) in
+        rw (p, q, e) (ap (λ (ys : List A). ys ++ drop (from + length new + length more) old)
+        (append-assoc (take from old) new more))
 
     -- the same place written again
-    pub over-over-same : (again : List A) → length again ≡ length new → over from again (over from new old) ≡ over from again old
+    pub over-over-same : (again : List A) → length again ≡ length new →
+        over from again (over from new old) ≡ over from again old
     unfolding over
     over-over-same again e =
         let p : take from (over from new old) ≡ take from old = take-over-before from (omega arith) in
@@ -164,7 +190,8 @@ module _ {A : Type 0} where
   unfolding over
   over-whole new old e = rw (drop-of-length-le old {i = 0 + length new} (omega arith)) (append-nil new)
 
-  pub over-one : (xs : List A) (index : ℕ) (x : A) → index < length xs → over index (x ∷ []) xs ≡ set xs index x
+  pub over-one : (xs : List A) (index : ℕ) (x : A) → index < length xs →
+      over index (x ∷ []) xs ≡ set xs index x
   unfolding over
   over-one xs index x h = rw (add-one, append-snoc) (sym (set-split xs index x h))
 
@@ -176,7 +203,8 @@ getD-zeros (suc size) zero = refl
 getD-zeros (suc size) (suc index) = getD-zeros size index
 
 -- a part of what is all 0
-pub getD-part-zeros : (from size index : ℕ) (xs : List ℕ) → ((at : ℕ) → getD xs at 0 ≡ 0) → getD (part from size xs) index 0 ≡ 0
+pub getD-part-zeros : (from size index : ℕ) (xs : List ℕ) → ((at : ℕ) → getD xs at 0 ≡ 0) →
+    getD (part from size xs) index 0 ≡ 0
 unfolding part
 getD-part-zeros from size index xs h = ⊎-elim inside outside (lt-cases index size)
   where
@@ -184,7 +212,8 @@ getD-part-zeros from size index xs h = ⊎-elim inside outside (lt-cases index s
     inside l = getD-take size (drop from xs) index 0 l ∙ getD-drop from xs index 0 ∙ h (from + index)
 
     outside : size ≤ index → getD (take size (drop from xs)) index 0 ≡ 0
-    outside l = List·getD-eq-default (take size (drop from xs)) 0 (omega (arith, length-take size (drop from xs)))
+    outside l =
+        List·getD-eq-default (take size (drop from xs)) 0 (omega (arith, length-take size (drop from xs)))
 
 -- ---- equality by a test ----
 

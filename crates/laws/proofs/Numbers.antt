@@ -36,7 +36,8 @@ numberOf-littleEndian (suc size) value h =
     rw (numberOf-littleEndian size (value / 256) l) (omega arith)
 
 pub littleEndian-numberOf :
-    (bytes : List ℕ) → ((index : ℕ) → getD bytes index 0 < 256) → littleEndian (length bytes) (numberOf bytes) ≡ bytes
+    (bytes : List ℕ) → ((index : ℕ) → getD bytes index 0 < 256) →
+    littleEndian (length bytes) (numberOf bytes) ≡ bytes
 unfolding numberOf littleEndian
 littleEndian-numberOf [] h = refl
 littleEndian-numberOf (byte ∷ bytes) h =
@@ -48,7 +49,8 @@ littleEndian-numberOf (byte ∷ bytes) h =
 
 -- ---- bound ----
 
-pub numberOf-lt : (bytes : List ℕ) → ((index : ℕ) → getD bytes index 0 < 256) → numberOf bytes < 256 ^ length bytes
+pub numberOf-lt : (bytes : List ℕ) → ((index : ℕ) → getD bytes index 0 < 256) →
+    numberOf bytes < 256 ^ length bytes
 unfolding numberOf
 numberOf-lt [] h = omega arith
 numberOf-lt (byte ∷ bytes) h =

@@ -12,7 +12,8 @@ bitOf place byte = eqb (byte / 2 ^ place % 2) 1
 -- the byte with that bit 1 or 0 as asked, its other bits kept
 unfoldable pub withBit : (place : ℕ) → (isSet : Bool) → (byte : ℕ) → ℕ
 withBit place isSet byte =
-    cond isSet (cond (bitOf place byte) byte (byte + 2 ^ place)) (cond (bitOf place byte) (byte - 2 ^ place) byte)
+    cond isSet (cond (bitOf place byte) byte (byte + 2 ^ place))
+    (cond (bitOf place byte) (byte - 2 ^ place) byte)
 
 -- whether a bit of a list of bytes is 1
 unfoldable pub bitAt : (place : ℕ) → (bytes : List ℕ) → Bool

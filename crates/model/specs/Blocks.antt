@@ -1,5 +1,5 @@
--- Blocks of a run of bytes, over their width, and entries of four bytes, least byte first (document 01, "The disk").
--- Assumes nothing.
+-- Blocks of a run of bytes, over their width, and entries of four bytes, least byte first (document 01, "The
+-- disk"). Assumes nothing.
 use mathlib.Core.List.{List, [], _∷_, _++_}
 use Prim.Native.Nat.{ℕ, _*_}
 use lib.ListN.{replicate}

@@ -1,5 +1,5 @@
--- The calls (document 01, "Public numbers and hidden outcomes" and "The disk"): formatting, both reads, and the write
--- with its hidden outcome. Assumes nothing.
+-- The calls (document 01, "Public numbers and hidden outcomes" and "The disk"): formatting, both reads, and
+-- the write with its hidden outcome. Assumes nothing.
 use mathlib.Core.Bool.{Bool, true, false, cond, not}
 use mathlib.Core.List.{List, [], _∷_, _++_}
 use mathlib.Core.Option.{Option, none, some}
@@ -14,14 +14,16 @@ use Rattle.model.specs.HiddenTree.{End, found, unmapped, damaged, walk}
 use Rattle.model.specs.Stores.{Trace, apply, addresses}
 use Rattle.model.specs.HiddenHalf.{HiddenWrite, HiddenState, isWaiting}
 use Rattle.model.specs.Rounds.{Run, runFrom}
-use Rattle.model.specs.Refusals.{formatRefusal, publicReadRefusal, hiddenReadRefusal, writeRefusal, hiddenWriteRefusal}
+use Rattle.model.specs.Refusals.{formatRefusal, publicReadRefusal, hiddenReadRefusal, writeRefusal}
+use Rattle.model.specs.Refusals.{hiddenWriteRefusal}
 
 -- ---- formatting ----
 
 -- block 0: B, k, P, H, M, the head 0, the rest zero
 unfoldable pub headerBlock : Geometry → Bytes
 headerBlock g =
-    packed (g .blockSize ∷ g .height ∷ g .publics ∷ g .hidden ∷ g .slots ∷ 0 ∷ []) ++ replicate (g .blockSize - 24) 0
+    packed (g .blockSize ∷ g .height ∷ g .publics ∷ g .hidden ∷ g .slots ∷ 0 ∷ []) ++
+    replicate (g .blockSize - 24) 0
 
 -- header, map, bitmap and root
 unfoldable pub freshFront : Geometry → Bytes
@@ -38,7 +40,8 @@ unfoldable pub publicRead : (disk : Bytes) → (number : ℕ) → (blank : Bytes
 publicRead disk number blank =
     let g = geometryIn disk in
     let entry = mapEntry g disk number in
-    cond (eqb (publicReadRefusal disk number blank) 0) (cond (eqb entry 0) blank (blockAt (g .blockSize) disk entry)) []
+    cond (eqb (publicReadRefusal disk number blank) 0)
+    (cond (eqb entry 0) blank (blockAt (g .blockSize) disk entry)) []
 
 abbrev pub shownAt : Geometry → (disk blank : Bytes) → End → Bytes
 shownAt g disk blank (found address) = blockAt (g .blockSize) disk address

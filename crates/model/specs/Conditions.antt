@@ -1,5 +1,5 @@
--- The conditions of refusals 1 to 12 as propositions in document 01's words ("Public numbers and hidden outcomes"), and
--- what it means that a number answers a list of them. Assumes nothing.
+-- The conditions of refusals 1 to 12 as propositions in document 01's words ("Public numbers and hidden
+-- outcomes"), and what it means that a number answers a list of them. Assumes nothing.
 use mathlib.Core.Path.{_≡_}
 use mathlib.Core.Bool.{Bool, true, false, cond}
 use mathlib.Core.Logic.{_≢_, _⊎_}
@@ -48,7 +48,8 @@ sizeConditions bytes g =
 -- 1 to 3
 abbrev pub driveConditions : (disk : Bytes) → List Condition
 driveConditions disk =
-    sizeConditions (length disk) (geometryIn disk) ++ (condition 3 (geometryIn disk .slots ≤ headIn disk) ∷ [])
+    sizeConditions (length disk) (geometryIn disk) ++
+    (condition 3 (geometryIn disk .slots ≤ headIn disk) ∷ [])
 
 -- 4 to 6: of a public number and the length of its data or blank
 abbrev pub placeConditions : Geometry → (disk : Bytes) → (number size : ℕ) → List Condition
@@ -56,14 +57,16 @@ placeConditions g disk number size =
     condition 4 (g .publics ≤ number) ∷ condition 5 (size ≢ g .blockSize) ∷
     condition 6
     ((mapEntry g disk number ≢ 0) ×
-    ((slot : ℕ) → slot < g .slots → isAllocated g disk slot ≡ true → mapEntry g disk number ≢ slotStart g slot)) ∷ []
+    ((slot : ℕ) → slot < g .slots → isAllocated g disk slot ≡ true →
+    mapEntry g disk number ≢ slotStart g slot)) ∷ []
 
 -- so many rounds: the least number from 1 on for which slot (h + number − 1) mod M is free
 pub record TakesRounds (g : Geometry) (disk : Bytes) (rounds : ℕ) : Type 0 where
   pub at-least-one : 1 ≤ rounds
   pub last-free : isAllocated g disk ((headIn disk + rounds - 1) % g .slots) ≡ false
   pub others-allocated :
-      (round : ℕ) → 1 ≤ round → round < rounds → isAllocated g disk ((headIn disk + round - 1) % g .slots) ≡ true
+      (round : ℕ) → 1 ≤ round → round < rounds →
+      isAllocated g disk ((headIn disk + round - 1) % g .slots) ≡ true
 
 -- the stores of so many rounds: k + 3 for each but the last, k + 5 or k + 6 for the last
 abbrev pub storesOf : Geometry → (rounds : ℕ) → (entry : DiskAddress) → ℕ

@@ -1,5 +1,5 @@
--- The geometry of a drive and its limits (document 01, "The disk"): the five numbers, the areas that they lay out, the
--- test that accepts them, and what an accepted geometry gives as plain facts. Assumes nothing.
+-- The geometry of a drive and its limits (document 01, "The disk"): the five numbers, the areas that they lay
+-- out, the test that accepts them, and what an accepted geometry gives as plain facts. Assumes nothing.
 use mathlib.Core.Path.{_≡_}
 use mathlib.Core.Bool.{Bool, false, _&&_, _||_}
 use mathlib.Core.List.{List, [], _∷_}

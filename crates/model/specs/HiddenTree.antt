@@ -1,6 +1,6 @@
--- The hidden volume's map, a tree (document 01, "The disk"): which entry a hidden number takes at each level, and the
--- walk from the root down. An entry of level j stands in a node of level j + 1 and leads to a block of level j.
--- Assumes nothing.
+-- The hidden volume's map, a tree (document 01, "The disk"): which entry a hidden number takes at each level,
+-- and the walk from the root down. An entry of level j stands in a node of level j + 1 and leads to a block
+-- of level j. Assumes nothing.
 use mathlib.Core.Bool.{Bool, true, false, cond}
 use mathlib.Core.List.{List, [], _∷_}
 use Prim.Native.Nat.{ℕ, zero, suc, _+_, _*_, _-_, _/_, _%_, _^_}
@@ -14,7 +14,8 @@ use Rattle.model.specs.Layout.{isWellFormed}
 abbrev pub leafOf : Geometry → (number : ℕ) → ℕ
 leafOf g number = number / (fanout g - 1)
 
--- the index of a number's entry of a level in its node: in the leaf its place there, above the leaf's digits in base F
+-- the index of a number's entry of a level in its node: in the leaf its place there, above the leaf's digits
+-- in base F
 unfoldable pub branchAt : Geometry → (number level : ℕ) → ℕ
 branchAt g number zero = number % (fanout g - 1)
 branchAt g number (suc level) = leafOf g number / fanout g ^ level % fanout g

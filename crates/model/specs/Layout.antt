@@ -1,5 +1,5 @@
--- Where things stand on a drive (document 01, "The disk"): header, slots, bitmap and public map, each read from whole
--- blocks. Assumes nothing.
+-- Where things stand on a drive (document 01, "The disk"): header, slots, bitmap and public map, each read
+-- from whole blocks. Assumes nothing.
 use mathlib.Core.Path.{_≡_}
 use mathlib.Core.Bool.{Bool, _&&_}
 use Prim.Native.Nat.{ℕ, zero, suc, _+_, _*_, _-_, _/_, _%_}
@@ -45,7 +45,8 @@ slotOf g address = (address - areaStart g) / (g .height + 1)
 abbrev pub nextSlot : Geometry → (slot : ℕ) → ℕ
 nextSlot g slot = (slot + 1) % g .slots
 
--- where a block of a level stands in its slot: a node of level 1 to k - 1 at A + level, level 0, hidden data, at A + k
+-- where a block of a level stands in its slot: a node of level 1 to k - 1 at A + level, level 0, hidden data,
+-- at A + k
 abbrev pub levelPlace : Geometry → (level : ℕ) → ℕ
 levelPlace g zero = g .height
 levelPlace g (suc level) = suc level
@@ -57,7 +58,8 @@ levelAddress g slot level = slotStart g slot + levelPlace g level
 -- whether an address is that of some slot's block at a place from A on
 unfoldable pub isSlotBlock : Geometry → (place : ℕ) → DiskAddress → Bool
 isSlotBlock g place address =
-    leb (areaStart g) address && ltb address (blockCount g) && eqb ((address - areaStart g) % (g .height + 1)) place
+    leb (areaStart g) address && ltb address (blockCount g) &&
+    eqb ((address - areaStart g) % (g .height + 1)) place
 
 -- whether an address is well formed for a level
 abbrev pub isWellFormed : Geometry → (level : ℕ) → DiskAddress → Bool
@@ -83,7 +85,8 @@ isAllocated g disk slot = bitAt (bitPlace g slot) (blockAt (g .blockSize) disk (
 
 -- a slot's bitmap block with its bit 1 or 0 as asked
 unfoldable pub bitmapWith : Geometry → (disk : Bytes) → (slot : ℕ) → (isSet : Bool) → Bytes
-bitmapWith g disk slot isSet = setBit (bitPlace g slot) isSet (blockAt (g .blockSize) disk (bitAddress g slot))
+bitmapWith g disk slot isSet =
+    setBit (bitPlace g slot) isSet (blockAt (g .blockSize) disk (bitAddress g slot))
 
 -- ---- public map ----
 

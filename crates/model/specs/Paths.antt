@@ -1,5 +1,5 @@
--- The stores of a round's hidden half, A + 1 to A + k and the root (document 01, "A round"): a path, the blocks written
--- back, or random bytes. Assumes nothing.
+-- The stores of a round's hidden half, A + 1 to A + k and the root (document 01, "A round"): a path, the
+-- blocks written back, or random bytes. Assumes nothing.
 use mathlib.Core.List.{List, [], _∷_, _++_}
 use Prim.Native.Nat.{ℕ, zero, suc, _+_, _-_}
 use lib.ListN.{length, take, drop}
@@ -11,8 +11,8 @@ use Rattle.model.specs.Stores.{Store, Trace, store}
 
 -- ---- a path ----
 
--- a path's node as it is stored in a slot: its entry of a level leads to that level's block of the slot, and a leaf's
--- last entry is the number
+-- a path's node as it is stored in a slot: its entry of a level leads to that level's block of the slot, and
+-- a leaf's last entry is the number
 unfoldable pub linkedNode : Geometry → (number slot level : ℕ) → (node : Bytes) → Bytes
 linkedNode g number slot zero node =
     setEntry (fanout g - 1) number (setEntry (branchAt g number 0) (levelAddress g slot 0) node)
@@ -58,7 +58,8 @@ writtenBack g disk slot =
 unfoldable pub randomBlocks : Geometry → DiskAddress → (count : ℕ) → (random : Bytes) → Trace
 randomBlocks g address zero random = []
 randomBlocks g address (suc count) random =
-    store address (take (g .blockSize) random) ∷ randomBlocks g (suc address) count (drop (g .blockSize) random)
+    store address (take (g .blockSize) random) ∷
+    randomBlocks g (suc address) count (drop (g .blockSize) random)
 
 -- the slot's hidden blocks random, the root written back
 abbrev pub dummyStores : Geometry → (disk : Bytes) → (slot : ℕ) → (random : Bytes) → Trace

@@ -1,5 +1,5 @@
--- Refusals 1 to 12 as chains of checks (document 01, "Public numbers and hidden outcomes"). Each call's refusal is the
--- number of its first check that holds, 0 where none does. Assumes nothing.
+-- Refusals 1 to 12 as chains of checks (document 01, "Public numbers and hidden outcomes"). Each call's
+-- refusal is the number of its first check that holds, 0 where none does. Assumes nothing.
 use mathlib.Core.Bool.{Bool, true, false, cond, not, _||_}
 use mathlib.Core.List.{List, [], _∷_, _++_}
 use Prim.Native.Nat.{ℕ, zero, suc, _+_, _*_}
@@ -15,7 +15,8 @@ use Rattle.model.specs.HiddenTree.{walk, isDamaged}
 
 -- 1 and 2 of a disk's length, for a geometry
 unfoldable pub sizeChecks : (bytes : ℕ) → Geometry → List Check
-sizeChecks bytes g = check (ltb bytes 24 || not (isGeometry g)) 1 ∷ check (not (eqb bytes (driveSize g))) 2 ∷ []
+sizeChecks bytes g =
+    check (ltb bytes 24 || not (isGeometry g)) 1 ∷ check (not (eqb bytes (driveSize g))) 2 ∷ []
 
 -- the refusal of so many bytes for a geometry
 unfoldable pub sizeRefusal : (bytes : ℕ) → Geometry → ℕ
@@ -38,10 +39,12 @@ abbrev pub oneMore : ℕ → ℕ
 oneMore zero = zero
 oneMore (suc rounds) = suc (suc rounds)
 
--- rounds from a slot on up to the first free one, at most so many are looked at; 0 where none of these is free
+-- rounds from a slot on up to the first free one, at most so many are looked at; 0 where none of these is
+-- free
 unfoldable pub roundsTo : (most : ℕ) → (isTaken : ℕ → Bool) → Geometry → (slot : ℕ) → ℕ
 roundsTo zero isTaken g slot = 0
-roundsTo (suc most) isTaken g slot = cond (isTaken slot) (oneMore (roundsTo most isTaken g (nextSlot g slot))) 1
+roundsTo (suc most) isTaken g slot =
+    cond (isTaken slot) (oneMore (roundsTo most isTaken g (nextSlot g slot))) 1
 
 -- the rounds that a write takes now, 0 where no slot is free
 abbrev pub roundCount : Geometry → (disk : Bytes) → ℕ
@@ -54,7 +57,8 @@ storeCount g rounds entry = rounds * (g .height + 3) + cond (eqb entry 0) 2 3
 -- 7 to 9 of a write, for lent random bytes and a list of these lengths
 unfoldable pub roundChecks : Geometry → (disk : Bytes) → (number random room : ℕ) → List Check
 roundChecks g disk number random room =
-    check (eqb (roundCount g disk) 0) 7 ∷ check (ltb random (roundCount g disk * g .height * g .blockSize)) 8 ∷
+    check (eqb (roundCount g disk) 0) 7 ∷
+    check (ltb random (roundCount g disk * g .height * g .blockSize)) 8 ∷
     check (ltb room (storeCount g (roundCount g disk) (mapEntry g disk number))) 9 ∷ []
 
 -- ---- hidden calls, 10 to 12 ----
@@ -81,7 +85,9 @@ publicReadRefusal disk number blank =
 unfoldable pub writeRefusal : (disk : Bytes) → (number : ℕ) → (content : Bytes) → (random room : ℕ) → ℕ
 writeRefusal disk number content random room =
     let g = geometryIn disk in
-    firstOf (driveChecks disk ++ (placeChecks g disk number (length content) ++ roundChecks g disk number random room))
+    firstOf
+    (driveChecks disk ++
+    (placeChecks g disk number (length content) ++ roundChecks g disk number random room))
 
 unfoldable pub hiddenReadRefusal : (disk : Bytes) → (number : ℕ) → (blank : Bytes) → ℕ
 hiddenReadRefusal disk number blank =

@@ -1,5 +1,5 @@
--- A round and the rounds of a write (document 01, "A round"): the public half, the stores in their order, and the run
--- that goes on until a round takes the call's data. Assumes nothing.
+-- A round and the rounds of a write (document 01, "A round"): the public half, the stores in their order, and
+-- the run that goes on until a round takes the call's data. Assumes nothing.
 use mathlib.Core.Bool.{Bool, true, false, cond}
 use mathlib.Core.List.{List, [], _∷_, _++_}
 use Prim.Native.Nat.{ℕ, zero, suc, _+_, _*_, _%_}
@@ -7,7 +7,8 @@ use lib.Dec.{eqb}
 use lib.ListN.{drop}
 use Rattle.model.specs.Geometry.{Geometry, fanout}
 use Rattle.model.specs.Blocks.{Bytes, DiskAddress, blockAt, setEntry}
-use Rattle.model.specs.Layout.{slotStart, slotOf, nextSlot, bitAddress, bitmapWith, mapAddress, mapEntry}
+use Rattle.model.specs.Layout.{slotStart, slotOf, nextSlot, bitAddress, bitmapWith, mapAddress}
+use Rattle.model.specs.Layout.{mapEntry}
 use Rattle.model.specs.Stores.{Store, Trace, store, apply}
 use Rattle.model.specs.Table.{Row, PublicChoice, keepPublic, writePublic}
 use Rattle.model.specs.Paths.{keptBlock}
@@ -34,7 +35,8 @@ bitStore g disk slot isSet = store (bitAddress g slot) (bitmapWith g disk slot i
 unfoldable pub bitStores : Geometry → (disk : Bytes) → (entry : DiskAddress) → (slot : ℕ) → Trace
 bitStores g disk entry slot =
     let new = bitStore g disk slot true in
-    new ∷ cond (eqb entry 0) [] (bitStore g (apply (g .blockSize) (new ∷ []) disk) (slotOf g entry) false ∷ [])
+    new ∷
+    cond (eqb entry 0) [] (bitStore g (apply (g .blockSize) (new ∷ []) disk) (slotOf g entry) false ∷ [])
 
 -- the header with the head at the next slot, its other bytes kept
 abbrev pub headerStore : Geometry → (disk : Bytes) → (slot : ℕ) → Store
@@ -50,7 +52,8 @@ mapStores writePublic g disk number slot =
 
 -- all stores of a round, in order
 unfoldable pub roundTrace :
-    PublicChoice → Geometry → (disk : Bytes) → (number slot : ℕ) → (content : Bytes) → (hidden : Trace) → Trace
+    PublicChoice → Geometry → (disk : Bytes) → (number slot : ℕ) → (content : Bytes) → (hidden : Trace) →
+    Trace
 roundTrace choice g disk number slot content hidden =
     publicStore choice g disk slot content ∷
     (hidden ++ (mapStores choice g disk number slot ++ (headerStore g disk slot ∷ [])))
@@ -67,16 +70,19 @@ abbrev pub stopped : HiddenState → Run
 stopped state = record { trace = []; rounds = 0; state = state }
 
 abbrev pub followedBy : (round : Trace) → Run → Run
-followedBy round rest = record { trace = round ++ rest .trace; rounds = suc (rest .rounds); state = rest .state }
+followedBy round rest =
+    record { trace = round ++ rest .trace; rounds = suc (rest .rounds); state = rest .state }
 
 -- whether a round is followed by another
 abbrev pub goesOn : PublicChoice → Bool
 goesOn keepPublic = true
 goesOn writePublic = false
 
--- rounds from a slot on, at most so many, until one takes the call's data; each has its own k × B random bytes
+-- rounds from a slot on, at most so many, until one takes the call's data; each has its own k × B random
+-- bytes
 unfoldable pub runFrom :
-    (most : ℕ) → Geometry → (number : ℕ) → (content : Bytes) → (slot : ℕ) → (random disk : Bytes) → HiddenState → Run
+    (most : ℕ) → Geometry → (number : ℕ) → (content : Bytes) → (slot : ℕ) → (random disk : Bytes) →
+    HiddenState → Run
 runFrom zero g number content slot random disk state = stopped state
 runFrom (suc most) g number content slot random disk state =
     let choice = rowOf g disk slot (state .waiting) .public in

@@ -1,5 +1,5 @@
--- Lists of calls, the disk that each leaves, and what an inspector sees of them (document 01, "What demand 3 compares").
--- Assumes nothing.
+-- Lists of calls, the disk that each leaves, and what an inspector sees of them (document 01, "What demand 3
+-- compares"). Assumes nothing.
 use mathlib.Core.Bool.{Bool, true, false}
 use mathlib.Core.List.{List, [], _∷_, _++_}
 use mathlib.Core.Option.{Option, none, some}
@@ -32,7 +32,8 @@ diskAfterAll disk (call ∷ calls) = diskAfterAll (diskAfter disk call) calls
 
 -- ---- the public part of a call ----
 
--- what is the same in two lists with the same public calls: of a write's random bytes and list only the lengths
+-- what is the same in two lists with the same public calls: of a write's random bytes and list only the
+-- lengths
 pub record PublicCall : Type 0 where
   pub isWrite : Bool
   pub number : ℕ
@@ -46,7 +47,13 @@ publicPart (readPublic number blank) =
     record { isWrite = false; number = number; content = blank; random = 0; room = 0 } ∷ []
 publicPart (readHidden number blank) = []
 publicPart (write number content random list offer) =
-    record { isWrite = true; number = number; content = content; random = length random; room = length list } ∷ []
+    record {
+      isWrite = true;
+      number = number;
+      content = content;
+      random = length random;
+      room = length list;
+    } ∷ []
 
 unfoldable pub publicParts : List Call → List PublicCall
 publicParts [] = []
@@ -64,8 +71,8 @@ bareCalls (call ∷ calls) = bareCall call ++ bareCalls calls
 
 -- ---- what an inspector sees ----
 
--- a public call's answer, the bytes that a read shows, a write's rounds, its stores' count and as many entries from the
--- front of its list, and the view afterwards
+-- a public call's answer, the bytes that a read shows, a write's rounds, its stores' count and as many
+-- entries from the front of its list, and the view afterwards
 pub record Seen : Type 0 where
   pub answer : ℕ
   pub shown : Bytes

@@ -1,6 +1,7 @@
--- The simulator of noninterference (document 01, "What demand 3 compares": the book): a run without a single hidden
--- write, worked out from the starting view and the lengths of each public call. It counts its own rounds and writes out
--- its own stores; with the mapper it shares only the arithmetic of addresses. Assumes nothing.
+-- The simulator of noninterference (document 01, "What demand 3 compares": the book): a run without a single
+-- hidden write, worked out from the starting view and the lengths of each public call. It counts its own
+-- rounds and writes out its own stores; with the mapper it shares only the arithmetic of addresses. Assumes
+-- nothing.
 use mathlib.Core.Bool.{Bool, true, false, cond, not, _&&_, _||_}
 use mathlib.Core.List.{List, [], _∷_, _++_}
 use Prim.Native.Nat.{ℕ, zero, suc, _+_, _*_, _-_, _%_}
@@ -9,7 +10,8 @@ use lib.ListN.{length, getD, set}
 use Rattle.laws.specs.Checks.{Check, check, firstOf}
 use Rattle.model.specs.Geometry.{Geometry, rootAddress}
 use Rattle.model.specs.Blocks.{Bytes, DiskAddress}
-use Rattle.model.specs.Layout.{geometryIn, headIn, slotStart, slotOf, nextSlot, bitAddress, mapAddress, mapEntry, isAllocated, isSlotBlock}
+use Rattle.model.specs.Layout.{geometryIn, headIn, slotStart, slotOf, nextSlot, bitAddress, mapAddress}
+use Rattle.model.specs.Layout.{mapEntry, isAllocated, isSlotBlock}
 use Rattle.model.specs.Runs.{PublicCall, Seen}
 
 -- what it is fed of a public call: the number and lengths
@@ -70,7 +72,8 @@ isTaken sim slot = getD (sim .allocated) slot false
 
 -- ---- rounds and stores ----
 
--- the least number from a first one on that passes a test, at most so many are tried; 0 where none of these does
+-- the least number from a first one on that passes a test, at most so many are tried; 0 where none of these
+-- does
 unfoldable pub leastFrom : (most : ℕ) → (test : ℕ → Bool) → (first : ℕ) → ℕ
 leastFrom zero test first = 0
 leastFrom (suc most) test first = cond (test first) first (leastFrom most test (suc first))
@@ -101,7 +104,8 @@ keptRounds (suc count) g slot = slotAddresses g slot ++ (0 ∷ keptRounds count 
 abbrev pub lastRound : Geometry → (number : ℕ) → (entry : DiskAddress) → (slot : ℕ) → List DiskAddress
 lastRound g number entry slot =
     slotAddresses g slot ++
-    (mapAddress g number ∷ bitAddress g slot ∷ cond (eqb entry 0) (0 ∷ []) (bitAddress g (slotOf g entry) ∷ 0 ∷ []))
+    (mapAddress g number ∷ bitAddress g slot ∷
+    cond (eqb entry 0) (0 ∷ []) (bitAddress g (slotOf g entry) ∷ 0 ∷ []))
 
 unfoldable pub simulatedStores : Simulator → (number : ℕ) → List DiskAddress
 simulatedStores sim number =

@@ -1,6 +1,6 @@
--- The table of eight rows (document 000, Table 1, as document 01, "A round", reads it): what a round does with the public
--- block and with the hidden blocks of its slot, by whether a hidden write waits, by the public and by the hidden status.
--- Assumes nothing.
+-- The table of eight rows (document 000, Table 1, as document 01, "A round", reads it): what a round does
+-- with the public block and with the hidden blocks of its slot, by whether a hidden write waits, by the
+-- public and by the hidden status. Assumes nothing.
 use mathlib.Core.Bool.{Bool, true, false}
 use mathlib.Core.List.{List, [], _∷_}
 use Prim.Native.Nat.{ℕ, _+_, _*_}
@@ -40,4 +40,5 @@ abbrev pub rowIndex : (isWaiting isAllocated isLive : Bool) → ℕ
 rowIndex isWaiting isAllocated isLive = 4 * digit isWaiting + 2 * digit isAllocated + digit isLive
 
 unfoldable pub rowAt : (isWaiting isAllocated isLive : Bool) → Row
-rowAt isWaiting isAllocated isLive = getD table (rowIndex isWaiting isAllocated isLive) (row keepPublic keepHidden)
+rowAt isWaiting isAllocated isLive =
+    getD table (rowIndex isWaiting isAllocated isLive) (row keepPublic keepHidden)

@@ -1,5 +1,5 @@
--- The adversary's view of a drive (document 01, "What demand 3 compares": the view), and when two drives are alike.
--- Assumes nothing.
+-- The adversary's view of a drive (document 01, "What demand 3 compares": the view), and when two drives are
+-- alike. Assumes nothing.
 use mathlib.Core.Path.{_≡_}
 use mathlib.Core.Bool.{Bool, cond, _||_}
 use mathlib.Core.List.{List, [], _++_}

@@ -1,5 +1,5 @@
--- Laws of the bitmap: a slot's mark after its own bit and after another bit is set or cleared, within one bitmap block
--- and across blocks. Assumes nothing.
+-- Laws of the bitmap: a slot's mark after its own bit and after another bit is set or cleared, within one
+-- bitmap block and across blocks. Assumes nothing.
 use mathlib.Core.Path.{_≡_, refl, sym, ap, _∙_}
 use mathlib.Core.Logic.{_≢_, _⊎_, inl, inr, ⊎-elim}
 use mathlib.Core.Bool.{Bool, true, false}
@@ -20,13 +20,15 @@ use Rattle.model.proofs.Laws.Blocks.{length-blockAt, blockAt-setBlock-s
 -- ---- equations ----
 
 pub isAllocated-is :
-    (g : Geometry) (disk : Bytes) (slot : ℕ) → isAllocated g disk slot ≡ bitAt (bitPlace g slot) (blockAt (g .blockSize) disk (bitAddress g slot))
+    (g : Geometry) (disk : Bytes) (slot : ℕ) → isAllocated g disk slot ≡
+    bitAt (bitPlace g slot) (blockAt (g .blockSize) disk (bitAddress g slot))
 unfolding isAllocated
 isAllocated-is g disk slot = refl
 
 pub bitmapWith-is :
     (g : Geometry) (disk : Bytes) (slot : ℕ) (isSet : Bool) →
-    bitmapWith g disk slot isSet ≡ setBit (bitPlace g slot) isSet (blockAt (g .blockSize) disk (bitAddress g slot))
+    bitmapWith g disk slot isSet ≡ setBit (bitPlace g slot) isSet
+    (blockAt (g .blockSize) disk (bitAddress g slot))
 unfolding bitmapWith
 bitmapWith-is g disk slot isSet = refl
 
@@ -48,7 +50,8 @@ module _ (g : Geometry) (f : Fits g) where
   bitPlace-byte-lt slot = omega (arith, bitPlace-lt slot)
 
   -- two slots whose bits share a block have different places there
-  pub bitPlace-apart : (slot other : ℕ) → other ≢ slot → bitAddress g other ≡ bitAddress g slot → bitPlace g other ≢ bitPlace g slot
+  pub bitPlace-apart : (slot other : ℕ) → other ≢ slot → bitAddress g other ≡ bitAddress g slot →
+      bitPlace g other ≢ bitPlace g slot
   bitPlace-apart slot other ne e p =
       let a = div-add-mod' (areaPlace g slot) (8 * g .blockSize) in
       let b = div-add-mod' (areaPlace g other) (8 * g .blockSize) in
@@ -57,11 +60,13 @@ module _ (g : Geometry) (f : Fits g) where
       sym b ∙ ap (λ (n : ℕ). n * (8 * g .blockSize) + bitPlace g other) q
       ∙ ap (λ (n : ℕ). areaPlace g slot / (8 * g .blockSize) * (8 * g .blockSize) + n) p ∙ a in
       let positive : 0 < g .height + 1 = omega arith in
-      ne (sym (mul-div-cancel other positive) ∙ ap (λ (n : ℕ). n / (g .height + 1)) same ∙ mul-div-cancel slot positive)
+      ne (sym (mul-div-cancel other positive) ∙ ap (λ (n : ℕ). n / (g .height + 1)) same
+      ∙ mul-div-cancel slot positive)
 
 -- ---- a bit set or cleared on the disk ----
 
-module _ (g : Geometry) (f : Fits g) (disk : Bytes) (whole : length disk ≡ blockCount g * g .blockSize) (slot : ℕ) (inside : slot < g .slots) where
+module _ (g : Geometry) (f : Fits g) (disk : Bytes) (whole : length disk ≡ blockCount g * g .blockSize)
+    (slot : ℕ) (inside : slot < g .slots) where
   address-inside : bitAddress g slot < blockCount g
   address-inside = omega (arith, bitAddress-lt g f slot inside)
 
@@ -75,24 +80,29 @@ module _ (g : Geometry) (f : Fits g) (disk : Bytes) (whole : length disk ≡ blo
   abbrev pub marked : (isSet : Bool) → Bytes
   marked isSet = setBlock (g .blockSize) disk (bitAddress g slot) (bitmapWith g disk slot isSet)
 
-  block-marked : (isSet : Bool) → blockAt (g .blockSize) (marked isSet) (bitAddress g slot) ≡ bitmapWith g disk slot isSet
+  block-marked : (isSet : Bool) → blockAt (g .blockSize) (marked isSet) (bitAddress g slot) ≡
+      bitmapWith g disk slot isSet
   block-marked isSet =
       blockAt-setBlock-same (g .blockSize) disk (blockCount g) whole (bitAddress g slot) address-inside
       (bitmapWith g disk slot isSet) (length-bitmapWith isSet)
 
   byte-inside : bitPlace g slot / 8 < length (blockAt (g .blockSize) disk (bitAddress g slot))
   byte-inside =
-      rw (length-blockAt (g .blockSize) disk (blockCount g) whole (bitAddress g slot) address-inside) (bitPlace-byte-lt g f slot)
+      rw (length-blockAt (g .blockSize) disk (blockCount g) whole (bitAddress g slot) address-inside)
+      (bitPlace-byte-lt g f slot)
 
   pub isAllocated-marked-same : (isSet : Bool) → isAllocated g (marked isSet) slot ≡ isSet
   unfolding isAllocated bitmapWith
   isAllocated-marked-same isSet =
       ap (bitAt (bitPlace g slot)) (block-marked isSet)
-      ∙ bitAt-setBit-same (bitPlace g slot) isSet (blockAt (g .blockSize) disk (bitAddress g slot)) byte-inside
+      ∙ bitAt-setBit-same (bitPlace g slot) isSet (blockAt (g .blockSize) disk
+      (bitAddress g slot)) byte-inside
 
-  pub isAllocated-marked-other : (isSet : Bool) (other : ℕ) → other ≢ slot → isAllocated g (marked isSet) other ≡ isAllocated g disk other
+  pub isAllocated-marked-other : (isSet : Bool) (other : ℕ) → other ≢ slot →
+      isAllocated g (marked isSet) other ≡ isAllocated g disk other
   unfolding isAllocated bitmapWith
-  isAllocated-marked-other isSet other ne = ⊎-elim same-block other-block (eq-cases (bitAddress g other) (bitAddress g slot))
+  isAllocated-marked-other isSet other ne =
+      ⊎-elim same-block other-block (eq-cases (bitAddress g other) (bitAddress g slot))
     where
       same-block : bitAddress g other ≡ bitAddress g slot →
           bitAt (bitPlace g other) (blockAt (g .blockSize) (marked isSet) (bitAddress g other)) ≡
@@ -100,7 +110,8 @@ module _ (g : Geometry) (f : Fits g) (disk : Bytes) (whole : length disk ≡ blo
       same-block e =
           ap (λ (n : ℕ). bitAt (bitPlace g other) (blockAt (g .blockSize) (marked isSet) n)) e
           ∙ ap (bitAt (bitPlace g other)) (block-marked isSet)
-          ∙ bitAt-setBit-other (bitPlace g slot) (bitPlace g other) isSet (blockAt (g .blockSize) disk (bitAddress g slot))
+          ∙ bitAt-setBit-other (bitPlace g slot) (bitPlace g other) isSet
+          (blockAt (g .blockSize) disk (bitAddress g slot))
           byte-inside (bitPlace-apart g f slot other ne e)
           ∙ ap (λ (n : ℕ). bitAt (bitPlace g other) (blockAt (g .blockSize) disk n)) (sym e)
 

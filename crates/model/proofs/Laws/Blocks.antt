@@ -1,5 +1,5 @@
--- Laws of blocks, over their width: lengths, read after write at the same and at another address, a block written back,
--- and disks that agree on every block. Assumes nothing.
+-- Laws of blocks, over their width: lengths, read after write at the same and at another address, a block
+-- written back, and disks that agree on every block. Assumes nothing.
 use mathlib.Core.Path.{_≡_, refl, sym, ap, _∙_}
 use mathlib.Core.Logic.{_≢_, _⊎_, inl, inr, ⊎-elim}
 use mathlib.Core.List.{List, [], _∷_, _++_}
@@ -10,22 +10,26 @@ use lib.ListN.{length, getD, take, drop}
 use lib.Seq.{ext-getD}
 use Rattle.laws.specs.Lists.{part, over}
 use Rattle.laws.proofs.Cases.{lt-cases, eq-cases}
-use Rattle.laws.proofs.Lists.{length-part, getD-part, length-over, part-over-same, part-over-before, part-over-after}
+use Rattle.laws.proofs.Lists.{length-part, getD-part, length-over, part-over-same, part-over-before}
+use Rattle.laws.proofs.Lists.{part-over-after}
 use Rattle.model.specs.Blocks.{Bytes, DiskAddress, blockAt, setBlock}
 
 -- ---- equations ----
 
-pub blockAt-is : (width : ℕ) (disk : Bytes) (address : DiskAddress) → blockAt width disk address ≡ part (address * width) width disk
+pub blockAt-is : (width : ℕ) (disk : Bytes) (address : DiskAddress) →
+    blockAt width disk address ≡ part (address * width) width disk
 unfolding blockAt
 blockAt-is width disk address = refl
 
 pub setBlock-is :
-    (width : ℕ) (disk : Bytes) (address : DiskAddress) (block : Bytes) → setBlock width disk address block ≡ over (address * width) block disk
+    (width : ℕ) (disk : Bytes) (address : DiskAddress) (block : Bytes) →
+    setBlock width disk address block ≡ over (address * width) block disk
 unfolding setBlock
 setBlock-is width disk address block = refl
 
 pub getD-blockAt :
-    (width : ℕ) (disk : Bytes) (address index : ℕ) → index < width → getD (blockAt width disk address) index 0 ≡ getD disk (address * width + index) 0
+    (width : ℕ) (disk : Bytes) (address index : ℕ) → index < width →
+    getD (blockAt width disk address) index 0 ≡ getD disk (address * width + index) 0
 unfolding blockAt
 getD-blockAt width disk address index h = getD-part (address * width) width index disk 0 h
 
@@ -39,7 +43,8 @@ module _ (width : ℕ) (disk : Bytes) (count : ℕ) (whole : length disk ≡ cou
   unfolding blockAt
   length-blockAt address h = length-part (address * width) width disk (block-inside address h)
 
-  module _ (address : DiskAddress) (inside : address < count) (block : Bytes) (sized : length block ≡ width) where
+  module _ (address : DiskAddress) (inside : address < count) (block : Bytes)
+      (sized : length block ≡ width) where
     over-inside : address * width + length block ≤ length disk
     over-inside = omega (arith, block-inside address inside)
 
@@ -56,25 +61,32 @@ module _ (width : ℕ) (disk : Bytes) (count : ℕ) (whole : length disk ≡ cou
         ∙ part-over-same block disk (address * width) over-inside
 
     pub blockAt-setBlock-other :
-        (other : DiskAddress) → other ≢ address → blockAt width (setBlock width disk address block) other ≡ blockAt width disk other
+        (other : DiskAddress) → other ≢ address → blockAt width (setBlock width disk address block) other ≡
+        blockAt width disk other
     unfolding blockAt setBlock
     blockAt-setBlock-other other ne = ⊎-elim below above (lt-cases other address)
       where
-        below : other < address → part (other * width) width (over (address * width) block disk) ≡ part (other * width) width disk
+        below : other < address → part (other * width) width (over (address * width) block disk) ≡
+            part (other * width) width disk
         below h =
-            part-over-before block disk (address * width) over-inside (other * width) width (omega (arith, mul-le-mul-right width h))
+            part-over-before block disk (address * width) over-inside (other * width) width
+            (omega (arith, mul-le-mul-right width h))
 
-        above : address ≤ other → part (other * width) width (over (address * width) block disk) ≡ part (other * width) width disk
+        above : address ≤ other → part (other * width) width (over (address * width) block disk) ≡
+            part (other * width) width disk
         above h =
             let l : suc address ≤ other = omega arith in
-            part-over-after block disk (address * width) over-inside (other * width) width (omega (arith, mul-le-mul-right width l))
+            part-over-after block disk (address * width) over-inside (other * width) width
+            (omega (arith, mul-le-mul-right width l))
 
 -- ---- disks that agree ----
 
 -- two disks of one length with equal blocks are equal
 pub disk-ext :
-    (width count : ℕ) (disk other : Bytes) → 0 < width → length disk ≡ count * width → length other ≡ count * width →
-    ((address : DiskAddress) → address < count → blockAt width disk address ≡ blockAt width other address) → disk ≡ other
+    (width count : ℕ) (disk other : Bytes) → 0 < width → length disk ≡ count * width →
+    length other ≡ count * width →
+    ((address : DiskAddress) → address < count → blockAt width disk address ≡ blockAt width other address) →
+    disk ≡ other
 disk-ext width count disk other positive whole there same = ext-getD 0 disk other (whole ∙ sym there) at
   where
     at : (index : ℕ) → index < length disk → getD disk index 0 ≡ getD other index 0
@@ -82,6 +94,7 @@ disk-ext width count disk other positive whole there same = ext-getD 0 disk othe
         let e : index / width * width + index % width ≡ index = div-add-mod' index width in
         let r : index % width < width = mod-lt index positive in
         let q : index / width < count = div-lt-iff-lt-mul positive .1 (omega arith) in
-        ap (λ (n : ℕ). getD disk n 0) (sym e) ∙ sym (getD-blockAt width disk (index / width) (index % width) r)
+        ap (λ (n : ℕ). getD disk n 0) (sym e) ∙ sym (getD-blockAt width disk (index / width)
+        (index % width) r)
         ∙ ap (λ (b : Bytes). getD b (index % width) 0) (same (index / width) q)
         ∙ getD-blockAt width other (index / width) (index % width) r ∙ ap (λ (n : ℕ). getD other n 0) e

@@ -1,5 +1,5 @@
--- Laws of entries: length, the four bytes, read after write at the same and at another index, zeros, bound, an entry of a
--- block as one of the disk, and entries packed one after another. Assumes nothing.
+-- Laws of entries: length, the four bytes, read after write at the same and at another index, zeros, bound,
+-- an entry of a block as one of the disk, and entries packed one after another. Assumes nothing.
 use mathlib.Core.Path.{_≡_, refl, sym, ap, _∙_}
 use mathlib.Core.Logic.{_≢_, ⊎-elim}
 use mathlib.Core.List.{List, [], _∷_, _++_}
@@ -12,18 +12,21 @@ use lib.Seq.{drop-cons, sets-eq}
 use Rattle.laws.specs.Lists.{part, over}
 use Rattle.laws.specs.Numbers.{numberOf, littleEndian}
 use Rattle.laws.proofs.Cases.{lt-cases}
-use Rattle.laws.proofs.Lists.{part-part, getD-zeros, getD-part-zeros, length-over, part-over-same, part-over-before, part-over-after}
+use Rattle.laws.proofs.Lists.{part-part, getD-zeros, getD-part-zeros, length-over, part-over-same}
+use Rattle.laws.proofs.Lists.{part-over-before, part-over-after}
 use Rattle.laws.proofs.Numbers.{length-littleEndian, numberOf-littleEndian, numberOf-zeros}
 use Rattle.model.specs.Blocks.{Bytes, DiskAddress, blockAt, entryAt, setEntry, packed}
 
 -- ---- the four bytes ----
 
-drop-one : (bytes : Bytes) (index next : ℕ) → index < length bytes → suc index ≡ next → drop index bytes ≡ getD bytes index 0 ∷ drop next bytes
+drop-one : (bytes : Bytes) (index next : ℕ) → index < length bytes → suc index ≡ next →
+    drop index bytes ≡ getD bytes index 0 ∷ drop next bytes
 drop-one bytes index next h e = rw (← e) (drop-cons bytes index 0 h)
 
 part-four :
     (bytes : Bytes) (from : ℕ) → from + 4 ≤ length bytes →
-    part from 4 bytes ≡ getD bytes from 0 ∷ getD bytes (from + 1) 0 ∷ getD bytes (from + 2) 0 ∷ getD bytes (from + 3) 0 ∷ []
+    part from 4 bytes ≡ getD bytes from 0 ∷ getD bytes (from + 1) 0 ∷ getD bytes (from + 2) 0 ∷
+    getD bytes (from + 3) 0 ∷ []
 unfolding part
 part-four bytes from h =
     rw (
@@ -37,7 +40,8 @@ pub entryAt-bytes :
     (bytes : Bytes) (index : ℕ) → 4 * index + 4 ≤ length bytes →
     entryAt index bytes ≡
     getD bytes (4 * index) 0 +
-    256 * (getD bytes (4 * index + 1) 0 + 256 * (getD bytes (4 * index + 2) 0 + 256 * getD bytes (4 * index + 3) 0))
+    256 * (getD bytes (4 * index + 1) 0 + 256 * (getD bytes (4 * index + 2) 0 + 256 * getD bytes
+    (4 * index + 3) 0))
 unfolding entryAt numberOf
 entryAt-bytes bytes index h = rw (part-four bytes (4 * index) h) (omega arith)
 
@@ -49,11 +53,13 @@ pub setEntry-bytes :
     setEntry index value bytes
 unfolding setEntry littleEndian over
 setEntry-bytes bytes index value h =
-    rw (add-one (4 * index), add-two (4 * index), add-three (4 * index)) (sets-eq (littleEndian 4 value) bytes (4 * index) h)
+    rw (add-one (4 * index), add-two (4 * index), add-three (4 * index))
+    (sets-eq (littleEndian 4 value) bytes (4 * index) h)
 
 -- ---- bound ----
 
-pub entryAt-lt : (bytes : Bytes) (index : ℕ) → 4 * index + 4 ≤ length bytes → ((at : ℕ) → getD bytes at 0 < 256) → entryAt index bytes < 2 ^ 32
+pub entryAt-lt : (bytes : Bytes) (index : ℕ) → 4 * index + 4 ≤ length bytes →
+    ((at : ℕ) → getD bytes at 0 < 256) → entryAt index bytes < 2 ^ 32
 entryAt-lt bytes index h b =
     rw (entryAt-bytes bytes index h)
     (omega (arith, b (4 * index), b (4 * index + 1), b (4 * index + 2), b (4 * index + 3)))
@@ -63,7 +69,8 @@ entryAt-lt bytes index h b =
 -- an entry of what is all 0
 pub entryAt-zeros : (bytes : Bytes) (index : ℕ) → ((at : ℕ) → getD bytes at 0 ≡ 0) → entryAt index bytes ≡ 0
 unfolding entryAt
-entryAt-zeros bytes index h = numberOf-zeros (part (4 * index) 4 bytes) (λ at. getD-part-zeros (4 * index) 4 at bytes h)
+entryAt-zeros bytes index h =
+    numberOf-zeros (part (4 * index) 4 bytes) (λ at. getD-part-zeros (4 * index) 4 at bytes h)
 
 pub entryAt-replicate : (size index : ℕ) → entryAt index (replicate size 0) ≡ 0
 entryAt-replicate size index = entryAt-zeros (replicate size 0) index (getD-zeros size)
@@ -81,17 +88,23 @@ module _ (index value : ℕ) (bytes : Bytes) (fits : 4 * index + 4 ≤ length by
   pub entryAt-setEntry-same : value < 2 ^ 32 → entryAt index (setEntry index value bytes) ≡ value
   unfolding entryAt setEntry littleEndian
   entryAt-setEntry-same h =
-      ap numberOf (part-over-same (littleEndian 4 value) bytes (4 * index) four) ∙ numberOf-littleEndian 4 value h
+      ap numberOf (part-over-same (littleEndian 4 value) bytes (4 * index) four)
+      ∙ numberOf-littleEndian 4 value h
 
-  pub entryAt-setEntry-other : (other : ℕ) → other ≢ index → entryAt other (setEntry index value bytes) ≡ entryAt other bytes
+  pub entryAt-setEntry-other : (other : ℕ) → other ≢ index →
+      entryAt other (setEntry index value bytes) ≡ entryAt other bytes
   unfolding entryAt setEntry
   entryAt-setEntry-other other ne = ap numberOf (⊎-elim below above (lt-cases other index))
     where
-      below : other < index → part (4 * other) 4 (over (4 * index) (littleEndian 4 value) bytes) ≡ part (4 * other) 4 bytes
+      below : other < index → part (4 * other) 4 (over (4 * index) (littleEndian 4 value) bytes) ≡
+          part (4 * other) 4 bytes
       below h = part-over-before (littleEndian 4 value) bytes (4 * index) four (4 * other) 4 (omega arith)
 
-      above : index ≤ other → part (4 * other) 4 (over (4 * index) (littleEndian 4 value) bytes) ≡ part (4 * other) 4 bytes
-      above h = part-over-after (littleEndian 4 value) bytes (4 * index) four (4 * other) 4 (omega (arith, length-littleEndian 4 value))
+      above : index ≤ other → part (4 * other) 4 (over (4 * index) (littleEndian 4 value) bytes) ≡
+          part (4 * other) 4 bytes
+      above h =
+          part-over-after (littleEndian 4 value) bytes (4 * index) four (4 * other) 4
+          (omega (arith, length-littleEndian 4 value))
 
 -- ---- entries of a block ----
 
@@ -99,11 +112,13 @@ pub entryAt-blockAt :
     (width : ℕ) (disk : Bytes) (address index : ℕ) → 4 * index + 4 ≤ width →
     entryAt index (blockAt width disk address) ≡ numberOf (part (address * width + 4 * index) 4 disk)
 unfolding entryAt blockAt
-entryAt-blockAt width disk address index h = ap numberOf (part-part (address * width) width (4 * index) 4 disk h)
+entryAt-blockAt width disk address index h =
+    ap numberOf (part-part (address * width) width (4 * index) 4 disk h)
 
 -- the header's entries are those of block 0
 pub entryAt-header :
-    (width : ℕ) (disk : Bytes) (index : ℕ) → 4 * index + 4 ≤ width → entryAt index disk ≡ entryAt index (blockAt width disk 0)
+    (width : ℕ) (disk : Bytes) (index : ℕ) → 4 * index + 4 ≤ width →
+    entryAt index disk ≡ entryAt index (blockAt width disk 0)
 unfolding entryAt
 entryAt-header width disk index h =
     let e : 4 * index ≡ 0 * width + 4 * index = omega (arith, zero-mul width) in
@@ -115,4 +130,5 @@ pub length-packed : (entries : List ℕ) → length (packed entries) ≡ 4 * len
 unfolding packed
 length-packed [] = refl
 length-packed (entry ∷ entries) =
-    length-append (littleEndian 4 entry) (packed entries) ∙ omega (arith, length-littleEndian 4 entry, length-packed entries)
+    length-append (littleEndian 4 entry) (packed entries)
+    ∙ omega (arith, length-littleEndian 4 entry, length-packed entries)

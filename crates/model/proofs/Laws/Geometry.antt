@@ -10,7 +10,9 @@ use lib.Dec.{leb, ltb, eqb}
 use borrow.Author.Tests.{ltb-true, leb-true, eqb-true}
 use Rattle.laws.proofs.Cases.{and-left, and-right, or-cases, true-is-not-false}
 use Rattle.laws.proofs.Division.{div-ceilDiv-lt}
-use Rattle.model.specs.Geometry.{Geometry, Fits, fanout, mapBlocks, areaBlocks, bitmapBlocks, rootAddress, areaStart, blockCount, treeCapacity, blockSizes, isOneOf, isGeometry}
+use Rattle.model.specs.Geometry.{Geometry, Fits, fanout, mapBlocks, areaBlocks, bitmapBlocks}
+use Rattle.model.specs.Geometry.{rootAddress, areaStart, blockCount, treeCapacity, blockSizes, isOneOf}
+use Rattle.model.specs.Geometry.{isGeometry}
 use Rattle.model.specs.Layout.{slotStart, areaPlace, bitAddress, mapAddress}
 
 -- ---- an accepted geometry ----
@@ -28,7 +30,8 @@ AllSizes (m ∷ ms) = Size m × AllSizes ms
 size-in : (n : ℕ) (ms : List ℕ) → AllSizes ms → isOneOf n ms ≡ true → Size n
 size-in n [] s e = true-is-not-false e refl
 size-in n (m ∷ ms) s e =
-    ⊎-elim (λ p. subst Size (sym (eqb-true n m p)) (s .0)) (λ p. size-in n ms (s .1) p) (or-cases (eqb n m) (isOneOf n ms) e)
+    ⊎-elim (λ p. subst Size (sym (eqb-true n m p)) (s .0)) (λ p. size-in n ms (s .1) p)
+    (or-cases (eqb n m) (isOneOf n ms) e)
 
 sizes : AllSizes blockSizes
 sizes = omega arith
@@ -78,22 +81,30 @@ fanout-high g f = omega arith
 
 -- ---- areas ----
 
-pub mapAddress-lt : (g : Geometry) → Fits g → (number : ℕ) → number < g .publics → mapAddress g number < 1 + mapBlocks g
-mapAddress-lt g f number h = omega (arith, div-ceilDiv-lt number (g .publics) (fanout g) h (omega (arith, fanout-low g f)))
+pub mapAddress-lt : (g : Geometry) → Fits g → (number : ℕ) → number < g .publics →
+    mapAddress g number < 1 + mapBlocks g
+mapAddress-lt g f number h =
+    omega (arith, div-ceilDiv-lt number (g .publics) (fanout g) h (omega (arith, fanout-low g f)))
 
 -- a slot's blocks, counted over the data area
-pub slot-place-lt : (g : Geometry) (slot place : ℕ) → slot < g .slots → place ≤ g .height → slot * (g .height + 1) + place < areaBlocks g
+pub slot-place-lt : (g : Geometry) (slot place : ℕ) → slot < g .slots → place ≤ g .height →
+    slot * (g .height + 1) + place < areaBlocks g
 slot-place-lt g slot place h k = omega (arith, mul-le-mul-right (g .height + 1) h)
 
 pub bitAddress-lt : (g : Geometry) → Fits g → (slot : ℕ) → slot < g .slots → bitAddress g slot < rootAddress g
 bitAddress-lt g f slot h =
     let l : areaPlace g slot < areaBlocks g = omega (arith, slot-place-lt g slot 0 h (omega arith)) in
-    omega (arith, div-ceilDiv-lt (areaPlace g slot) (areaBlocks g) (8 * g .blockSize) l (omega (arith, f .size-low)))
+    omega (
+      arith,
+      div-ceilDiv-lt (areaPlace g slot) (areaBlocks g) (8 * g .blockSize) l
+          (omega (arith, f .size-low)),
+    )
 
 pub bitAddress-ge : (g : Geometry) (slot : ℕ) → 1 + mapBlocks g ≤ bitAddress g slot
 bitAddress-ge g slot = omega arith
 
-pub slot-block-lt : (g : Geometry) (slot place : ℕ) → slot < g .slots → place ≤ g .height → slotStart g slot + place < blockCount g
+pub slot-block-lt : (g : Geometry) (slot place : ℕ) → slot < g .slots → place ≤ g .height →
+    slotStart g slot + place < blockCount g
 slot-block-lt g slot place h k = omega (arith, slot-place-lt g slot place h k)
 
 pub rootAddress-lt : (g : Geometry) → rootAddress g < blockCount g

@@ -1,5 +1,5 @@
--- Laws of the public map: an entry after its own and after another number's entry is set, within one map block and
--- across blocks. Assumes nothing.
+-- Laws of the public map: an entry after its own and after another number's entry is set, within one map
+-- block and across blocks. Assumes nothing.
 use mathlib.Core.Path.{_≡_, refl, sym, ap, ap₂, _∙_}
 use mathlib.Core.Logic.{_≢_, _⊎_, inl, inr, ⊎-elim}
 use Prim.Native.Nat.{ℕ, zero, suc, _+_, _*_, _-_, _/_, _%_, _^_, _≤_, _<_}
@@ -14,12 +14,14 @@ use Rattle.model.specs.Blocks.{Bytes, DiskAddress, blockAt, setBlock, en
 use Rattle.model.specs.Layout.{mapAddress, mapEntry}
 use Rattle.model.proofs.Laws.Geometry.{mapAddress-lt, fanout-low}
 use Rattle.model.proofs.Laws.Blocks.{length-blockAt, blockAt-setBlock-same, blockAt-setBlock-other}
-use Rattle.model.proofs.Laws.Entries.{length-setEntry, entryAt-setEntry-same, entryAt-setEntry-other, entryAt-blockAt}
+use Rattle.model.proofs.Laws.Entries.{length-setEntry, entryAt-setEntry-same, entryAt-setEntry-other}
+use Rattle.model.proofs.Laws.Entries.{entryAt-blockAt}
 
 -- ---- equations ----
 
 pub mapEntry-is :
-    (g : Geometry) (disk : Bytes) (number : ℕ) → mapEntry g disk number ≡ entryAt (number % fanout g) (blockAt (g .blockSize) disk (mapAddress g number))
+    (g : Geometry) (disk : Bytes) (number : ℕ) → mapEntry g disk number ≡
+    entryAt (number % fanout g) (blockAt (g .blockSize) disk (mapAddress g number))
 unfolding mapEntry
 mapEntry-is g disk number = refl
 
@@ -50,14 +52,17 @@ module _ (g : Geometry) (f : Fits g) where
 
   -- two numbers whose entries share a block have different indices there
   pub map-index-apart :
-      (number other : ℕ) → other ≢ number → mapAddress g other ≡ mapAddress g number → other % fanout g ≢ number % fanout g
+      (number other : ℕ) → other ≢ number → mapAddress g other ≡ mapAddress g number →
+      other % fanout g ≢ number % fanout g
   map-index-apart number other ne e p =
       let q : other / fanout g ≡ number / fanout g = omega arith in
-      ne (sym (div-add-mod' other (fanout g)) ∙ ap₂ (λ (n m : ℕ). n * fanout g + m) q p ∙ div-add-mod' number (fanout g))
+      ne (sym (div-add-mod' other (fanout g)) ∙ ap₂ (λ (n m : ℕ). n * fanout g + m) q p
+      ∙ div-add-mod' number (fanout g))
 
 -- ---- an entry set on the disk ----
 
-module _ (g : Geometry) (f : Fits g) (disk : Bytes) (whole : length disk ≡ blockCount g * g .blockSize) (number : ℕ)
+module _ (g : Geometry) (f : Fits g) (disk : Bytes) (whole : length disk ≡ blockCount g * g .blockSize)
+    (number : ℕ)
     (inside : number < g .publics) (value : ℕ) where
   address-inside : mapAddress g number < blockCount g
   address-inside = omega (arith, mapAddress-lt g f number inside)
@@ -74,7 +79,8 @@ module _ (g : Geometry) (f : Fits g) (disk : Bytes) (whole : length disk ≡ blo
 
   pub length-mapBlockWith : length mapBlockWith ≡ g .blockSize
   length-mapBlockWith =
-      length-setEntry (number % fanout g) value (blockAt (g .blockSize) disk (mapAddress g number)) index-inside ∙ length-old
+      length-setEntry (number % fanout g) value (blockAt (g .blockSize) disk
+      (mapAddress g number)) index-inside ∙ length-old
 
   -- the disk with the new entry
   abbrev pub mapped : Bytes
@@ -82,17 +88,20 @@ module _ (g : Geometry) (f : Fits g) (disk : Bytes) (whole : length disk ≡ blo
 
   block-mapped : blockAt (g .blockSize) mapped (mapAddress g number) ≡ mapBlockWith
   block-mapped =
-      blockAt-setBlock-same (g .blockSize) disk (blockCount g) whole (mapAddress g number) address-inside mapBlockWith length-mapBlockWith
+      blockAt-setBlock-same (g .blockSize) disk (blockCount g) whole
+      (mapAddress g number) address-inside mapBlockWith length-mapBlockWith
 
   pub mapEntry-mapped-same : value < 2 ^ 32 → mapEntry g mapped number ≡ value
   unfolding mapEntry
   mapEntry-mapped-same h =
       ap (entryAt (number % fanout g)) block-mapped
-      ∙ entryAt-setEntry-same (number % fanout g) value (blockAt (g .blockSize) disk (mapAddress g number)) index-inside h
+      ∙ entryAt-setEntry-same (number % fanout g) value
+      (blockAt (g .blockSize) disk (mapAddress g number)) index-inside h
 
   pub mapEntry-mapped-other : (other : ℕ) → other ≢ number → mapEntry g mapped other ≡ mapEntry g disk other
   unfolding mapEntry
-  mapEntry-mapped-other other ne = ⊎-elim same-block other-block (eq-cases (mapAddress g other) (mapAddress g number))
+  mapEntry-mapped-other other ne =
+      ⊎-elim same-block other-block (eq-cases (mapAddress g other) (mapAddress g number))
     where
       same-block : mapAddress g other ≡ mapAddress g number →
           entryAt (other % fanout g) (blockAt (g .blockSize) mapped (mapAddress g other)) ≡
@@ -100,7 +109,8 @@ module _ (g : Geometry) (f : Fits g) (disk : Bytes) (whole : length disk ≡ blo
       same-block e =
           ap (λ (n : ℕ). entryAt (other % fanout g) (blockAt (g .blockSize) mapped n)) e
           ∙ ap (entryAt (other % fanout g)) block-mapped
-          ∙ entryAt-setEntry-other (number % fanout g) value (blockAt (g .blockSize) disk (mapAddress g number)) index-inside
+          ∙ entryAt-setEntry-other (number % fanout g) value
+          (blockAt (g .blockSize) disk (mapAddress g number)) index-inside
           (other % fanout g) (map-index-apart g f number other ne e)
           ∙ ap (λ (n : ℕ). entryAt (other % fanout g) (blockAt (g .blockSize) disk n)) (sym e)
 
@@ -109,5 +119,6 @@ module _ (g : Geometry) (f : Fits g) (disk : Bytes) (whole : length disk ≡ blo
           entryAt (other % fanout g) (blockAt (g .blockSize) disk (mapAddress g other))
       other-block e =
           ap (entryAt (other % fanout g))
-          (blockAt-setBlock-other (g .blockSize) disk (blockCount g) whole (mapAddress g number) address-inside
+          (blockAt-setBlock-other (g .blockSize) disk (blockCount g) whole
+          (mapAddress g number) address-inside
           mapBlockWith length-mapBlockWith (mapAddress g other) e)

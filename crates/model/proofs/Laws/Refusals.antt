@@ -1,4 +1,5 @@
--- Laws of the refusals: what a drive that is not refused gives, and the chains of the calls taken apart. Assumes nothing.
+-- Laws of the refusals: what a drive that is not refused gives, and the chains of the calls taken apart.
+-- Assumes nothing.
 use mathlib.Core.Path.{_≡_, refl, sym, ap, _∙_}
 use mathlib.Core.Logic.{_≢_}
 use mathlib.Core.Bool.{Bool, true, false, not, _||_}
@@ -10,7 +11,8 @@ use lib.ListN.{length}
 use borrow.Author.Tests.{ltb-false, leb-false, eqb-true, not-false, le-ltb, lt-leb, eq-eqb}
 use Rattle.laws.specs.Checks.{Check, check, firstOf}
 use Rattle.laws.proofs.Cases.{or-false-left, or-false-right, or-neither}
-use Rattle.laws.proofs.Checks.{Numbered, Passed, passed-of-zero, zero-of-passed, passed-front, passed-rest, firstOf-append-pass, firstOf-append-stop}
+use Rattle.laws.proofs.Checks.{Numbered, Passed, passed-of-zero, zero-of-passed, passed-front, passed-rest}
+use Rattle.laws.proofs.Checks.{firstOf-append-pass, firstOf-append-stop}
 use Rattle.model.specs.Geometry.{Geometry, Fits, driveSize, isGeometry}
 use Rattle.model.specs.Blocks.{Bytes}
 use Rattle.model.specs.Layout.{Drive, geometryIn, headIn}
@@ -33,7 +35,8 @@ numbered-size bytes g = (λ e. omega arith, ((λ e. omega arith), tt))
 sized-of-passed : (bytes : ℕ) (g : Geometry) → Passed (sizeChecks bytes g) → Sized bytes g
 unfolding sizeChecks
 sized-of-passed bytes g p =
-    let a : isGeometry g ≡ true = not-false (isGeometry g) (or-false-right (ltb bytes 24) (not (isGeometry g)) (p .0)) in
+    let a : isGeometry g ≡ true = not-false (isGeometry g)
+    (or-false-right (ltb bytes 24) (not (isGeometry g)) (p .0)) in
     record {
       long = ltb-false bytes 24 (or-false-left (ltb bytes 24) (not (isGeometry g)) (p .0));
       accepted = a;
@@ -43,7 +46,8 @@ sized-of-passed bytes g p =
 
 pub sized-of-refusal : (bytes : ℕ) (g : Geometry) → sizeRefusal bytes g ≡ 0 → Sized bytes g
 unfolding sizeRefusal
-sized-of-refusal bytes g e = sized-of-passed bytes g (passed-of-zero (sizeChecks bytes g) (numbered-size bytes g) e)
+sized-of-refusal bytes g e =
+    sized-of-passed bytes g (passed-of-zero (sizeChecks bytes g) (numbered-size bytes g) e)
 
 -- ---- refusals 1 to 3 ----
 
@@ -78,7 +82,8 @@ drive-of-refusal disk e =
 
 -- and the other way round
 pub refusal-of-accepted :
-    (disk : Bytes) → 24 ≤ length disk → isGeometry (geometryIn disk) ≡ true → length disk ≡ driveSize (geometryIn disk) →
+    (disk : Bytes) → 24 ≤ length disk → isGeometry (geometryIn disk) ≡ true →
+    length disk ≡ driveSize (geometryIn disk) →
     headIn disk < geometryIn disk .slots → driveRefusal disk ≡ 0
 unfolding driveRefusal driveChecks sizeChecks
 refusal-of-accepted disk long good whole head =
@@ -93,9 +98,11 @@ refusal-of-accepted disk long good whole head =
 -- ---- a call's chain after the drive's ----
 
 -- a drive that is refused answers every call; one that is not leaves the answer to the call's own checks
-pub after-drive-stop : (disk : Bytes) (cs : List Check) → driveRefusal disk ≢ 0 → firstOf (driveChecks disk ++ cs) ≡ driveRefusal disk
+pub after-drive-stop : (disk : Bytes) (cs : List Check) → driveRefusal disk ≢ 0 →
+    firstOf (driveChecks disk ++ cs) ≡ driveRefusal disk
 unfolding driveRefusal
 after-drive-stop disk cs f = firstOf-append-stop (driveChecks disk) cs f
 
-pub after-drive-pass : (disk : Bytes) (cs : List Check) → driveRefusal disk ≡ 0 → firstOf (driveChecks disk ++ cs) ≡ firstOf cs
+pub after-drive-pass : (disk : Bytes) (cs : List Check) → driveRefusal disk ≡ 0 →
+    firstOf (driveChecks disk ++ cs) ≡ firstOf cs
 after-drive-pass disk cs e = firstOf-append-pass (driveChecks disk) cs (passed-of-driveRefusal disk e)

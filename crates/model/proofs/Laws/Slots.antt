@@ -1,5 +1,5 @@
--- Laws of slots: the slot and the place of each of a slot's blocks, which addresses are slot blocks, the next slot, and
--- slots apart. Assumes nothing.
+-- Laws of slots: the slot and the place of each of a slot's blocks, which addresses are slot blocks, the next
+-- slot, and slots apart. Assumes nothing.
 use mathlib.Core.Path.{_≡_, refl, sym, ap, _∙_}
 use mathlib.Core.Logic.{_≢_}
 use mathlib.Core.Bool.{Bool, true, false, _&&_}
@@ -12,7 +12,8 @@ use borrow.Author.Tests.{ltb-true, leb-true, eqb-true, lt-ltb, le-ltb, le-leb, l
 use Rattle.laws.proofs.Cases.{and-left, and-right, and-both, and-false-left, and-false-right}
 use Rattle.model.specs.Geometry.{Geometry, Fits, areaBlocks, areaStart, blockCount}
 use Rattle.model.specs.Blocks.{DiskAddress}
-use Rattle.model.specs.Layout.{slotStart, slotOf, nextSlot, levelPlace, levelAddress, isSlotBlock, isWellFormed}
+use Rattle.model.specs.Layout.{slotStart, slotOf, nextSlot, levelPlace, levelAddress, isSlotBlock}
+use Rattle.model.specs.Layout.{isWellFormed}
 use Rattle.model.proofs.Laws.Geometry.{slot-block-lt}
 
 -- ---- a slot's blocks ----
@@ -41,15 +42,18 @@ module _ (g : Geometry) (slot place : ℕ) (inside : place ≤ g .height) where
   pub isSlotBlock-other : (other : ℕ) → other ≢ place → isSlotBlock g other (slotStart g slot + place) ≡ false
   unfolding isSlotBlock
   isSlotBlock-other other ne =
-      and-false-right (leb (areaStart g) (slotStart g slot + place) && ltb (slotStart g slot + place) (blockCount g))
-      (ne-eqb ((slotStart g slot + place - areaStart g) % (g .height + 1)) other (λ e. ne (sym e ∙ place-of-slot-block)))
+      and-false-right (leb (areaStart g) (slotStart g slot + place) &&
+      ltb (slotStart g slot + place) (blockCount g))
+      (ne-eqb ((slotStart g slot + place - areaStart g) % (g .height + 1)) other
+      (λ e. ne (sym e ∙ place-of-slot-block)))
 
 pub slotOf-slotStart : (g : Geometry) (slot : ℕ) → slotOf g (slotStart g slot) ≡ slot
 slotOf-slotStart g slot =
     let e : slotStart g slot + 0 ≡ slotStart g slot = omega arith in
     ap (slotOf g) (sym e) ∙ slotOf-slot-block g slot 0 (omega arith)
 
-pub isSlotBlock-slotStart : (g : Geometry) (slot : ℕ) → slot < g .slots → isSlotBlock g 0 (slotStart g slot) ≡ true
+pub isSlotBlock-slotStart : (g : Geometry) (slot : ℕ) → slot < g .slots →
+    isSlotBlock g 0 (slotStart g slot) ≡ true
 isSlotBlock-slotStart g slot h =
     let e : slotStart g slot + 0 ≡ slotStart g slot = omega arith in
     ap (isSlotBlock g 0) (sym e) ∙ isSlotBlock-same g slot 0 (omega arith) h
@@ -62,15 +66,18 @@ pub record SlotBlock (g : Geometry) (place : ℕ) (address : DiskAddress) : Type
   pub address-is : address ≡ slotStart g (slotOf g address) + place
   pub address-inside : address < blockCount g
 
-pub slotBlock-of : (g : Geometry) (place : ℕ) (address : DiskAddress) → isSlotBlock g place address ≡ true → SlotBlock g place address
+pub slotBlock-of : (g : Geometry) (place : ℕ) (address : DiskAddress) → isSlotBlock g place address ≡ true →
+    SlotBlock g place address
 unfolding isSlotBlock
 slotBlock-of g place address e =
     let front = leb (areaStart g) address && ltb address (blockCount g) in
     let rest = eqb ((address - areaStart g) % (g .height + 1)) place in
     let low : areaStart g ≤ address =
-    leb-true (areaStart g) address (and-left (leb (areaStart g) address) (ltb address (blockCount g)) (and-left front rest e)) in
+    leb-true (areaStart g) address (and-left (leb (areaStart g) address) (ltb address (blockCount g))
+    (and-left front rest e)) in
     let high : address < blockCount g =
-    ltb-true address (blockCount g) (and-right (leb (areaStart g) address) (ltb address (blockCount g)) (and-left front rest e)) in
+    ltb-true address (blockCount g) (and-right (leb (areaStart g) address) (ltb address (blockCount g))
+    (and-left front rest e)) in
     let at : (address - areaStart g) % (g .height + 1) ≡ place =
     eqb-true ((address - areaStart g) % (g .height + 1)) place (and-right front rest e) in
     let positive : 0 < g .height + 1 = omega arith in
@@ -81,13 +88,15 @@ slotBlock-of g place address e =
       address-inside = high;
     }
 
-pub isSlotBlock-below : (g : Geometry) (place : ℕ) (address : DiskAddress) → address < areaStart g → isSlotBlock g place address ≡ false
+pub isSlotBlock-below : (g : Geometry) (place : ℕ) (address : DiskAddress) → address < areaStart g →
+    isSlotBlock g place address ≡ false
 unfolding isSlotBlock
 isSlotBlock-below g place address h =
     and-false-left (eqb ((address - areaStart g) % (g .height + 1)) place)
     (and-false-left (ltb address (blockCount g)) (lt-leb (areaStart g) address h))
 
-pub isSlotBlock-past : (g : Geometry) (place : ℕ) (address : DiskAddress) → blockCount g ≤ address → isSlotBlock g place address ≡ false
+pub isSlotBlock-past : (g : Geometry) (place : ℕ) (address : DiskAddress) → blockCount g ≤ address →
+    isSlotBlock g place address ≡ false
 unfolding isSlotBlock
 isSlotBlock-past g place address h =
     and-false-left (eqb ((address - areaStart g) % (g .height + 1)) place)
@@ -98,7 +107,8 @@ pub isSlotBlock-inside :
     (g : Geometry) (place : ℕ) (address : DiskAddress) → areaStart g ≤ address → address < blockCount g →
     isSlotBlock g place address ≡ eqb ((address - areaStart g) % (g .height + 1)) place
 unfolding isSlotBlock
-isSlotBlock-inside g place address low high = rw (le-leb (areaStart g) address low, lt-ltb address (blockCount g) high)
+isSlotBlock-inside g place address low high =
+    rw (le-leb (areaStart g) address low, lt-ltb address (blockCount g) high)
 
 -- ---- levels ----
 
@@ -111,10 +121,13 @@ levelPlace-ge g zero h = h
 levelPlace-ge g (suc level) h = omega arith
 
 pub isWellFormed-levelAddress :
-    (g : Geometry) (slot level : ℕ) → slot < g .slots → level < g .height → isWellFormed g level (levelAddress g slot level) ≡ true
-isWellFormed-levelAddress g slot level h k = isSlotBlock-same g slot (levelPlace g level) (levelPlace-le g level k) h
+    (g : Geometry) (slot level : ℕ) → slot < g .slots → level < g .height →
+    isWellFormed g level (levelAddress g slot level) ≡ true
+isWellFormed-levelAddress g slot level h k =
+    isSlotBlock-same g slot (levelPlace g level) (levelPlace-le g level k) h
 
-pub slotOf-levelAddress : (g : Geometry) (slot level : ℕ) → level < g .height → slotOf g (levelAddress g slot level) ≡ slot
+pub slotOf-levelAddress : (g : Geometry) (slot level : ℕ) → level < g .height →
+    slotOf g (levelAddress g slot level) ≡ slot
 slotOf-levelAddress g slot level k = slotOf-slot-block g slot (levelPlace g level) (levelPlace-le g level k)
 
 -- ---- the next slot ----

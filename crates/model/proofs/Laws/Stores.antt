@@ -1,5 +1,5 @@
--- Laws of traces: joined traces, what a block holds after a trace, the disk's length, addresses not stored to.
--- Assumes nothing.
+-- Laws of traces: joined traces, what a block holds after a trace, the disk's length, addresses not stored
+-- to. Assumes nothing.
 use mathlib.Core.Path.{_≡_, refl, sym, ap, _∙_}
 use mathlib.Core.Logic.{_≢_, _⊎_, inl, inr}
 use mathlib.Core.Bool.{Bool, cond}
@@ -25,7 +25,8 @@ all-append P (x ∷ xs) ys h k = (h .0, all-append P xs ys (h .1) k)
 
 -- ---- joined traces ----
 
-pub apply-append : (width : ℕ) (xs ys : Trace) (disk : Bytes) → apply width (xs ++ ys) disk ≡ apply width ys (apply width xs disk)
+pub apply-append : (width : ℕ) (xs ys : Trace) (disk : Bytes) →
+    apply width (xs ++ ys) disk ≡ apply width ys (apply width xs disk)
 unfolding apply
 apply-append width [] ys disk = refl
 apply-append width (x ∷ xs) ys disk = apply-append width xs ys (setBlock width disk (x .address) (x .content))
@@ -34,7 +35,8 @@ pub apply-nil : (width : ℕ) (disk : Bytes) → apply width [] disk ≡ disk
 unfolding apply
 apply-nil width disk = refl
 
-pub apply-one : (width : ℕ) (x : Store) (disk : Bytes) → apply width (x ∷ []) disk ≡ setBlock width disk (x .address) (x .content)
+pub apply-one : (width : ℕ) (x : Store) (disk : Bytes) →
+    apply width (x ∷ []) disk ≡ setBlock width disk (x .address) (x .content)
 unfolding apply
 apply-one width x disk = refl
 
@@ -59,23 +61,31 @@ pub lastAt-nil : (address : DiskAddress) (old : Bytes) → lastAt [] address old
 unfolding lastAt
 lastAt-nil address old = refl
 
-pub lastAt-append : (xs ys : Trace) (address : DiskAddress) (old : Bytes) → lastAt (xs ++ ys) address old ≡ lastAt ys address (lastAt xs address old)
+pub lastAt-append : (xs ys : Trace) (address : DiskAddress) (old : Bytes) →
+    lastAt (xs ++ ys) address old ≡ lastAt ys address (lastAt xs address old)
 unfolding lastAt
 lastAt-append [] ys address old = refl
-lastAt-append (x ∷ xs) ys address old = lastAt-append xs ys address (cond (eqb address (x .address)) (x .content) old)
+lastAt-append (x ∷ xs) ys address old =
+    lastAt-append xs ys address (cond (eqb address (x .address)) (x .content) old)
 
-pub lastAt-same : (x : Store) (xs : Trace) (address : DiskAddress) (old : Bytes) → address ≡ x .address → lastAt (x ∷ xs) address old ≡ lastAt xs address (x .content)
+pub lastAt-same : (x : Store) (xs : Trace) (address : DiskAddress) (old : Bytes) → address ≡ x .address →
+    lastAt (x ∷ xs) address old ≡ lastAt xs address (x .content)
 unfolding lastAt
-lastAt-same x xs address old e = ap (λ (b : Bool). lastAt xs address (cond b (x .content) old)) (eq-eqb address (x .address) e)
+lastAt-same x xs address old e =
+    ap (λ (b : Bool). lastAt xs address (cond b (x .content) old)) (eq-eqb address (x .address) e)
 
-pub lastAt-other : (x : Store) (xs : Trace) (address : DiskAddress) (old : Bytes) → address ≢ x .address → lastAt (x ∷ xs) address old ≡ lastAt xs address old
+pub lastAt-other : (x : Store) (xs : Trace) (address : DiskAddress) (old : Bytes) → address ≢ x .address →
+    lastAt (x ∷ xs) address old ≡ lastAt xs address old
 unfolding lastAt
-lastAt-other x xs address old ne = ap (λ (b : Bool). lastAt xs address (cond b (x .content) old)) (ne-eqb address (x .address) ne)
+lastAt-other x xs address old ne =
+    ap (λ (b : Bool). lastAt xs address (cond b (x .content) old)) (ne-eqb address (x .address) ne)
 
-pub lastAt-outside : (xs : Trace) (address : DiskAddress) (old : Bytes) → All (λ (other : ℕ). address ≢ other) (addresses xs) → lastAt xs address old ≡ old
+pub lastAt-outside : (xs : Trace) (address : DiskAddress) (old : Bytes) →
+    All (λ (other : ℕ). address ≢ other) (addresses xs) → lastAt xs address old ≡ old
 unfolding addresses
 lastAt-outside [] address old h = lastAt-nil address old
-lastAt-outside (x ∷ xs) address old h = lastAt-other x xs address old (h .0) ∙ lastAt-outside xs address old (h .1)
+lastAt-outside (x ∷ xs) address old h =
+    lastAt-other x xs address old (h .0) ∙ lastAt-outside xs address old (h .1)
 
 -- ---- a trace on a disk ----
 
@@ -84,7 +94,8 @@ abbrev pub Stored : (width count : ℕ) → Store → Type 0
 Stored width count x = (x .address < count) × (length (x .content) ≡ width)
 
 module _ (width count : ℕ) where
-  pub length-apply : (xs : Trace) (disk : Bytes) → length disk ≡ count * width → All (Stored width count) xs → length (apply width xs disk) ≡ length disk
+  pub length-apply : (xs : Trace) (disk : Bytes) → length disk ≡ count * width →
+      All (Stored width count) xs → length (apply width xs disk) ≡ length disk
   unfolding apply
   length-apply [] disk whole h = refl
   length-apply (x ∷ xs) disk whole h =
@@ -93,7 +104,8 @@ module _ (width count : ℕ) where
       length-apply xs (setBlock width disk (x .address) (x .content)) (l ∙ whole) (h .1) ∙ l
 
   pub blockAt-apply :
-      (xs : Trace) (disk : Bytes) (address : DiskAddress) → length disk ≡ count * width → All (Stored width count) xs →
+      (xs : Trace) (disk : Bytes) (address : DiskAddress) → length disk ≡ count * width →
+      All (Stored width count) xs →
       blockAt width (apply width xs disk) address ≡ lastAt xs address (blockAt width disk address)
   unfolding apply
   blockAt-apply [] disk address whole h = sym (lastAt-nil address (blockAt width disk address))
@@ -113,11 +125,14 @@ module _ (width count : ℕ) where
           ∙ sym (lastAt-same x xs address (blockAt width disk address) e)
       one (inr e) =
           ap (lastAt xs address)
-          (blockAt-setBlock-other width disk count whole (x .address) (h .0 .0) (x .content) (h .0 .1) address e)
+          (blockAt-setBlock-other width disk count whole (x .address) (h .0 .0) (x .content)
+          (h .0 .1) address e)
           ∙ sym (lastAt-other x xs address (blockAt width disk address) e)
 
   pub blockAt-apply-outside :
-      (xs : Trace) (disk : Bytes) (address : DiskAddress) → length disk ≡ count * width → All (Stored width count) xs →
-      All (λ (other : ℕ). address ≢ other) (addresses xs) → blockAt width (apply width xs disk) address ≡ blockAt width disk address
+      (xs : Trace) (disk : Bytes) (address : DiskAddress) → length disk ≡ count * width →
+      All (Stored width count) xs →
+      All (λ (other : ℕ). address ≢ other) (addresses xs) →
+      blockAt width (apply width xs disk) address ≡ blockAt width disk address
   blockAt-apply-outside xs disk address whole h o =
       blockAt-apply xs disk address whole h ∙ lastAt-outside xs address (blockAt width disk address) o

@@ -14,8 +14,11 @@ use Rattle.model.specs.Table.{table, rowAt}
 use Rattle.model.specs.Paths.{linkedNode, nodeStores, pathStores, keptBlocks, randomBlocks}
 use Rattle.model.specs.HiddenHalf.{ownerOf, isLive, isOwnerDamaged, isNextDamaged, hiddenBy, hiddenHalf}
 use Rattle.model.specs.Rounds.{publicStore, bitStores, mapStores, roundTrace, runFrom}
-use Rattle.model.specs.Refusals.{sizeChecks, sizeRefusal, driveChecks, placeChecks, roundsTo, roundChecks, hiddenChecks, walkChecks, driveRefusal, publicReadRefusal, writeRefusal, hiddenReadRefusal, hiddenWriteRefusal}
-use Rattle.model.specs.Calls.{headerBlock, freshFront, formatted, publicRead, outcomeOf, offerRefusal, offeredWrites, writeRun, written}
+use Rattle.model.specs.Refusals.{sizeChecks, sizeRefusal, driveChecks, placeChecks, roundsTo}
+use Rattle.model.specs.Refusals.{roundChecks, hiddenChecks, walkChecks, driveRefusal, publicReadRefusal}
+use Rattle.model.specs.Refusals.{writeRefusal, hiddenReadRefusal, hiddenWriteRefusal}
+use Rattle.model.specs.Calls.{headerBlock, freshFront, formatted, publicRead, outcomeOf, offerRefusal}
+use Rattle.model.specs.Calls.{offeredWrites, writeRun, written}
 use Rattle.model.specs.Promises.Limits.{Limits, threeLines, listedDrive}
 
 pub limits : Limits

@@ -1,4 +1,5 @@
--- How long a write can be, for whoever has to lend its buffers. Beyond document 01's demands. Assumes nothing.
+-- How long a write can be, for whoever has to lend its buffers. Beyond document 01's demands. Assumes
+-- nothing.
 use mathlib.Core.Path.{_≡_}
 use mathlib.Core.Logic.{_≢_}
 use mathlib.Core.List.{List}
@@ -20,7 +21,8 @@ pub record AtMost (most : ℕ) (g : Geometry) (disk : Bytes) : Type 0 where
       written disk number content random room offer .rounds ≤ most
   pub never-eight :
       (number : ℕ) (content random : Bytes) (room : ℕ) (offer : Option HiddenWrite) →
-      most * g .height * g .blockSize ≤ length random → written disk number content random room offer .answer ≢ 8
+      most * g .height * g .blockSize ≤ length random →
+      written disk number content random room offer .answer ≢ 8
   pub never-nine :
       (number : ℕ) (content random : Bytes) (room : ℕ) (offer : Option HiddenWrite) →
       most * (g .height + 3) + 3 ≤ room → written disk number content random room offer .answer ≢ 9

@@ -70,7 +70,8 @@ pub record Figures : Type 0 where
   pub offer-answer : writeOf fresh 0 256 23 offerOfTwo .answer ≡ 0
   pub offer-stores : addresses (writeOf fresh 0 256 23 offerOfTwo .trace) ≡ 4 ∷ 5 ∷ 6 ∷ 3 ∷ 1 ∷ 2 ∷ 0 ∷ []
   pub offer-outcome : outcomeNumber (writeOf fresh 0 256 23 offerOfTwo .outcome) ≡ 10
-  -- fresh, writes 0, 1, 2, 2, 2: the fifth has 3 rounds and 18 stores; 192 random bytes and a list of 18 suffice
+  -- fresh, writes 0, 1, 2, 2, 2: the fifth has 3 rounds and 18 stores; 192 random bytes and a list of 18
+  -- suffice
   pub fifth-answer : writeOf fourWritten 2 192 18 none .answer ≡ 0
   pub fifth-rounds : writeOf fourWritten 2 192 18 none .rounds ≡ 3
   pub fifth-count : length (writeOf fourWritten 2 192 18 none .trace) ≡ 18

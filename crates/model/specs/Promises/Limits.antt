@@ -1,6 +1,6 @@
--- What is computed at document 01's limits: each geometry limit at and past it, the example of each refusal, what
--- formatting leaves, and every byte of the drive after the three lines of the listing, worked out by hand from document
--- 01 (docs/ON-DISK-FORMAT.md has the working). Assumes nothing.
+-- What is computed at document 01's limits: each geometry limit at and past it, the example of each refusal,
+-- what formatting leaves, and every byte of the drive after the three lines of the listing, worked out by
+-- hand from document 01 (docs/ON-DISK-FORMAT.md has the working). Assumes nothing.
 use mathlib.Core.Path.{_≡_}
 use mathlib.Core.List.{List, [], _∷_, _++_}
 use mathlib.Core.Option.{Option, none, some}
@@ -9,7 +9,8 @@ use lib.ListN.{take, replicate}
 use Rattle.model.specs.Geometry.{Geometry, blockCount, driveSize}
 use Rattle.model.specs.Blocks.{Bytes, DiskAddress, setEntry, setBlock}
 use Rattle.model.specs.HiddenHalf.{HiddenWrite}
-use Rattle.model.specs.Refusals.{sizeRefusal, driveRefusal, publicReadRefusal, hiddenReadRefusal, writeRefusal}
+use Rattle.model.specs.Refusals.{sizeRefusal, driveRefusal, publicReadRefusal, hiddenReadRefusal}
+use Rattle.model.specs.Refusals.{writeRefusal}
 use Rattle.model.specs.Calls.{formatted, written, writtenDisk, writtenList}
 use Rattle.model.specs.Promises.Figures.{geometry, small, formatAnswer, fresh, filled}
 
@@ -39,7 +40,8 @@ answerOf disk random room = writeRefusal disk 0 (filled 7) random room
 
 -- one line: data and offered data are the line's number, 256 random bytes of 165, a list of 23
 abbrev pub lineOf : (disk : Bytes) → (line number : ℕ) → Option HiddenWrite → Bytes
-lineOf disk line number offer = writtenDisk (written disk number (filled line) (replicate 256 165) 23 offer) disk
+lineOf disk line number offer =
+    writtenDisk (written disk number (filled line) (replicate 256 165) 23 offer) disk
 
 abbrev pub offerOf : (number line : ℕ) → Option HiddenWrite
 offerOf number line = some (record { number = number; content = filled line })

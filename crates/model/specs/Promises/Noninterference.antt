@@ -24,5 +24,6 @@ pub record SameSeen (disk other : Bytes) (calls others : List Call) : Type 0 whe
 
 abbrev pub Noninterference : Type 0
 Noninterference =
-    (disk other : Bytes) (calls others : List Call) → Alike disk other → publicParts calls ≡ publicParts others →
+    (disk other : Bytes) (calls others : List Call) → Alike disk other →
+    publicParts calls ≡ publicParts others →
     SameSeen disk other calls others

@@ -1,5 +1,5 @@
--- Demand 2 (document 03: ReadsBack): a good read in either volume shows the block last placed under its number, or the
--- caller's blank; and what every call keeps. Assumes nothing.
+-- Demand 2 (document 03: ReadsBack): a good read in either volume shows the block last placed under its
+-- number, or the caller's blank; and what every call keeps. Assumes nothing.
 use mathlib.Core.Path.{_≡_}
 use mathlib.Core.Bool.{Bool, true, false, cond, _&&_}
 use mathlib.Core.Logic.{_≢_}
@@ -24,7 +24,8 @@ abbrev pub publicAfter : (number : ℕ) → (before : Option Bytes) → (disk : 
 publicAfter number before disk (readPublic other blank) = before
 publicAfter number before disk (readHidden other blank) = before
 publicAfter number before disk (write other content random list offer) =
-    cond (eqb other number && eqb (written disk other content random (length list) offer .answer) 0) (some content) before
+    cond (eqb other number && eqb (written disk other content random (length list) offer .answer) 0)
+    (some content) before
 
 unfoldable pub lastPublic : (number : ℕ) → (before : Option Bytes) → (disk : Bytes) → List Call → Option Bytes
 lastPublic number before disk [] = before
@@ -43,7 +44,8 @@ abbrev pub hiddenAfter : (number : ℕ) → (before : Option Bytes) → (disk : 
 hiddenAfter number before disk (readPublic other blank) = before
 hiddenAfter number before disk (readHidden other blank) = before
 hiddenAfter number before disk (write other content random list offer) =
-    cond (isPlaced (written disk other content random (length list) offer)) (offeredUnder number before offer) before
+    cond (isPlaced (written disk other content random (length list) offer))
+    (offeredUnder number before offer) before
 
 unfoldable pub lastHidden : (number : ℕ) → (before : Option Bytes) → (disk : Bytes) → List Call → Option Bytes
 lastHidden number before disk [] = before
@@ -102,10 +104,12 @@ pub record ReadAfterWrite : Type 0 where
   pub fresh-sound :
       (disk : Bytes) (g : Geometry) → formatRefusal disk g ≡ 0 → Sound g (formatted disk g)
   pub fresh-public :
-      (disk : Bytes) (g : Geometry) (number : ℕ) (blank : Bytes) → formatRefusal disk g ≡ 0 → number < g .publics →
+      (disk : Bytes) (g : Geometry) (number : ℕ) (blank : Bytes) → formatRefusal disk g ≡ 0 →
+      number < g .publics →
       length blank ≡ g .blockSize → publicRead (formatted disk g) number blank ≡ blank
   pub fresh-hidden :
-      (disk : Bytes) (g : Geometry) (number : ℕ) (blank : Bytes) → formatRefusal disk g ≡ 0 → number < g .hidden →
+      (disk : Bytes) (g : Geometry) (number : ℕ) (blank : Bytes) → formatRefusal disk g ≡ 0 →
+      number < g .hidden →
       length blank ≡ g .blockSize → hiddenRead (formatted disk g) number blank ≡ blank
   -- from any sound drive on, a fresh one among them
   pub reads-back : (g : Geometry) (disk : Bytes) (calls : List Call) → Sound g disk → ReadsBack g disk calls

@@ -1,5 +1,5 @@
--- Demand 1: a public half is refused exactly on document 01's conditions, whatever the offer; a refusal and a read change
--- nothing; a bad offer leaves what a write without one leaves. Assumes nothing.
+-- Demand 1: a public half is refused exactly on document 01's conditions, whatever the offer; a refusal and a
+-- read change nothing; a bad offer leaves what a write without one leaves. Assumes nothing.
 use mathlib.Core.Path.{_≡_}
 use mathlib.Core.Logic.{_≢_}
 use mathlib.Core.List.{List, [], _++_}
@@ -12,12 +12,15 @@ use Rattle.model.specs.Layout.{geometryIn}
 use Rattle.model.specs.Stores.{addresses}
 use Rattle.model.specs.HiddenHalf.{HiddenWrite}
 use Rattle.model.specs.Refusals.{formatRefusal, publicReadRefusal, hiddenReadRefusal}
-use Rattle.model.specs.Calls.{formatted, publicRead, hiddenRead, written, writtenDisk, writtenList, outcomeNumber, offerRefusal}
-use Rattle.model.specs.Conditions.{Answers, sizeConditions, driveConditions, placeConditions, roundConditions, hiddenConditions, walkConditions}
+use Rattle.model.specs.Calls.{formatted, publicRead, hiddenRead, written, writtenDisk, writtenList}
+use Rattle.model.specs.Calls.{outcomeNumber, offerRefusal}
+use Rattle.model.specs.Conditions.{Answers, sizeConditions, driveConditions, placeConditions}
+use Rattle.model.specs.Conditions.{roundConditions, hiddenConditions, walkConditions}
 use Rattle.model.specs.Runs.{Call, readPublic, readHidden, diskAfter}
 
 -- what holds of every write
-pub record WriteRefusals (disk : Bytes) (number : ℕ) (content random : Bytes) (list : List DiskAddress) (offer : Option HiddenWrite) : Type 0 where
+pub record WriteRefusals (disk : Bytes) (number : ℕ) (content random : Bytes) (list : List DiskAddress)
+    (offer : Option HiddenWrite) : Type 0 where
   -- 1 to 9, whatever the offer
   pub exact :
       Answers
@@ -58,7 +61,8 @@ pub record WriteRefusals (disk : Bytes) (number : ℕ) (content random : Bytes) 
       length (writtenList (written disk number content random (length list) offer) list) ≡ length list
   pub list-rest :
       (index : ℕ) → length (written disk number content random (length list) offer .trace) ≤ index →
-      getD (writtenList (written disk number content random (length list) offer) list) index 0 ≡ getD list index 0
+      getD (writtenList (written disk number content random (length list) offer) list) index 0 ≡
+      getD list index 0
 
 pub record Refusals : Type 0 where
   pub format-exact :
@@ -75,7 +79,8 @@ pub record Refusals : Type 0 where
       (disk : Bytes) (number : ℕ) (blank : Bytes) →
       Answers
       (driveConditions disk ++
-      (hiddenConditions (geometryIn disk) number (length blank) ++ walkConditions (geometryIn disk) disk number))
+      (hiddenConditions (geometryIn disk) number (length blank) ++
+      walkConditions (geometryIn disk) disk number))
       (hiddenReadRefusal disk number blank)
   pub hidden-read-refused :
       (disk : Bytes) (number : ℕ) (blank : Bytes) →
@@ -84,5 +89,6 @@ pub record Refusals : Type 0 where
       (disk : Bytes) (number : ℕ) (blank : Bytes) →
       (diskAfter disk (readPublic number blank) ≡ disk) × (diskAfter disk (readHidden number blank) ≡ disk)
   pub writes :
-      (disk : Bytes) (number : ℕ) (content random : Bytes) (list : List DiskAddress) (offer : Option HiddenWrite) →
+      (disk : Bytes) (number : ℕ) (content random : Bytes) (list : List DiskAddress)
+      (offer : Option HiddenWrite) →
       WriteRefusals disk number content random list offer

@@ -67,12 +67,11 @@ returns-2 c =
     let s = c .before .before .before .before .before .before .before .before .before .before .before .before .before .before .args in
     let g = geometryOf (s .geometry) in
     let told = c .before .before .before .before .before .before .before .before .before .before .before .before .size-fault .ensures in
-    let accepted = sym told ∙ c .before .before .before .before .before .before .before .before .before .before .before .if1 .left in
-    (
+    let accepted = sym told ∙ c .before .before .before .before .before .before .before .before .before .before .before .if1 .left in (
       sym accepted,
       c .before .before .put-header .ensures
-      ∙ ap (over 0 (packed (headerEntries g))) (c .before .before .before .before .before .before .clear-front .ensures ∙ ap (λ (n : ℕ). over 0 (replicate (n * g .blockSize) 0) (s .disk .now)) (c .before .before .before .before .before .before .before .before .before .before .area-start .ensures))
-      ∙ header-over-zeros g (sized (c .before .before .before .before .before .before .before .before .before .before .before) .fits) (s .disk .now) ∙ formatted-accepted (s .disk .now) g accepted,
+          ∙ ap (over 0 (packed (headerEntries g))) (c .before .before .before .before .before .before .clear-front .ensures ∙ ap (λ (n : ℕ). over 0 (replicate (n * g .blockSize) 0) (s .disk .now)) (c .before .before .before .before .before .before .before .before .before .before .area-start .ensures))
+          ∙ header-over-zeros g (sized (c .before .before .before .before .before .before .before .before .before .before .before) .fits) (s .disk .now) ∙ formatted-accepted (s .disk .now) g accepted,
     )
 
 pub format-drive-spec : {M : Type 1} → statement M

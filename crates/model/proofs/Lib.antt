@@ -1,4 +1,4 @@
 pub mod Laws
 pub mod Refusals
 pub mod Tree
-pub mod Promises
+pub mod Theorems

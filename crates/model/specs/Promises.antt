@@ -1,4 +1,4 @@
--- The promises, each a statement type; proofs/Promises has the proofs. Assumes nothing.
+-- The promises, each a statement type; proofs/Theorems has the proofs. Assumes nothing.
 pub mod Figures
 pub mod Limits
 pub mod Refusals

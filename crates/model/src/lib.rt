@@ -1,1 +1,14 @@
-// Document 01 as definitions, their laws, and what is promised of them.
+// Document 01 as definitions, their laws, and what is promised of them. There is no code here but `promises`.
+ghost use Rattle.model.specs.Promises.Figures.{Figures};
+ghost use Rattle.model.specs.Promises.Limits.{Limits};
+ghost use Rattle.model.specs.Promises.Refusals.{Refusals};
+ghost use Rattle.model.specs.Promises.BufferBounds.{BufferBounds};
+
+// Holds the promises in its contract, so that none can be dropped or weakened unseen.
+pub fn promises()
+    ensures figures { λ _. ⌜ Figures ⌝ }
+    ensures limits { λ _. ⌜ Limits ⌝ }
+    ensures refusals { λ _. ⌜ Refusals ⌝ }
+    ensures buffer_bounds { λ _. ⌜ BufferBounds ⌝ }
+{
+}

@@ -1,0 +1,13 @@
+-- `promises` meets its contract: each promise is one of the theorems. Assumes nothing.
+use Rattle.model.proofs.Theorems.Figures.{figures}
+use Rattle.model.proofs.Theorems.Limits.{limits}
+use Rattle.model.proofs.Theorems.Refusals.{refusals}
+use Rattle.model.proofs.Theorems.BufferBounds.{buffer-bounds}
+use Rattle.model.proofs.promises.Statement.{statement}
+use Rattle.model.proofs.promises.Tie as tie
+
+returns : tie.Need-returns
+returns c = (figures, (limits, (refusals, buffer-bounds)))
+
+pub promises-spec : {M : Type 1} → statement M
+promises-spec = tie.close (tie.spec returns)

@@ -1,0 +1,3 @@
+-- What an inspector sees of two drives side by side, and what the simulator tells of one.
+pub mod Agreement
+pub mod Shown

@@ -1,3 +1,4 @@
 -- What an inspector sees of two drives side by side, and what the simulator tells of one.
 pub mod Agreement
 pub mod Shown
+pub mod View

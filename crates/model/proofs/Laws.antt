@@ -8,3 +8,5 @@ pub mod PublicMap
 pub mod Stores
 pub mod Table
 pub mod Refusals
+pub mod Paths
+pub mod HiddenHalf

@@ -2,3 +2,4 @@
 pub mod Agreement
 pub mod Shown
 pub mod View
+pub mod Tracking

@@ -17,6 +17,7 @@ use Rattle.model.specs.Stores.{Store, Trace, addresses}
 use Rattle.model.specs.View.{isShown, shownOf}
 use Rattle.model.proofs.Laws.Slots.{isSlotBlock-other, isSlotBlock-slotStart, isSlotBlock-below, isSlotBlock-past}
 use Rattle.model.proofs.Laws.Stores.{All}
+use Rattle.model.proofs.Laws.Paths.{WholeStore}
 use Rattle.model.proofs.Views.Agreement.{Agree, Beside, Along, none, more}
 
 -- ---- addresses ----
@@ -83,13 +84,10 @@ blockAt-same g disk other a address e =
 abbrev pub Hidden : Geometry → DiskAddress → Type 0
 Hidden g address = (address < blockCount g) × (isShown g address ≡ false)
 
-abbrev pub Whole : Geometry → Store → Type 0
-Whole g x = length (x .content) ≡ g .blockSize
-
 -- whole blocks to addresses that are not shown are side by side, whatever they hold
 pub along-hidden :
-    (g : Geometry) (xs ys : Trace) → addresses xs ≡ addresses ys → All (Hidden g) (addresses xs) → All (Whole g) xs →
-    All (Whole g) ys → TraceSame g xs ys
+    (g : Geometry) (xs ys : Trace) → addresses xs ≡ addresses ys → All (Hidden g) (addresses xs) → All (WholeStore g) xs →
+    All (WholeStore g) ys → TraceSame g xs ys
 unfolding addresses
 along-hidden g [] [] e h p q = none
 along-hidden g [] (y ∷ ys) e h p q = absurd (let z : _≡_ {A = ℕ} 0 1 = cc in omega arith)

@@ -3,3 +3,4 @@ pub mod Agreement
 pub mod Shown
 pub mod View
 pub mod Tracking
+pub mod Answers

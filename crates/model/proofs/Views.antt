@@ -4,3 +4,4 @@ pub mod Shown
 pub mod View
 pub mod Tracking
 pub mod Answers
+pub mod Sides

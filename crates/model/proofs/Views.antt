@@ -4,4 +4,5 @@ pub mod Shown
 pub mod View
 pub mod Tracking
 pub mod Answers
+pub mod Updates
 pub mod Sides

@@ -6,3 +6,5 @@ pub mod Tracking
 pub mod Answers
 pub mod Updates
 pub mod Sides
+pub mod Allowed
+pub mod Drives

@@ -1,2 +1,128 @@
--- Assumes nothing.
-use Prim.Native.Nat.{ℕ}
+-- Two accepted drives that show the same are alike, and the other way round; of two such drives the simulator keeps the
+-- same, and their public reads answer and show the same. Assumes nothing.
+use mathlib.Core.Path.{_≡_, refl, sym, ap, ap₂, _∙_, subst}
+use mathlib.Core.Logic.{_≢_, _⊎_, inl, inr, ⊎-elim}
+use mathlib.Core.Bool.{Bool, true, false, cond}
+use mathlib.Core.List.{List, []}
+use Prim.Native.Nat.{ℕ, _*_, _<_}
+use native.Mathlib.Omega.{arith}
+use lib.Dec.{eqb}
+use lib.ListN.{length}
+use borrow.Author.Tests.{eq-eqb, ne-eqb}
+use Rattle.laws.proofs.Cases.{eq-cases, cond-true, cond-false}
+use Rattle.model.specs.Geometry.{Geometry, blockCount, driveSize}
+use Rattle.model.specs.Blocks.{Bytes, blockAt, entryAt}
+use Rattle.model.specs.Layout.{Drive, geometryIn, mapEntry}
+use Rattle.model.specs.Refusals.{driveRefusal, publicReadRefusal, writeRefusal}
+use Rattle.model.specs.Calls.{publicRead}
+use Rattle.model.specs.View.{viewFrom, viewOf, Alike}
+use Rattle.model.specs.Simulator.{Simulator, simulatorOf, simulatedAnswer}
+use Rattle.model.proofs.Laws.Refusals.{drive-of-refusal}
+use Rattle.model.proofs.Views.Shown.{ShowSame, blockAt-same, isShown-slotBlock}
+use Rattle.model.proofs.Views.View.{entryAt-viewOf, geometry-ext, viewFrom-same, showSame-of-viewFrom}
+use Rattle.model.proofs.Views.Tracking.{simulatorOf-viewOf}
+use Rattle.model.proofs.Views.Answers.{trackerOf, readLengths, simulatedAnswer-read}
+use Rattle.model.proofs.Views.Sides.{entryAt-same, mapEntry-same}
+use Rattle.model.proofs.Views.Allowed.{Placed, PlaceAllowed, place-of-read}
+
+-- two accepted drives that show the same
+pub record Twins (disk other : Bytes) : Type 0 where
+  pub accepted : driveRefusal disk ≡ 0
+  pub other-accepted : driveRefusal other ≡ 0
+  pub show-same : ShowSame (geometryIn disk) disk other
+
+-- ---- alike ----
+
+pub twins-of-alike : (disk other : Bytes) → Alike disk other → Twins disk other
+unfolding viewOf
+twins-of-alike disk other a =
+    let here = drive-of-refusal disk (a .accepted) in
+    let there = drive-of-refusal other (a .other-accepted) in
+    let e : geometryIn other ≡ geometryIn disk =
+    geometry-ext other disk
+    (λ index h. sym (entryAt-viewOf other there index (omega arith)) ∙ entryAt-view index ∙ entryAt-viewOf disk here index (omega arith)) in
+    record {
+      accepted = a .accepted;
+      other-accepted = a .other-accepted;
+      show-same =
+        showSame-of-viewFrom (geometryIn disk) disk other (here .whole) (sym (a .same-length) ∙ here .whole)
+        (a .same-view ∙ ap (λ (g : Geometry). viewFrom g other 0 (blockCount g)) e);
+    }
+  where
+    entryAt-view : (index : ℕ) → entryAt index (viewOf other) ≡ entryAt index (viewOf disk)
+    entryAt-view index = ap (entryAt index) (sym (a .same-view))
+
+module _ (disk other : Bytes) (twins : Twins disk other) where
+  here : Drive (geometryIn disk) disk
+  here = drive-of-refusal disk (twins .accepted)
+
+  pub twins-geometry : geometryIn disk ≡ geometryIn other
+  twins-geometry =
+      geometry-ext disk other
+      (λ index h. entryAt-same (geometryIn disk) (here .fits) disk other (twins .show-same) index (omega arith))
+
+  pub twins-view : viewOf disk ≡ viewOf other
+  unfolding viewOf
+  twins-view =
+      viewFrom-same (geometryIn disk) disk other (twins .show-same) (blockCount (geometryIn disk)) 0
+      ∙ ap (λ (g : Geometry). viewFrom g other 0 (blockCount g)) twins-geometry
+
+  pub alike-of-twins : Alike disk other
+  alike-of-twins =
+      record {
+        same-length = twins .show-same .whole ∙ sym (twins .show-same .other-whole);
+        accepted = twins .accepted;
+        other-accepted = twins .other-accepted;
+        same-view = twins-view;
+      }
+
+  -- the simulator keeps the same of both
+  pub twins-tracker : trackerOf disk (twins .accepted) ≡ trackerOf other (twins .other-accepted)
+  twins-tracker =
+      sym (simulatorOf-viewOf disk here) ∙ ap simulatorOf twins-view
+      ∙ simulatorOf-viewOf other (drive-of-refusal other (twins .other-accepted))
+
+  -- ---- a public read ----
+
+  pub twins-readRefusal : (number : ℕ) (blank : Bytes) → publicReadRefusal disk number blank ≡ publicReadRefusal other number blank
+  twins-readRefusal number blank =
+      sym (simulatedAnswer-read disk (twins .accepted) number blank)
+      ∙ ap (λ (sim : Simulator). simulatedAnswer sim (readLengths number (length blank))) twins-tracker
+      ∙ simulatedAnswer-read other (twins .other-accepted) number blank
+
+  -- what a read that is not refused shows
+  shown-same :
+      (number : ℕ) (blank : Bytes) → publicReadRefusal disk number blank ≡ 0 →
+      cond (eqb (mapEntry (geometryIn disk) disk number) 0) blank
+      (blockAt (geometryIn disk .blockSize) disk (mapEntry (geometryIn disk) disk number)) ≡
+      cond (eqb (mapEntry (geometryIn other) other number) 0) blank
+      (blockAt (geometryIn other .blockSize) other (mapEntry (geometryIn other) other number))
+  shown-same number blank e =
+      let g = geometryIn disk in
+      let allowed = place-of-read disk (twins .accepted) number blank e in
+      let entry : mapEntry g disk number ≡ mapEntry g other number =
+      mapEntry-same g (here .fits) disk other (twins .show-same) number (allowed .known) in
+      by (allowed .place)
+      ∙ ap (λ (n : ℕ). cond (eqb n 0) blank (blockAt (g .blockSize) other n)) entry
+      ∙ ap (λ (h : Geometry). cond (eqb (mapEntry h other number) 0) blank (blockAt (h .blockSize) other (mapEntry h other number))) twins-geometry
+    where
+      by : (mapEntry (geometryIn disk) disk number ≡ 0) ⊎ Placed (geometryIn disk) disk (mapEntry (geometryIn disk) disk number) →
+          cond (eqb (mapEntry (geometryIn disk) disk number) 0) blank
+          (blockAt (geometryIn disk .blockSize) disk (mapEntry (geometryIn disk) disk number)) ≡
+          cond (eqb (mapEntry (geometryIn disk) disk number) 0) blank
+          (blockAt (geometryIn disk .blockSize) other (mapEntry (geometryIn disk) disk number))
+      by (inl z) = rw (eq-eqb (mapEntry (geometryIn disk) disk number) 0 z)
+      by (inr place) =
+          ap (cond (eqb (mapEntry (geometryIn disk) disk number) 0) blank)
+          (blockAt-same (geometryIn disk) disk other (twins .show-same) (mapEntry (geometryIn disk) disk number)
+          (isShown-slotBlock (geometryIn disk) (mapEntry (geometryIn disk) disk number) (place .starts)))
+
+  pub twins-read : (number : ℕ) (blank : Bytes) → publicRead disk number blank ≡ publicRead other number blank
+  unfolding publicRead
+  twins-read number blank =
+      ⊎-elim
+      (λ e. cond-true _ [] (eq-eqb (publicReadRefusal disk number blank) 0 e) ∙ shown-same number blank e
+      ∙ sym (cond-true _ [] (eq-eqb (publicReadRefusal other number blank) 0 (sym (twins-readRefusal number blank) ∙ e))))
+      (λ e. cond-false _ [] (ne-eqb (publicReadRefusal disk number blank) 0 e)
+      ∙ sym (cond-false _ [] (ne-eqb (publicReadRefusal other number blank) 0 (λ z. e (twins-readRefusal number blank ∙ z)))))
+      (eq-cases (publicReadRefusal disk number blank) 0)

@@ -6,5 +6,6 @@ pub mod Tracking
 pub mod Answers
 pub mod Updates
 pub mod Sides
+pub mod SideRuns
 pub mod Allowed
 pub mod Drives

@@ -20,11 +20,11 @@ use Rattle.model.specs.View.{isShown, shownOf}
 use Rattle.model.specs.Rounds.{publicStore, mapStore, bitStore, bitStores, headerStore, mapStores, roundTrace}
 use Rattle.model.proofs.Laws.Geometry.{mapAddress-lt, bitAddress-lt, slot-block-lt, rootAddress-lt}
 use Rattle.model.proofs.Laws.Entries.{length-setEntry, entryAt-header}
-use Rattle.model.proofs.Laws.Slots.{SlotBlock}
 use Rattle.model.proofs.Laws.PublicMap.{mapEntry-block, length-mapBlockWith}
 use Rattle.model.proofs.Laws.Bitmap.{isAllocated-block, bitmapWith-is, length-bitmapWith}
 use Rattle.model.proofs.Laws.Stores.{All, all-append}
 use Rattle.model.proofs.Laws.Paths.{Hides, blockAt-whole}
+use Rattle.model.proofs.Laws.PublicHalf.{OldPlace}
 use Rattle.model.proofs.Views.Agreement.{none, more, along-append, agree-apply}
 use Rattle.model.proofs.Views.Shown.{isShown-below, isShown-slotStart, isShown-slot-block, isShown-rootAddress, ShowSame, StoreSame, TraceSame, blockAt-same, Hidden, along-hidden}
 
@@ -120,7 +120,7 @@ module _ (g : Geometry) (f : Fits g) (disk other : Bytes) (same : ShowSame g dis
 module _ (g : Geometry) (f : Fits g) (disk other : Bytes) (same : ShowSame g disk other) (number slot : ℕ) (content : Bytes)
     (known : number < g .publics) (inside : slot < g .slots) (sized : length content ≡ g .blockSize) where
   bitStores-same :
-      (entry : DiskAddress) → (entry ≡ 0) ⊎ SlotBlock g 0 entry → TraceSame g (bitStores g disk entry slot) (bitStores g other entry slot)
+      (entry : DiskAddress) → OldPlace g entry → TraceSame g (bitStores g disk entry slot) (bitStores g other entry slot)
   unfolding bitStores
   bitStores-same entry old = more new (by old)
     where
@@ -134,7 +134,7 @@ module _ (g : Geometry) (f : Fits g) (disk other : Bytes) (same : ShowSame g dis
       chosen true h = none
       chosen false h = h
 
-      by : (entry ≡ 0) ⊎ SlotBlock g 0 entry →
+      by : OldPlace g entry →
           TraceSame g (cond (eqb entry 0) [] (bitStore g (apply (g .blockSize) (bitStore g disk slot true ∷ []) disk) (slotOf g entry) false ∷ []))
           (cond (eqb entry 0) [] (bitStore g (apply (g .blockSize) (bitStore g other slot true ∷ []) other) (slotOf g entry) false ∷ []))
       by (inl e) = rw (eq-eqb entry 0 e) none
@@ -142,7 +142,7 @@ module _ (g : Geometry) (f : Fits g) (disk other : Bytes) (same : ShowSame g dis
           chosen (eqb entry 0) (more (bitStore-same g f _ _ after (slotOf g entry) false (block .slot-inside)) none)
 
   mapStores-same :
-      (choice : PublicChoice) → (mapEntry g disk number ≡ 0) ⊎ SlotBlock g 0 (mapEntry g disk number) →
+      (choice : PublicChoice) → OldPlace g (mapEntry g disk number) →
       TraceSame g (mapStores choice g disk number slot) (mapStores choice g other number slot)
   unfolding mapStores
   mapStores-same keepPublic old = none
@@ -152,7 +152,7 @@ module _ (g : Geometry) (f : Fits g) (disk other : Bytes) (same : ShowSame g dis
       more (mapStore-same g f disk other same number slot known) bits
 
   pub roundTrace-same :
-      (choice : PublicChoice) (xs ys : Trace) → (mapEntry g disk number ≡ 0) ⊎ SlotBlock g 0 (mapEntry g disk number) →
+      (choice : PublicChoice) (xs ys : Trace) → OldPlace g (mapEntry g disk number) →
       Hides g slot xs → Hides g slot ys →
       TraceSame g (roundTrace choice g disk number slot content xs) (roundTrace choice g other number slot content ys)
   unfolding roundTrace

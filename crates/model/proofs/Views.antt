@@ -9,3 +9,4 @@ pub mod Sides
 pub mod SideRuns
 pub mod Allowed
 pub mod Drives
+pub mod Writes

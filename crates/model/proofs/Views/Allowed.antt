@@ -4,34 +4,28 @@ use mathlib.Core.Logic.{_≢_, _⊎_, inl, inr, ⊎-elim}
 use mathlib.Core.Bool.{Bool, true, false, not, _||_}
 use mathlib.Core.List.{List, [], _∷_, _++_, append-nil}
 use Prim.Native.Nat.{ℕ, _*_, _≤_, _<_}
-use native.Mathlib.Nat.{mul-assoc}
 use native.Mathlib.Omega.{arith}
 use lib.Dec.{leb, ltb, eqb}
 use lib.ListN.{length}
 use borrow.Author.Tests.{leb-false, ltb-false, eqb-true, eqb-false, not-false}
 use Rattle.laws.specs.Checks.{Check, firstOf}
-use Rattle.laws.proofs.Cases.{and-left, and-right, or-cases}
+use Rattle.laws.proofs.Cases.{or-cases}
 use Rattle.laws.proofs.Checks.{Numbered, Passed, passed-of-zero, passed-front, passed-rest}
 use Rattle.model.specs.Geometry.{Geometry}
 use Rattle.model.specs.Blocks.{Bytes}
-use Rattle.model.specs.Layout.{geometryIn, slotOf, mapEntry, isAllocated, isSlotBlock, isPlace}
+use Rattle.model.specs.Layout.{geometryIn, mapEntry, isPlace}
 use Rattle.model.specs.Refusals.{driveRefusal, placeChecks, roundCount, storeCount, roundChecks, publicReadRefusal, writeRefusal}
-use Rattle.model.proofs.Laws.Slots.{SlotBlock, slotBlock-of}
 use Rattle.model.proofs.Laws.Refusals.{after-drive-pass}
-
--- an entry that leads to an allocated slot
-pub record Placed (g : Geometry) (disk : Bytes) (entry : ℕ) : Type 0 where
-  pub starts : isSlotBlock g 0 entry ≡ true
-  pub allocated : isAllocated g disk (slotOf g entry) ≡ true
+use Rattle.model.proofs.Laws.Wrote.{Placed}
 
 pub record PlaceAllowed (g : Geometry) (disk : Bytes) (number size : ℕ) : Type 0 where
   pub known : number < g .publics
   pub sized : size ≡ g .blockSize
-  pub place : (mapEntry g disk number ≡ 0) ⊎ Placed g disk (mapEntry g disk number)
+  pub place : Placed g disk number
 
 pub record RoundsAllowed (g : Geometry) (disk : Bytes) (number random room : ℕ) : Type 0 where
   pub some-rounds : roundCount g disk ≢ 0
-  pub enough-random : roundCount g disk * (g .height * g .blockSize) ≤ random
+  pub enough-random : roundCount g disk * g .height * g .blockSize ≤ random
   pub enough-room : storeCount g (roundCount g disk) (mapEntry g disk number) ≤ room
 
 -- ---- the chains ----
@@ -45,16 +39,13 @@ unfolding roundChecks
 numbered-rounds g disk number random room = (λ e. omega arith, ((λ e. omega arith), ((λ e. omega arith), tt)))
 
 place-of-passed : (g : Geometry) (disk : Bytes) (number size : ℕ) → Passed (placeChecks g disk number size) → PlaceAllowed g disk number size
-unfolding placeChecks isPlace
+unfolding placeChecks
 place-of-passed g disk number size p =
     let entry = mapEntry g disk number in
-    let starts = isSlotBlock g 0 entry in
-    let taken = isAllocated g disk (slotOf g entry) in
     record {
       known = leb-false (g .publics) number (p .0);
       sized = eqb-true size (g .blockSize) (not-false (eqb size (g .blockSize)) (p .1 .0));
-      place = ⊎-elim (λ e. inl (eqb-true entry 0 e))
-        (λ e. inr (record { starts = and-left starts taken e; allocated = and-right starts taken e }))
+      place = ⊎-elim (λ e. inl (eqb-true entry 0 e)) (λ e. inr e)
         (or-cases (eqb entry 0) (isPlace g disk entry) (not-false (eqb entry 0 || isPlace g disk entry) (p .1 .1 .0)));
     }
 
@@ -64,10 +55,9 @@ rounds-of-passed :
 unfolding roundChecks
 rounds-of-passed g disk number random room p =
     let rounds = roundCount g disk in
-    let enough = ltb-false random (rounds * g .height * g .blockSize) (p .1 .0) in
     record {
       some-rounds = eqb-false rounds 0 (p .0);
-      enough-random = omega (arith, mul-assoc rounds (g .height) (g .blockSize));
+      enough-random = ltb-false random (rounds * g .height * g .blockSize) (p .1 .0);
       enough-room = ltb-false room (storeCount g rounds (mapEntry g disk number)) (p .1 .1 .0);
     }
 

@@ -18,7 +18,8 @@ use Rattle.model.specs.Refusals.{oneMore, roundsTo, roundCount, storeCou
 use Rattle.model.specs.Simulator.{Simulator, CallLengths, entriesFrom, allocatedFrom, leastFrom, simulatedRounds, addressesFrom, slotAddresses, keptRounds, lastRound, simulatedStores, simulatedPlaceChecks, simulatedRoundChecks, simulatedAnswer}
 use Rattle.model.proofs.Laws.Slots.{nextSlot-lt, slotBlock-of}
 use Rattle.model.proofs.Laws.Refusals.{Accepted, after-drive-pass, accepted-of-refusal}
-use Rattle.model.proofs.Views.Tracking.{tracked, getD-entries, getD-allocated}
+use Rattle.model.proofs.Laws.RoundCounts.{roundsTo-ext, length-rounds}
+use Rattle.model.proofs.Views.Tracking.{tracked, trackerOf, getD-entries, getD-allocated}
 
 -- ---- rounds ----
 
@@ -55,14 +56,6 @@ leastFrom-roundsTo g isTaken head (suc most) first =
     by true rounds h = h ∙ countedFrom-oneMore first rounds
     by false rounds h = omega arith
 
-pub roundsTo-ext :
-    (g : Geometry) → Fits g → (isTaken other : ℕ → Bool) → ((slot : ℕ) → slot < g .slots → isTaken slot ≡ other slot) →
-    (most slot : ℕ) → slot < g .slots → roundsTo most isTaken g slot ≡ roundsTo most other g slot
-unfolding roundsTo
-roundsTo-ext g f isTaken other e zero slot h = refl
-roundsTo-ext g f isTaken other e (suc most) slot h =
-    rw (e slot h, roundsTo-ext g f isTaken other e most (nextSlot g slot) (nextSlot-lt g slot f))
-
 pub simulatedRounds-is :
     (g : Geometry) → Fits g → (head : ℕ) (disk : Bytes) → head < g .slots →
     simulatedRounds (tracked g head disk) ≡ roundsTo (g .slots) (isAllocated g disk) g head
@@ -72,46 +65,7 @@ simulatedRounds-is g f head disk h =
     leastFrom-roundsTo g (λ slot. getD (tracked g head disk .allocated) slot false) head (g .slots) 0
     ∙ ap (λ (n : ℕ). countedFrom 0 (roundsTo (g .slots) (λ slot. getD (tracked g head disk .allocated) slot false) g n)) at
     ∙ countedFrom-zero (roundsTo (g .slots) (λ slot. getD (tracked g head disk .allocated) slot false) g head)
-    ∙ roundsTo-ext g f (λ slot. getD (tracked g head disk .allocated) slot false) (isAllocated g disk) (getD-allocated g disk) (g .slots) head h
-
--- ---- how many stores ----
-
-length-addressesFrom : (address : DiskAddress) (count : ℕ) → length (addressesFrom address count) ≡ count
-unfolding addressesFrom
-length-addressesFrom address zero = refl
-length-addressesFrom address (suc count) = ap suc (length-addressesFrom (suc address) count)
-
-length-slotAddresses : (g : Geometry) (slot : ℕ) → length (slotAddresses g slot) ≡ g .height + 2
-length-slotAddresses g slot =
-    length-append (addressesFrom (slotStart g slot) (suc (g .height))) (rootAddress g ∷ [])
-    ∙ omega (arith, length-addressesFrom (slotStart g slot) (suc (g .height)))
-
-length-keptRounds : (count : ℕ) (g : Geometry) (slot : ℕ) → length (keptRounds count g slot) ≡ count * (g .height + 3)
-unfolding keptRounds
-length-keptRounds zero g slot = omega arith
-length-keptRounds (suc count) g slot =
-    length-append (slotAddresses g slot) (0 ∷ keptRounds count g (nextSlot g slot))
-    ∙ omega (arith, length-slotAddresses g slot, length-keptRounds count g (nextSlot g slot))
-
-length-lastRound :
-    (g : Geometry) (number : ℕ) (entry : DiskAddress) (slot : ℕ) → length (lastRound g number entry slot) ≡ g .height + 3 + cond (eqb entry 0) 2 3
-length-lastRound g number entry slot =
-    length-append (slotAddresses g slot) _ ∙ rw (length-slotAddresses g slot) (by (eqb entry 0))
-  where
-    by : (b : Bool) →
-        g .height + 2 + length (mapAddress g number ∷ bitAddress g slot ∷ cond b (0 ∷ []) (bitAddress g (slotOf g entry) ∷ 0 ∷ [])) ≡
-        g .height + 3 + cond b 2 3
-    by true = omega arith
-    by false = omega arith
-
-pub length-stores :
-    (g : Geometry) (head rounds number : ℕ) (entry : DiskAddress) (last : ℕ) → 1 ≤ rounds →
-    length (keptRounds (rounds - 1) g head ++ lastRound g number entry last) ≡ storeCount g rounds entry
-length-stores g head (suc rounds) number entry last h =
-    let e : suc rounds - 1 ≡ rounds = omega arith in
-    length-append (keptRounds (suc rounds - 1) g head) (lastRound g number entry last)
-    ∙ rw (e, length-keptRounds rounds g head, length-lastRound g number entry last) (omega arith)
-length-stores g head zero number entry last h = absurd (omega arith)
+    ∙ roundsTo-ext (g .slots) (λ slot. getD (tracked g head disk .allocated) slot false) (isAllocated g disk) g f head h (getD-allocated g disk)
 
 -- ---- answers ----
 
@@ -166,8 +120,10 @@ module _ (g : Geometry) (f : Fits g) (disk : Bytes) (inside : headIn disk < g .s
       length (simulatedStores (tracked g (headIn disk) disk) number) ≡ storeCount g (roundCount g disk) (mapEntry g disk number)
   unfolding simulatedStores
   stores-same number h some =
+      let rounds : suc (roundCount g disk - 1) ≡ roundCount g disk = omega arith in
       rw (simulatedRounds-is g f (headIn disk) disk inside, getD-entries g disk number h)
-      (length-stores g (headIn disk) (roundCount g disk) number (mapEntry g disk number) _ (omega arith))
+      (length-rounds (roundCount g disk - 1) g number (mapEntry g disk number) (headIn disk) _
+      ∙ ap (λ (n : ℕ). storeCount g n (mapEntry g disk number)) rounds)
 
   -- 7 to 9
   round-answer :
@@ -190,12 +146,8 @@ writeLengths number content random room =
     record { isWrite = true; number = number; content = content; random = random; room = room }
 
 module _ (disk : Bytes) (accepted : driveRefusal disk ≡ 0) where
-  -- the simulator that tracks the disk
-  abbrev pub trackerOf : Simulator
-  trackerOf = tracked (geometryIn disk) (headIn disk) disk
-
   pub simulatedAnswer-read :
-      (number : ℕ) (blank : Bytes) → simulatedAnswer trackerOf (readLengths number (length blank)) ≡ publicReadRefusal disk number blank
+      (number : ℕ) (blank : Bytes) → simulatedAnswer (trackerOf disk) (readLengths number (length blank)) ≡ publicReadRefusal disk number blank
   unfolding simulatedAnswer publicReadRefusal
   simulatedAnswer-read number blank =
       let a = accepted-of-refusal disk accepted in
@@ -206,13 +158,13 @@ module _ (disk : Bytes) (accepted : driveRefusal disk ≡ 0) where
 
   pub simulatedAnswer-write :
       (number : ℕ) (content : Bytes) (random room : ℕ) →
-      simulatedAnswer trackerOf (writeLengths number (length content) random room) ≡ writeRefusal disk number content random room
+      simulatedAnswer (trackerOf disk) (writeLengths number (length content) random room) ≡ writeRefusal disk number content random room
   unfolding simulatedAnswer writeRefusal
   simulatedAnswer-write number content random room =
       let a = accepted-of-refusal disk accepted in
       let g = geometryIn disk in
       let call = writeLengths number (length content) random room in
       let cs = placeChecks g disk number (length content) ++ roundChecks g disk number random room in
-      place-answer g (a .sized .fits) disk (a .head-inside) call (simulatedRoundChecks trackerOf call)
+      place-answer g (a .sized .fits) disk (a .head-inside) call (simulatedRoundChecks (trackerOf disk) call)
       (roundChecks g disk number random room) (round-answer g (a .sized .fits) disk (a .head-inside) call) .same
       ∙ sym (after-drive-pass disk cs accepted)

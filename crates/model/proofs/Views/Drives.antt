@@ -9,21 +9,22 @@ use native.Mathlib.Omega.{arith}
 use lib.Dec.{eqb}
 use lib.ListN.{length}
 use borrow.Author.Tests.{eq-eqb, ne-eqb}
-use Rattle.laws.proofs.Cases.{eq-cases, cond-true, cond-false}
+use Rattle.laws.proofs.Cases.{eq-cases, and-left, cond-true, cond-false}
 use Rattle.model.specs.Geometry.{Geometry, blockCount, driveSize}
 use Rattle.model.specs.Blocks.{Bytes, blockAt, entryAt}
-use Rattle.model.specs.Layout.{Drive, geometryIn, mapEntry}
+use Rattle.model.specs.Layout.{Drive, geometryIn, mapEntry, isSlotBlock, isPlace}
 use Rattle.model.specs.Refusals.{driveRefusal, publicReadRefusal, writeRefusal}
 use Rattle.model.specs.Calls.{publicRead}
 use Rattle.model.specs.View.{viewFrom, viewOf, Alike}
 use Rattle.model.specs.Simulator.{Simulator, simulatorOf, simulatedAnswer}
 use Rattle.model.proofs.Laws.Refusals.{drive-of-refusal}
+use Rattle.model.proofs.Laws.Wrote.{Placed}
 use Rattle.model.proofs.Views.Shown.{ShowSame, blockAt-same, isShown-slotBlock}
 use Rattle.model.proofs.Views.View.{entryAt-viewOf, geometry-ext, viewFrom-same, showSame-of-viewFrom}
-use Rattle.model.proofs.Views.Tracking.{simulatorOf-viewOf}
-use Rattle.model.proofs.Views.Answers.{trackerOf, readLengths, simulatedAnswer-read}
+use Rattle.model.proofs.Views.Tracking.{trackerOf, simulatorOf-viewOf}
+use Rattle.model.proofs.Views.Answers.{readLengths, simulatedAnswer-read}
 use Rattle.model.proofs.Views.Sides.{entryAt-same, mapEntry-same}
-use Rattle.model.proofs.Views.Allowed.{Placed, PlaceAllowed, place-of-read}
+use Rattle.model.proofs.Views.Allowed.{PlaceAllowed, place-of-read}
 
 -- two accepted drives that show the same
 pub record Twins (disk other : Bytes) : Type 0 where
@@ -77,7 +78,7 @@ module _ (disk other : Bytes) (twins : Twins disk other) where
       }
 
   -- the simulator keeps the same of both
-  pub twins-tracker : trackerOf disk (twins .accepted) ≡ trackerOf other (twins .other-accepted)
+  pub twins-tracker : trackerOf disk ≡ trackerOf other
   twins-tracker =
       sym (simulatorOf-viewOf disk here) ∙ ap simulatorOf twins-view
       ∙ simulatorOf-viewOf other (drive-of-refusal other (twins .other-accepted))
@@ -97,6 +98,7 @@ module _ (disk other : Bytes) (twins : Twins disk other) where
       (blockAt (geometryIn disk .blockSize) disk (mapEntry (geometryIn disk) disk number)) ≡
       cond (eqb (mapEntry (geometryIn other) other number) 0) blank
       (blockAt (geometryIn other .blockSize) other (mapEntry (geometryIn other) other number))
+  unfolding isPlace
   shown-same number blank e =
       let g = geometryIn disk in
       let allowed = place-of-read disk (twins .accepted) number blank e in
@@ -106,7 +108,7 @@ module _ (disk other : Bytes) (twins : Twins disk other) where
       ∙ ap (λ (n : ℕ). cond (eqb n 0) blank (blockAt (g .blockSize) other n)) entry
       ∙ ap (λ (h : Geometry). cond (eqb (mapEntry h other number) 0) blank (blockAt (h .blockSize) other (mapEntry h other number))) twins-geometry
     where
-      by : (mapEntry (geometryIn disk) disk number ≡ 0) ⊎ Placed (geometryIn disk) disk (mapEntry (geometryIn disk) disk number) →
+      by : Placed (geometryIn disk) disk number →
           cond (eqb (mapEntry (geometryIn disk) disk number) 0) blank
           (blockAt (geometryIn disk .blockSize) disk (mapEntry (geometryIn disk) disk number)) ≡
           cond (eqb (mapEntry (geometryIn disk) disk number) 0) blank
@@ -115,7 +117,8 @@ module _ (disk other : Bytes) (twins : Twins disk other) where
       by (inr place) =
           ap (cond (eqb (mapEntry (geometryIn disk) disk number) 0) blank)
           (blockAt-same (geometryIn disk) disk other (twins .show-same) (mapEntry (geometryIn disk) disk number)
-          (isShown-slotBlock (geometryIn disk) (mapEntry (geometryIn disk) disk number) (place .starts)))
+          (isShown-slotBlock (geometryIn disk) (mapEntry (geometryIn disk) disk number)
+          (and-left (isSlotBlock (geometryIn disk) 0 (mapEntry (geometryIn disk) disk number)) _ place)))
 
   pub twins-read : (number : ℕ) (blank : Bytes) → publicRead disk number blank ≡ publicRead other number blank
   unfolding publicRead

@@ -5,7 +5,6 @@ use mathlib.Core.Logic.{_≢_, _⊎_, inl, inr}
 use mathlib.Core.Bool.{Bool, true, false, cond}
 use mathlib.Core.List.{List, [], _∷_, _++_}
 use Prim.Native.Nat.{ℕ, zero, suc, _+_, _*_, _≤_, _<_}
-use native.Mathlib.Nat.{mul-le-mul-right}
 use native.Mathlib.Omega.{arith}
 use lib.ListN.{length, drop, length-drop}
 use Rattle.laws.proofs.Cases.{bool-cases, cond-true, cond-false}
@@ -24,10 +23,10 @@ use Rattle.model.proofs.Laws.Paths.{Hides}
 use Rattle.model.proofs.Laws.HiddenHalf.{rowOf-public, WholeWrite, HidesHalf, hiddenHalf-hides}
 use Rattle.model.proofs.Laws.PublicHalf.{OldPlace}
 use Rattle.model.proofs.Laws.RoundStores.{afterRound}
+use Rattle.model.proofs.Laws.RoundCounts.{roundsTo-zero, roundsTo-taken, OneMore, oneMore-of, roundsTo-ext}
 use Rattle.model.proofs.Laws.RoundEffects.{mapEntry-kept, isAllocated-kept}
 use Rattle.model.proofs.Views.Agreement.{none, along-append, agree-apply}
 use Rattle.model.proofs.Views.Shown.{ShowSame, TraceSame}
-use Rattle.model.proofs.Views.Answers.{roundsTo-ext}
 use Rattle.model.proofs.Views.Sides.{isAllocated-same, roundTrace-same}
 
 -- ---- one round of a run ----
@@ -57,51 +56,40 @@ module _ (most : ℕ) (g : Geometry) (number : ℕ) (content : Bytes) (slot : �
       rowOf-public g disk slot (state .waiting) ∙ cond-false keepPublic writePublic e in
       rw choice
 
--- ---- the supply ----
+-- ---- a run ----
 
--- random bytes for so many rounds, and hidden writes of whole blocks
-pub record Supplied (g : Geometry) (rounds : ℕ) (random : Bytes) (state : HiddenState) : Type 0 where
-  pub enough : rounds * (g .height * g .blockSize) ≤ length random
+-- random bytes for so many rounds and one, and hidden writes of whole blocks
+pub record Supplied (g : Geometry) (earlier : ℕ) (random : Bytes) (state : HiddenState) : Type 0 where
+  pub enough : suc earlier * (g .height * g .blockSize) ≤ length random
   pub whole-writes : All (WholeWrite g) (state .waiting)
 
-roundsTo-kept :
-    (most : ℕ) (isTaken : ℕ → Bool) (g : Geometry) (slot : ℕ) → isTaken slot ≡ true → roundsTo (suc most) isTaken g slot ≢ 0 →
-    roundsTo (suc most) isTaken g slot ≡ suc (roundsTo most isTaken g (nextSlot g slot)) × (roundsTo most isTaken g (nextSlot g slot) ≢ 0)
-unfolding roundsTo
-roundsTo-kept most isTaken g slot e some = by (roundsTo most isTaken g (nextSlot g slot)) refl
-  where
-    by : (rounds : ℕ) → roundsTo most isTaken g (nextSlot g slot) ≡ rounds →
-        roundsTo (suc most) isTaken g slot ≡ suc (roundsTo most isTaken g (nextSlot g slot)) × (roundsTo most isTaken g (nextSlot g slot) ≢ 0)
-    by zero z = absurd (some (rw (e, z)))
-    by (suc rounds) z = (rw (e, z), λ q. omega arith)
-
--- ---- a run ----
+supplied-later :
+    (g : Geometry) (earlier : ℕ) (random : Bytes) (state : HiddenState) → suc (suc earlier) * (g .height * g .blockSize) ≤ length random →
+    All (WholeWrite g) (state .waiting) → Supplied g earlier (drop (g .height * g .blockSize) random) state
+supplied-later g earlier random state enough writes =
+    record { enough = simp length-drop (omega arith); whole-writes = writes }
 
 module _ (g : Geometry) (f : Fits g) (number : ℕ) (content : Bytes) (known : number < g .publics)
     (sized : length content ≡ g .blockSize) where
+  -- two runs of at most so many rounds, from any slot of any two disks that show the same
   abbrev RunsSame : (most : ℕ) → Type 0
   RunsSame most =
-      (disk other : Bytes) (slot : ℕ) (random others : Bytes) (state stateOther : HiddenState) → ShowSame g disk other →
-      slot < g .slots → OldPlace g (mapEntry g disk number) → roundsTo most (isAllocated g disk) g slot ≢ 0 →
-      Supplied g (roundsTo most (isAllocated g disk) g slot) random state →
-      Supplied g (roundsTo most (isAllocated g disk) g slot) others stateOther →
-      TraceSame g (runFrom most g number content slot random disk state .trace) (runFrom most g number content slot others other stateOther .trace)
+      (disk other : Bytes) (slot : ℕ) (random others : Bytes) (state stateOther : HiddenState) (earlier : ℕ) →
+      ShowSame g disk other → slot < g .slots → OldPlace g (mapEntry g disk number) →
+      roundsTo most (isAllocated g disk) g slot ≡ suc earlier → Supplied g earlier random state → Supplied g earlier others stateOther →
+      TraceSame g (runFrom most g number content slot random disk state .trace)
+      (runFrom most g number content slot others other stateOther .trace)
 
   runs-step : (most : ℕ) → RunsSame most → RunsSame (suc most)
-  runs-step most later disk other slot random others state stateOther same inside old some supply supplyOther =
+  runs-step most later disk other slot random others state stateOther earlier same inside old rounds supply supplyOther =
       by (bool-cases (isAllocated g disk slot))
     where
-      one : (rounds : ℕ) (bytes : Bytes) → rounds ≢ 0 → rounds * (g .height * g .blockSize) ≤ length bytes → g .height * g .blockSize ≤ length bytes
-      one rounds bytes ne enough =
-          let least : 1 ≤ rounds = omega arith in
-          omega (arith, mul-le-mul-right (g .height * g .blockSize) least)
-
       here : HidesHalf g slot (hiddenHalf g disk slot random state)
-      here = hiddenHalf-hides g f disk (same .whole) slot inside random (one _ random some (supply .enough)) state (supply .whole-writes)
+      here = hiddenHalf-hides g f disk (same .whole) slot inside random (omega (arith, supply .enough)) state (supply .whole-writes)
 
       there : HidesHalf g slot (hiddenHalf g other slot others stateOther)
       there =
-          hiddenHalf-hides g f other (same .other-whole) slot inside others (one _ others some (supplyOther .enough)) stateOther
+          hiddenHalf-hides g f other (same .other-whole) slot inside others (omega (arith, supplyOther .enough)) stateOther
           (supplyOther .whole-writes)
 
       round : (choice : PublicChoice) →
@@ -109,16 +97,21 @@ module _ (g : Geometry) (f : Fits g) (number : ℕ) (content : Bytes) (known : n
           (roundTrace choice g other number slot content (hiddenHalf g other slot others stateOther .trace))
       round choice = roundTrace-same g f disk other same number slot content known inside sized choice _ _ old (here .hides) (there .hides)
 
+      mark : isAllocated g other slot ≡ isAllocated g disk slot
+      mark = sym (isAllocated-same g f disk other same slot inside)
+
       by : (isAllocated g disk slot ≡ true) ⊎ (isAllocated g disk slot ≡ false) →
           TraceSame g (runFrom (suc most) g number content slot random disk state .trace)
           (runFrom (suc most) g number content slot others other stateOther .trace)
       by (inl e) =
           rw (runFrom-kept most g number content slot random disk state e,
-            runFrom-kept most g number content slot others other stateOther (sym (isAllocated-same g f disk other same slot inside) ∙ e))
+            runFrom-kept most g number content slot others other stateOther (mark ∙ e))
           (along-append (shownOf g) (g .blockSize) (blockCount g) (round keepPublic)
-          (later _ _ (nextSlot g slot) _ _ _ _ (agree-apply (shownOf g) (g .blockSize) (blockCount g) (round keepPublic) same)
-          (nextSlot-lt g slot f) (rw entry old) (λ z. next .1 (sym rounds ∙ z))
-          (supplied random (supply .enough) (here .waiting)) (supplied others (supplyOther .enough) (there .waiting))))
+          (later _ _ (nextSlot g slot) _ _ _ _ (more .before)
+          (agree-apply (shownOf g) (g .blockSize) (blockCount g) (round keepPublic) same) (nextSlot-lt g slot f) (rw entry old)
+          (marks ∙ more .rounds-is)
+          (supplied-later g (more .before) random _ (rw (more .earlier-is) at (supply .enough)) (here .waiting))
+          (supplied-later g (more .before) others _ (rw (more .earlier-is) at (supplyOther .enough)) (there .waiting))))
         where
           after : Bytes
           after = afterRound keepPublic g disk number slot content (hiddenHalf g disk slot random state .trace)
@@ -126,32 +119,19 @@ module _ (g : Geometry) (f : Fits g) (number : ℕ) (content : Bytes) (known : n
           entry : mapEntry g after number ≡ mapEntry g disk number
           entry = mapEntry-kept g f disk (same .whole) number known slot inside content sized old _ (here .hides) number known
 
-          rounds : roundsTo most (isAllocated g after) g (nextSlot g slot) ≡ roundsTo most (isAllocated g disk) g (nextSlot g slot)
-          rounds =
-              roundsTo-ext g f (isAllocated g after) (isAllocated g disk)
+          marks : roundsTo most (isAllocated g after) g (nextSlot g slot) ≡ roundsTo most (isAllocated g disk) g (nextSlot g slot)
+          marks =
+              roundsTo-ext most (isAllocated g after) (isAllocated g disk) g f (nextSlot g slot) (nextSlot-lt g slot f)
               (isAllocated-kept g f disk (same .whole) number known slot inside content sized old _ (here .hides))
-              most (nextSlot g slot) (nextSlot-lt g slot f)
 
-          next : roundsTo (suc most) (isAllocated g disk) g slot ≡ suc (roundsTo most (isAllocated g disk) g (nextSlot g slot)) × (roundsTo most (isAllocated g disk) g (nextSlot g slot) ≢ 0)
-          next = roundsTo-kept most (isAllocated g disk) g slot e some
-
-          supplied : (bytes : Bytes) {state : HiddenState} → roundsTo (suc most) (isAllocated g disk) g slot * (g .height * g .blockSize) ≤ length bytes →
-              All (WholeWrite g) (state .waiting) →
-              Supplied g (roundsTo most (isAllocated g after) g (nextSlot g slot)) (drop (g .height * g .blockSize) bytes) state
-          supplied bytes enough writes =
-              record {
-                enough =
-                  rw (rounds, length-drop (g .height * g .blockSize) bytes)
-                  (let k : suc (roundsTo most (isAllocated g disk) g (nextSlot g slot)) * (g .height * g .blockSize) ≤ length bytes = rw (next .0) at enough in
-                  omega arith);
-                whole-writes = writes;
-              }
+          more : OneMore (roundsTo most (isAllocated g disk) g (nextSlot g slot)) earlier
+          more = oneMore-of _ earlier (sym (roundsTo-taken most (isAllocated g disk) g slot e) ∙ rounds)
       by (inr e) =
           rw (runFrom-last most g number content slot random disk state e,
-            runFrom-last most g number content slot others other stateOther (sym (isAllocated-same g f disk other same slot inside) ∙ e))
+            runFrom-last most g number content slot others other stateOther (mark ∙ e))
           (along-append (shownOf g) (g .blockSize) (blockCount g) (round writePublic) none)
 
   pub runs-same : (most : ℕ) → RunsSame most
-  unfolding roundsTo
-  runs-same zero = λ disk other slot random others state stateOther same inside old some supply supplyOther. absurd (some refl)
+  runs-same zero = λ disk other slot random others state stateOther earlier same inside old rounds supply supplyOther.
+      absurd (omega (arith, rounds, roundsTo-zero (isAllocated g disk) g slot))
   runs-same (suc most) = runs-step most (runs-same most)

@@ -86,11 +86,15 @@ tracked g head disk =
       allocated = allocatedFrom g disk 0 (g .slots);
     }
 
+-- the simulator that tracks a drive
+abbrev pub trackerOf : (disk : Bytes) → Simulator
+trackerOf disk = tracked (geometryIn disk) (headIn disk) disk
+
 pub simulator-ext : {sim other : Simulator} → sim .geometry ≡ other .geometry → sim .head ≡ other .head → sim .entries ≡ other .entries → sim .allocated ≡ other .allocated → sim ≡ other
 simulator-ext {sim} {other} p q r s = λ i. record { geometry = p i; head = q i; entries = r i; allocated = s i }
 
 -- the view tells as much as the disk
-pub simulatorOf-viewOf : (disk : Bytes) → Drive (geometryIn disk) disk → simulatorOf (viewOf disk) ≡ tracked (geometryIn disk) (headIn disk) disk
+pub simulatorOf-viewOf : (disk : Bytes) → Drive (geometryIn disk) disk → simulatorOf (viewOf disk) ≡ trackerOf disk
 unfolding simulatorOf
 simulatorOf-viewOf disk drive =
     let g = geometryIn disk in

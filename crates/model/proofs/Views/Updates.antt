@@ -9,7 +9,7 @@ use lib.Dec.{eqb}
 use lib.ListN.{length, getD, set, length-set}
 use lib.Seq.{ext-getD, getD-set-same, getD-set-other}
 use borrow.Author.Tests.{eq-eqb, ne-eqb}
-use Rattle.laws.proofs.Cases.{eq-cases, cond-cases}
+use Rattle.laws.proofs.Cases.{eq-cases}
 use Rattle.model.specs.Geometry.{Geometry}
 use Rattle.model.specs.Blocks.{Bytes, DiskAddress}
 use Rattle.model.specs.Layout.{slotOf, mapEntry, isAllocated}
@@ -51,7 +51,7 @@ module _ (g : Geometry) (disk after : Bytes) where
 
   pub allocatedFrom-after :
       (entry : DiskAddress) (last : ℕ) → last < g .slots → (entry ≢ 0 → slotOf g entry < g .slots) →
-      isAllocated g after last ≡ true → (entry ≢ 0 → slotOf g entry ≢ last → isAllocated g after (slotOf g entry) ≡ false) →
+      isAllocated g after last ≡ true → (entry ≢ 0 → isAllocated g after (slotOf g entry) ≡ false) →
       ((slot : ℕ) → slot < g .slots → slot ≢ last → (entry ≢ 0 → slot ≢ slotOf g entry) → isAllocated g after slot ≡ isAllocated g disk slot) →
       allocatedFrom g after 0 (g .slots) ≡
       set (cond (eqb entry 0) (allocatedFrom g disk 0 (g .slots)) (set (allocatedFrom g disk 0 (g .slots)) (slotOf g entry) false)) last true
@@ -77,7 +77,7 @@ module _ (g : Geometry) (disk after : Bytes) where
           at : (slot : ℕ) → slot < g .slots → slot ≢ last → (slot ≡ slotOf g entry) ⊎ (slot ≢ slotOf g entry) →
               isAllocated g after slot ≡ getD (set marks (slotOf g entry) false) slot false
           at slot l ne (inl e) =
-              rw (e, getD-set-same marks (slotOf g entry) false false (rw sized (old-inside z))) (old z (λ q. ne (e ∙ q)))
+              rw (e, getD-set-same marks (slotOf g entry) false false (rw sized (old-inside z))) (old z)
           at slot l ne (inr apart) =
               others slot l ne (λ _. apart) ∙ sym (getD-allocated g disk slot l)
               ∙ sym (getD-set-other marks (slotOf g entry) slot false false apart)

@@ -28,6 +28,7 @@ use Rattle.model.proofs.Laws.Stores.{apply-nil, length-addresses}
 use Rattle.model.proofs.Laws.Refusals.{Accepted, accepted-of-refusal, refusal-of-accepted}
 use Rattle.model.proofs.Laws.Slots.{nextSlot-lt}
 use Rattle.model.proofs.Laws.HiddenHalf.{WholeWrite}
+use Rattle.model.proofs.Laws.RoundCounts.{length-rounds}
 use Rattle.model.proofs.Laws.Runs.{slotAfter, Ran}
 use Rattle.model.proofs.Laws.WriteRuns.{writeRun-accepted}
 use Rattle.model.proofs.Laws.Wrote.{Wrote, Placed, old-of-placed}
@@ -193,7 +194,8 @@ module _ (disk : Bytes) (accepted : driveRefusal disk ≡ 0) (number : ℕ) (con
         let stores : addresses (run .trace) ≡ simulatedStores (trackerOf disk) number =
         ran .listed ∙ sym (stores-is disk accepted number content _ rounds (place .known)) in
         let count : length (run .trace) ≡ length (addresses (run .trace)) = sym (length-addresses (run .trace)) in
-        let fits : length (addresses (run .trace)) ≤ length list = ? in
+        let fits : length (addresses (run .trace)) ≤ length list =
+        rw (ran .listed, length-rounds, ← rounds) (allowed .enough-room) in
         record {
           told-same =
             told-ext refl (ran .counted ∙ sym (rounds-is disk accepted number content _ rounds)) (count ∙ ap length stores)

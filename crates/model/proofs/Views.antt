@@ -10,3 +10,4 @@ pub mod SideRuns
 pub mod Allowed
 pub mod Drives
 pub mod Writes
+pub mod SideWrites

@@ -154,6 +154,7 @@ module _ (disk : Bytes) (accepted : driveRefusal disk ≡ 0) (number : ℕ) (con
   pub record Followed (result : Written) : Type 0 where
     pub told-same : reportOf (seenOfWrite result disk list) ≡ toldOf (trackerOf disk) (writeLengths number (length content) (length random) (length list))
     pub accepted-after : driveRefusal (writtenDisk result disk) ≡ 0
+    pub geometry-after : geometryIn (writtenDisk result disk) ≡ geometryIn disk
     pub tracker-after : trackerOf (writtenDisk result disk) ≡ simulatorAfter (trackerOf disk) (writeLengths number (length content) (length random) (length list))
 
   refused-followed :
@@ -166,6 +167,7 @@ module _ (disk : Bytes) (accepted : driveRefusal disk ≡ 0) (number : ℕ) (con
       record {
         told-same = told-ext (sym answer-is) refl refl refl ∙ sym (toldOf-refused (trackerOf disk) _ no);
         accepted-after = ap driveRefusal same ∙ accepted;
+        geometry-after = ap geometryIn same;
         tracker-after = ap trackerOf same ∙ sym (simulatorAfter-refused (trackerOf disk) _ no);
       }
 
@@ -202,7 +204,14 @@ module _ (disk : Bytes) (accepted : driveRefusal disk ≡ 0) (number : ℕ) (con
             (ap (λ (n : ℕ). take n (over 0 (addresses (run .trace)) list)) count ∙ take-over (addresses (run .trace)) list fits ∙ stores)
             ∙ sym (toldOf-done (trackerOf disk) _ yes);
           accepted-after = accepted-final disk accepted number content _ rounds (place .known) _ (ran .wrote);
+          geometry-after = geometryIn-final disk accepted number content _ rounds (place .known) _ (ran .wrote);
           tracker-after =
             tracked-final disk accepted number content _ rounds (place .known) _ (ran .wrote) (place .place)
             ∙ sym (simulatorAfter-done (trackerOf disk) _ yes);
         }
+
+  pub followed : Followed (written disk number content random (length list) offer)
+  followed =
+      ⊎-elim (λ e. subst Followed (sym (written-done disk number content random (length list) offer e)) (done-followed e))
+      (λ ne. subst Followed (sym (written-refused disk number content random (length list) offer ne)) (refused-followed ne))
+      (eq-cases (writeRefusal disk number content (length random) (length list)) 0)

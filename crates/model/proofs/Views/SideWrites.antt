@@ -1,0 +1,130 @@
+-- One write side by side on two drives that show the same: with the same public part they are refused alike, and the two
+-- drives that they leave show the same, whatever is offered and whatever the random bytes are. Assumes nothing.
+use mathlib.Core.Path.{_≡_, refl, sym, ap, ap₂, _∙_, subst}
+use mathlib.Core.Logic.{_≢_, ⊎-elim}
+use mathlib.Core.Option.{Option}
+use mathlib.Core.List.{List}
+use Prim.Native.Nat.{ℕ, suc, _*_, _-_, _≤_, _<_}
+use native.Mathlib.Nat.{mul-assoc}
+use native.Mathlib.Omega.{arith}
+use lib.ListN.{length}
+use Rattle.laws.proofs.Cases.{eq-cases}
+use Rattle.model.specs.Geometry.{Geometry, Fits, blockCount}
+use Rattle.model.specs.Blocks.{Bytes, DiskAddress}
+use Rattle.model.specs.Layout.{Drive, geometryIn, headIn}
+use Rattle.model.specs.Stores.{Trace, apply}
+use Rattle.model.specs.HiddenHalf.{HiddenWrite}
+use Rattle.model.specs.Rounds.{Run, runFrom}
+use Rattle.model.specs.Refusals.{driveRefusal, roundCount, writeRefusal}
+use Rattle.model.specs.Calls.{offeredWrites, startState, writeRun, Written, refusedWrite, doneWrite, written, writtenDisk}
+use Rattle.model.specs.View.{shownOf}
+use Rattle.model.specs.Simulator.{Simulator, simulatedAnswer}
+use Rattle.model.proofs.Laws.Stores.{apply-nil}
+use Rattle.model.proofs.Laws.Refusals.{Accepted, accepted-of-refusal}
+use Rattle.model.proofs.Laws.Wrote.{old-of-placed}
+use Rattle.model.proofs.Laws.WriteRuns.{offeredWrites-whole}
+use Rattle.model.proofs.Views.Agreement.{agree-apply}
+use Rattle.model.proofs.Views.Shown.{ShowSame, TraceSame}
+use Rattle.model.proofs.Views.Answers.{writeLengths, simulatedAnswer-write}
+use Rattle.model.proofs.Views.Sides.{entryAt-same}
+use Rattle.model.proofs.Views.SideRuns.{Supplied, runs-same}
+use Rattle.model.proofs.Views.Allowed.{PlaceAllowed, RoundsAllowed, place-of-write, rounds-of-write}
+use Rattle.model.proofs.Views.Drives.{Twins, twins-geometry, twins-tracker}
+use Rattle.model.proofs.Views.Writes.{written-done, written-refused, followed}
+
+module _ (disk other : Bytes) (twins : Twins disk other) (number : ℕ) (content random others : Bytes)
+    (same-random : length random ≡ length others) (room : ℕ) where
+  refusal-same : writeRefusal disk number content (length random) room ≡ writeRefusal other number content (length others) room
+  refusal-same =
+      sym (simulatedAnswer-write disk (twins .accepted) number content (length random) room)
+      ∙ ap₂ (λ (sim : Simulator) (n : ℕ). simulatedAnswer sim (writeLengths number (length content) n room))
+      (twins-tracker disk other twins) same-random
+      ∙ simulatedAnswer-write other (twins .other-accepted) number content (length others) room
+
+  module _ (offer offerOther : Option HiddenWrite) (free : writeRefusal disk number content (length random) room ≡ 0) where
+    place : PlaceAllowed (geometryIn disk) disk number (length content)
+    place = place-of-write disk (twins .accepted) number content (length random) room free
+
+    allowed : RoundsAllowed (geometryIn disk) disk number (length random) room
+    allowed = rounds-of-write disk (twins .accepted) number content (length random) room free
+
+    sound : Accepted disk
+    sound = accepted-of-refusal disk (twins .accepted)
+
+    rounds : roundCount (geometryIn disk) disk ≡ suc (roundCount (geometryIn disk) disk - 1)
+    rounds = omega (arith, allowed .some-rounds)
+
+    supplied : (g : Geometry) (bytes : Bytes) (count : ℕ) → suc count * g .height * g .blockSize ≤ length bytes → (offered : Option HiddenWrite) →
+        Supplied g count bytes (startState (offeredWrites g offered))
+    supplied g bytes count enough offered =
+        record {
+          enough = omega (arith, mul-assoc (suc count) (g .height) (g .blockSize));
+          whole-writes = offeredWrites-whole g offered;
+        }
+
+    trace-same :
+        TraceSame (geometryIn disk) (writeRun (geometryIn disk) disk number content random offer .trace)
+        (writeRun (geometryIn other) other number content others offerOther .trace)
+    unfolding writeRun
+    trace-same =
+        let g = geometryIn disk in
+        let enough : suc (roundCount g disk - 1) * g .height * g .blockSize ≤ length random = rw (← rounds) (allowed .enough-random) in
+        subst (λ (run : Run). TraceSame g (runFrom (g .slots) g number content (headIn disk) random disk (startState (offeredWrites g offer)) .trace) (run .trace))
+        (ap₂ (λ (h : Geometry) (head : ℕ). runFrom (h .slots) h number content head others other (startState (offeredWrites h offerOther)))
+        (twins-geometry disk other twins) (entryAt-same g (sound .sized .fits) disk other (twins .show-same) 5 (omega arith)))
+        (runs-same g (sound .sized .fits) number content (place .known) (place .sized) (g .slots) disk other (headIn disk) random others
+        (startState (offeredWrites g offer)) (startState (offeredWrites g offerOther)) (roundCount g disk - 1) (twins .show-same)
+        (sound .head-inside) (old-of-placed g disk number (place .place)) rounds (supplied g random (roundCount g disk - 1) enough offer)
+        (supplied g others (roundCount g disk - 1) (rw same-random at enough) offerOther))
+
+    -- the disks that the two runs leave
+    final-same :
+        ShowSame (geometryIn disk)
+        (apply (geometryIn disk .blockSize) (writeRun (geometryIn disk) disk number content random offer .trace) disk)
+        (apply (geometryIn other .blockSize) (writeRun (geometryIn other) other number content others offerOther .trace) other)
+    final-same =
+        let g = geometryIn disk in
+        let left = apply (g .blockSize) (writeRun g disk number content random offer .trace) disk in
+        let run = writeRun (geometryIn other) other number content others offerOther in
+        subst (λ (h : Geometry). ShowSame g left (apply (h .blockSize) (run .trace) other)) (twins-geometry disk other twins)
+        (agree-apply (shownOf g) (g .blockSize) (blockCount g) trace-same (twins .show-same))
+
+module _ (disk other : Bytes) (twins : Twins disk other) (number : ℕ) (content random others : Bytes)
+    (same-random : length random ≡ length others) (list lists : List DiskAddress) (same-room : length list ≡ length lists)
+    (offer offerOther : Option HiddenWrite) where
+  pub write-twins :
+      Twins (writtenDisk (written disk number content random (length list) offer) disk)
+      (writtenDisk (written other number content others (length lists) offerOther) other)
+  write-twins =
+      let here = followed disk (twins .accepted) number content random list offer in
+      let there = followed other (twins .other-accepted) number content others lists offerOther in
+      record {
+        accepted = here .accepted-after;
+        other-accepted = there .accepted-after;
+        show-same =
+          subst (λ (g : Geometry). ShowSame g (writtenDisk (written disk number content random (length list) offer) disk)
+          (writtenDisk (written other number content others (length lists) offerOther) other)) (sym (here .geometry-after))
+          (⊎-elim done refused (eq-cases (writeRefusal disk number content (length random) (length list)) 0));
+      }
+    where
+      refusals : writeRefusal disk number content (length random) (length list) ≡ writeRefusal other number content (length others) (length lists)
+      refusals =
+          refusal-same disk other twins number content random others same-random (length list)
+          ∙ ap (writeRefusal other number content (length others)) same-room
+
+      done : writeRefusal disk number content (length random) (length list) ≡ 0 →
+          ShowSame (geometryIn disk) (writtenDisk (written disk number content random (length list) offer) disk)
+          (writtenDisk (written other number content others (length lists) offerOther) other)
+      done e =
+          rw (written-done disk number content random (length list) offer e,
+            written-done other number content others (length lists) offerOther (sym refusals ∙ e))
+          (final-same disk other twins number content random others same-random (length list) offer offerOther e)
+
+      refused : writeRefusal disk number content (length random) (length list) ≢ 0 →
+          ShowSame (geometryIn disk) (writtenDisk (written disk number content random (length list) offer) disk)
+          (writtenDisk (written other number content others (length lists) offerOther) other)
+      refused ne =
+          rw (written-refused disk number content random (length list) offer ne,
+            written-refused other number content others (length lists) offerOther (λ e. ne (refusals ∙ e)),
+            apply-nil (geometryIn disk .blockSize) disk, apply-nil (geometryIn other .blockSize) other)
+          (twins .show-same)

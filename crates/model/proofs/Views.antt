@@ -11,3 +11,4 @@ pub mod Allowed
 pub mod Drives
 pub mod Writes
 pub mod SideWrites
+pub mod CallLists

@@ -130,7 +130,7 @@ toldOf-done : (sim : Simulator) (call : CallLengths) → isDone sim call ≡ tru
 unfolding toldOf
 toldOf-done sim call e = cond-true _ _ e
 
-toldOf-refused : (sim : Simulator) (call : CallLengths) → isDone sim call ≡ false → toldOf sim call ≡ toldStores (simulatedAnswer sim call) 0 []
+pub toldOf-refused : (sim : Simulator) (call : CallLengths) → isDone sim call ≡ false → toldOf sim call ≡ toldStores (simulatedAnswer sim call) 0 []
 unfolding toldOf
 toldOf-refused sim call e = cond-false _ _ e
 
@@ -138,7 +138,7 @@ simulatorAfter-done : (sim : Simulator) (call : CallLengths) → isDone sim call
 unfolding simulatorAfter
 simulatorAfter-done sim call e = cond-true _ _ e
 
-simulatorAfter-refused : (sim : Simulator) (call : CallLengths) → isDone sim call ≡ false → simulatorAfter sim call ≡ sim
+pub simulatorAfter-refused : (sim : Simulator) (call : CallLengths) → isDone sim call ≡ false → simulatorAfter sim call ≡ sim
 unfolding simulatorAfter
 simulatorAfter-refused sim call e = cond-false _ _ e
 

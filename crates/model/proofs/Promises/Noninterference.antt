@@ -11,7 +11,7 @@ use Rattle.model.specs.Promises.Noninterference.{Simulated, Noninterfere
 use Rattle.model.proofs.Laws.Refusals.{drive-of-refusal}
 use Rattle.model.proofs.Views.Tracking.{simulatorOf-viewOf}
 use Rattle.model.proofs.Views.Drives.{twins-of-alike, alike-of-twins}
-use Rattle.model.proofs.Views.CallLists.{told-all, plainCalls, plain-same, publicParts-bareCalls}
+use Rattle.model.proofs.Views.CallLists.{reportsOf-seenOfAll, plainCalls, plainCalls-same, publicParts-bareCalls}
 
 -- ---- alike ----
 
@@ -44,20 +44,20 @@ simulated disk calls e =
     let twins = twins-of-alike disk disk (alike-refl disk e) in
     record {
       by-simulator =
-        told-all calls disk e
+        reportsOf-seenOfAll calls disk e
         ∙ ap (λ (sim : Simulator). told sim (lengthsOfAll (publicParts calls))) (sym (simulatorOf-viewOf disk (drive-of-refusal disk e)));
       without-offers =
-        plain-same calls disk disk twins .seen-same
+        plainCalls-same calls disk disk twins .seen-same
         ∙ ap (λ (parts : List PublicCall). seenOfAll disk (plainCalls parts)) (sym (publicParts-bareCalls calls))
-        ∙ sym (plain-same (bareCalls calls) disk disk twins .seen-same);
+        ∙ sym (plainCalls-same (bareCalls calls) disk disk twins .seen-same);
     }
 
 -- ---- two drives ----
 
 pub noninterference : Noninterference
 noninterference disk other calls others alike parts =
-    let here = plain-same calls disk disk (twins-of-alike disk disk (alike-refl disk (alike .accepted))) in
-    let there = plain-same others other disk (twins-of-alike other disk (alike-sym alike)) in
+    let here = plainCalls-same calls disk disk (twins-of-alike disk disk (alike-refl disk (alike .accepted))) in
+    let there = plainCalls-same others other disk (twins-of-alike other disk (alike-sym alike)) in
     record {
       same-seen = here .seen-same ∙ ap (λ (ps : List PublicCall). seenOfAll disk (plainCalls ps)) parts ∙ sym (there .seen-same);
       here = simulated disk calls (alike .accepted);

@@ -93,13 +93,13 @@ and-ext true h = h refl
 and-ext false h = refl
 
 module _ (g : Geometry) (f : Fits g) (disk : Bytes) (inside : headIn disk < g .slots) where
-  place-same : (number : ℕ) → number < g .publics →
+  place-tracked : (number : ℕ) → number < g .publics →
       (eqb (getD (entriesFrom g disk 0 (g .publics)) number 0) 0 ||
       isSlotBlock g 0 (getD (entriesFrom g disk 0 (g .publics)) number 0) &&
       getD (allocatedFrom g disk 0 (g .slots)) (slotOf g (getD (entriesFrom g disk 0 (g .publics)) number 0)) false) ≡
       (eqb (mapEntry g disk number) 0 || isPlace g disk (mapEntry g disk number))
   unfolding isPlace
-  place-same number h =
+  place-tracked number h =
       rw (getD-entries g disk number h)
       (ap (λ (b : Bool). eqb (mapEntry g disk number) 0 || b)
       (and-ext (isSlotBlock g 0 (mapEntry g disk number))
@@ -113,13 +113,13 @@ module _ (g : Geometry) (f : Fits g) (disk : Bytes) (inside : headIn disk < g .s
   place-answer call cs ds h =
       sameAnswer-check refl
       (λ e. let l : call .number < g .publics = leb-false (g .publics) (call .number) e in
-      sameAnswer-check refl (λ _. sameAnswer-check (ap not (place-same (call .number) l)) (λ _. h l)))
+      sameAnswer-check refl (λ _. sameAnswer-check (ap not (place-tracked (call .number) l)) (λ _. h l)))
 
-  stores-same :
+  length-simulatedStores :
       (number : ℕ) → number < g .publics → roundCount g disk ≢ 0 →
       length (simulatedStores (tracked g (headIn disk) disk) number) ≡ storeCount g (roundCount g disk) (mapEntry g disk number)
   unfolding simulatedStores
-  stores-same number h some =
+  length-simulatedStores number h some =
       let rounds : suc (roundCount g disk - 1) ≡ roundCount g disk = omega arith in
       rw (simulatedRounds-is g f (headIn disk) disk inside, getD-entries g disk number h)
       (length-rounds (roundCount g disk - 1) g number (mapEntry g disk number) (headIn disk) _
@@ -135,7 +135,7 @@ module _ (g : Geometry) (f : Fits g) (disk : Bytes) (inside : headIn disk < g .s
       sameAnswer-check (ap (λ (n : ℕ). eqb n 0) rounds)
       (λ e. let some : roundCount g disk ≢ 0 = eqb-false (roundCount g disk) 0 e in
       sameAnswer-check (ap (λ (n : ℕ). ltb (call .random) (n * g .height * g .blockSize)) rounds)
-      (λ _. sameAnswer-check (ap (ltb (call .room)) (stores-same (call .number) h some)) (λ _. sameAnswer-refl)))
+      (λ _. sameAnswer-check (ap (ltb (call .room)) (length-simulatedStores (call .number) h some)) (λ _. sameAnswer-refl)))
 
 -- what the simulator is fed of a public read, and of a write
 abbrev pub readLengths : (number content : ℕ) → CallLengths

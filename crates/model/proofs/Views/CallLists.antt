@@ -15,9 +15,9 @@ use Rattle.model.specs.Runs.{Call, readPublic, readHidden, write, diskAf
 use Rattle.model.specs.Simulator.{Simulator, CallLengths, lengthsOf, lengthsOfAll, Told, toldOf, simulatedAnswer, simulatorAfter, told, reportOf, reportsOf}
 use Rattle.model.proofs.Views.Tracking.{trackerOf}
 use Rattle.model.proofs.Views.Answers.{readLengths, writeLengths, simulatedAnswer-read}
-use Rattle.model.proofs.Views.Drives.{Twins, twins-tracker, twins-view, twins-readRefusal, twins-read}
+use Rattle.model.proofs.Views.Drives.{Twins, trackerOf-twins, viewOf-twins, publicReadRefusal-twins, publicRead-twins}
 use Rattle.model.proofs.Views.Writes.{told-ext, toldOf-refused, simulatorAfter-refused, followed}
-use Rattle.model.proofs.Views.SideWrites.{write-twins}
+use Rattle.model.proofs.Views.SideWrites.{writtenDisk-twins}
 
 -- ---- the simulator ----
 
@@ -30,21 +30,21 @@ read-told disk accepted number blank =
     told-ext (sym (simulatedAnswer-read disk accepted number blank)) refl refl refl
     ∙ sym (toldOf-refused (trackerOf disk) (readLengths number (length blank)) refl)
 
-pub told-all :
+pub reportsOf-seenOfAll :
     (calls : List Call) (disk : Bytes) → driveRefusal disk ≡ 0 →
     reportsOf (seenOfAll disk calls) ≡ told (trackerOf disk) (lengthsOfAll (publicParts calls))
 unfolding reportsOf seenOfAll told lengthsOfAll publicParts
-told-all [] disk accepted = refl
-told-all (readPublic number blank ∷ calls) disk accepted =
+reportsOf-seenOfAll [] disk accepted = refl
+reportsOf-seenOfAll (readPublic number blank ∷ calls) disk accepted =
     ap₂ {C = List Told} (λ (x : Told) (xs : List Told). x ∷ xs) (read-told disk accepted number blank)
-    (told-all calls disk accepted
+    (reportsOf-seenOfAll calls disk accepted
     ∙ ap (λ (sim : Simulator). told sim (lengthsOfAll (publicParts calls)))
     (sym (simulatorAfter-refused (trackerOf disk) (readLengths number (length blank)) refl)))
-told-all (readHidden number blank ∷ calls) disk accepted = told-all calls disk accepted
-told-all (write number content random list offer ∷ calls) disk accepted =
+reportsOf-seenOfAll (readHidden number blank ∷ calls) disk accepted = reportsOf-seenOfAll calls disk accepted
+reportsOf-seenOfAll (write number content random list offer ∷ calls) disk accepted =
     let f = followed disk accepted number content random list offer in
     ap₂ {C = List Told} (λ (x : Told) (xs : List Told). x ∷ xs) (f .told-same)
-    (told-all calls (writtenDisk (written disk number content random (length list) offer) disk) (f .accepted-after)
+    (reportsOf-seenOfAll calls (writtenDisk (written disk number content random (length list) offer) disk) (f .accepted-after)
     ∙ ap (λ (sim : Simulator). told sim (lengthsOfAll (publicParts calls))) (f .tracker-after))
 
 -- ---- nothing hidden ----
@@ -69,12 +69,12 @@ pub record SeenSame (disk other : Bytes) (calls others : List Call) : Type 0 whe
   pub seen-same : seenOfAll disk calls ≡ seenOfAll other others
   pub twins-after : Twins (diskAfterAll disk calls) (diskAfterAll other others)
 
-pub plain-same :
+pub plainCalls-same :
     (calls : List Call) (disk other : Bytes) → Twins disk other → SeenSame disk other calls (plainCalls (publicParts calls))
 unfolding seenOfAll diskAfterAll publicParts plainCalls
-plain-same [] disk other twins = record { seen-same = refl; twins-after = twins }
-plain-same (readPublic number blank ∷ calls) disk other twins =
-    let later = plain-same calls disk other twins in
+plainCalls-same [] disk other twins = record { seen-same = refl; twins-after = twins }
+plainCalls-same (readPublic number blank ∷ calls) disk other twins =
+    let later = plainCalls-same calls disk other twins in
     record {
       seen-same = ap₂ {C = List Seen} (λ (x : Seen) (xs : List Seen). x ∷ xs) first (later .seen-same);
       twins-after = later .twins-after;
@@ -83,12 +83,12 @@ plain-same (readPublic number blank ∷ calls) disk other twins =
     first : _≡_ {A = Seen}
         (record { answer = publicReadRefusal disk number blank; shown = publicRead disk number blank; rounds = 0; stores = 0; entries = []; view = viewOf disk })
         (record { answer = publicReadRefusal other number blank; shown = publicRead other number blank; rounds = 0; stores = 0; entries = []; view = viewOf other })
-    first = seen-ext (told-ext (twins-readRefusal disk other twins number blank) refl refl refl) (twins-read disk other twins number blank) (twins-view disk other twins)
-plain-same (readHidden number blank ∷ calls) disk other twins =
-    let later = plain-same calls disk other twins in
+    first = seen-ext (told-ext (publicReadRefusal-twins disk other twins number blank) refl refl refl) (publicRead-twins disk other twins number blank) (viewOf-twins disk other twins)
+plainCalls-same (readHidden number blank ∷ calls) disk other twins =
+    let later = plainCalls-same calls disk other twins in
     record { seen-same = later .seen-same; twins-after = later .twins-after }
-plain-same (write number content random list offer ∷ calls) disk other twins =
-    let later = plain-same calls _ _ after in
+plainCalls-same (write number content random list offer ∷ calls) disk other twins =
+    let later = plainCalls-same calls _ _ after in
     record {
       seen-same = ap₂ {C = List Seen} (λ (x : Seen) (xs : List Seen). x ∷ xs) first (later .seen-same);
       twins-after = later .twins-after;
@@ -103,7 +103,7 @@ plain-same (write number content random list offer ∷ calls) disk other twins =
     after : Twins (writtenDisk (written disk number content random (length list) offer) disk)
         (writtenDisk (written other number content zeros (length room) none) other)
     after =
-        write-twins disk other twins number content random zeros (sym (length-replicate (length random) 0)) list room
+        writtenDisk-twins disk other twins number content random zeros (sym (length-replicate (length random) 0)) list room
         (sym (length-replicate (length list) 0)) offer none
 
     first : seenOfWrite (written disk number content random (length list) offer) disk list ≡
@@ -113,13 +113,13 @@ plain-same (write number content random list offer ∷ calls) disk other twins =
         (followed disk (twins .accepted) number content random list offer .told-same
         ∙ lengths (sym (length-replicate (length random) 0)) (sym (length-replicate (length list) 0))
         ∙ sym (followed other (twins .other-accepted) number content zeros room none .told-same))
-        refl (twins-view _ _ after)
+        refl (viewOf-twins _ _ after)
       where
         lengths : length random ≡ length zeros → length list ≡ length room →
             toldOf (trackerOf disk) (writeLengths number (length content) (length random) (length list)) ≡
             toldOf (trackerOf other) (writeLengths number (length content) (length zeros) (length room))
         lengths p q =
-            ap (λ (sim : Simulator). toldOf sim (writeLengths number (length content) (length random) (length list))) (twins-tracker disk other twins)
+            ap (λ (sim : Simulator). toldOf sim (writeLengths number (length content) (length random) (length list))) (trackerOf-twins disk other twins)
             ∙ ap₂ (λ (n m : ℕ). toldOf (trackerOf other) (writeLengths number (length content) n m)) p q
 
 -- a bare list has the same public calls

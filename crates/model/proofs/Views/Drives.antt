@@ -19,11 +19,11 @@ use Rattle.model.specs.View.{viewFrom, viewOf, Alike}
 use Rattle.model.specs.Simulator.{Simulator, simulatorOf, simulatedAnswer}
 use Rattle.model.proofs.Laws.Refusals.{drive-of-refusal}
 use Rattle.model.proofs.Laws.Wrote.{Placed}
-use Rattle.model.proofs.Views.Shown.{ShowSame, blockAt-same, isShown-slotBlock}
-use Rattle.model.proofs.Views.View.{entryAt-viewOf, geometry-ext, viewFrom-same, showSame-of-viewFrom}
+use Rattle.model.proofs.Views.Shown.{ShowSame, blockAt-alike, isShown-slotBlock}
+use Rattle.model.proofs.Views.View.{entryAt-viewOf, geometry-ext, viewFrom-alike, showSame-of-viewFrom}
 use Rattle.model.proofs.Views.Tracking.{trackerOf, simulatorOf-viewOf}
 use Rattle.model.proofs.Views.Answers.{readLengths, simulatedAnswer-read}
-use Rattle.model.proofs.Views.Sides.{entryAt-same, mapEntry-same}
+use Rattle.model.proofs.Views.Sides.{entryAt-alike, mapEntry-alike}
 use Rattle.model.proofs.Views.Allowed.{PlaceAllowed, place-of-read}
 
 -- two accepted drives that show the same
@@ -57,16 +57,16 @@ module _ (disk other : Bytes) (twins : Twins disk other) where
   here : Drive (geometryIn disk) disk
   here = drive-of-refusal disk (twins .accepted)
 
-  pub twins-geometry : geometryIn disk ≡ geometryIn other
-  twins-geometry =
+  pub geometryIn-twins : geometryIn disk ≡ geometryIn other
+  geometryIn-twins =
       geometry-ext disk other
-      (λ index h. entryAt-same (geometryIn disk) (here .fits) disk other (twins .show-same) index (omega arith))
+      (λ index h. entryAt-alike (geometryIn disk) (here .fits) disk other (twins .show-same) index (omega arith))
 
-  pub twins-view : viewOf disk ≡ viewOf other
+  pub viewOf-twins : viewOf disk ≡ viewOf other
   unfolding viewOf
-  twins-view =
-      viewFrom-same (geometryIn disk) disk other (twins .show-same) (blockCount (geometryIn disk)) 0
-      ∙ ap (λ (g : Geometry). viewFrom g other 0 (blockCount g)) twins-geometry
+  viewOf-twins =
+      viewFrom-alike (geometryIn disk) disk other (twins .show-same) (blockCount (geometryIn disk)) 0
+      ∙ ap (λ (g : Geometry). viewFrom g other 0 (blockCount g)) geometryIn-twins
 
   pub alike-of-twins : Alike disk other
   alike-of-twins =
@@ -74,39 +74,39 @@ module _ (disk other : Bytes) (twins : Twins disk other) where
         same-length = twins .show-same .whole ∙ sym (twins .show-same .other-whole);
         accepted = twins .accepted;
         other-accepted = twins .other-accepted;
-        same-view = twins-view;
+        same-view = viewOf-twins;
       }
 
   -- the simulator keeps the same of both
-  pub twins-tracker : trackerOf disk ≡ trackerOf other
-  twins-tracker =
-      sym (simulatorOf-viewOf disk here) ∙ ap simulatorOf twins-view
+  pub trackerOf-twins : trackerOf disk ≡ trackerOf other
+  trackerOf-twins =
+      sym (simulatorOf-viewOf disk here) ∙ ap simulatorOf viewOf-twins
       ∙ simulatorOf-viewOf other (drive-of-refusal other (twins .other-accepted))
 
   -- ---- a public read ----
 
-  pub twins-readRefusal : (number : ℕ) (blank : Bytes) → publicReadRefusal disk number blank ≡ publicReadRefusal other number blank
-  twins-readRefusal number blank =
+  pub publicReadRefusal-twins : (number : ℕ) (blank : Bytes) → publicReadRefusal disk number blank ≡ publicReadRefusal other number blank
+  publicReadRefusal-twins number blank =
       sym (simulatedAnswer-read disk (twins .accepted) number blank)
-      ∙ ap (λ (sim : Simulator). simulatedAnswer sim (readLengths number (length blank))) twins-tracker
+      ∙ ap (λ (sim : Simulator). simulatedAnswer sim (readLengths number (length blank))) trackerOf-twins
       ∙ simulatedAnswer-read other (twins .other-accepted) number blank
 
   -- what a read that is not refused shows
-  shown-same :
+  shown-twins :
       (number : ℕ) (blank : Bytes) → publicReadRefusal disk number blank ≡ 0 →
       cond (eqb (mapEntry (geometryIn disk) disk number) 0) blank
       (blockAt (geometryIn disk .blockSize) disk (mapEntry (geometryIn disk) disk number)) ≡
       cond (eqb (mapEntry (geometryIn other) other number) 0) blank
       (blockAt (geometryIn other .blockSize) other (mapEntry (geometryIn other) other number))
   unfolding isPlace
-  shown-same number blank e =
+  shown-twins number blank e =
       let g = geometryIn disk in
       let allowed = place-of-read disk (twins .accepted) number blank e in
       let entry : mapEntry g disk number ≡ mapEntry g other number =
-      mapEntry-same g (here .fits) disk other (twins .show-same) number (allowed .known) in
+      mapEntry-alike g (here .fits) disk other (twins .show-same) number (allowed .known) in
       by (allowed .place)
       ∙ ap (λ (n : ℕ). cond (eqb n 0) blank (blockAt (g .blockSize) other n)) entry
-      ∙ ap (λ (h : Geometry). cond (eqb (mapEntry h other number) 0) blank (blockAt (h .blockSize) other (mapEntry h other number))) twins-geometry
+      ∙ ap (λ (h : Geometry). cond (eqb (mapEntry h other number) 0) blank (blockAt (h .blockSize) other (mapEntry h other number))) geometryIn-twins
     where
       by : Placed (geometryIn disk) disk number →
           cond (eqb (mapEntry (geometryIn disk) disk number) 0) blank
@@ -116,16 +116,16 @@ module _ (disk other : Bytes) (twins : Twins disk other) where
       by (inl z) = rw (eq-eqb (mapEntry (geometryIn disk) disk number) 0 z)
       by (inr place) =
           ap (cond (eqb (mapEntry (geometryIn disk) disk number) 0) blank)
-          (blockAt-same (geometryIn disk) disk other (twins .show-same) (mapEntry (geometryIn disk) disk number)
+          (blockAt-alike (geometryIn disk) disk other (twins .show-same) (mapEntry (geometryIn disk) disk number)
           (isShown-slotBlock (geometryIn disk) (mapEntry (geometryIn disk) disk number)
           (and-left (isSlotBlock (geometryIn disk) 0 (mapEntry (geometryIn disk) disk number)) _ place)))
 
-  pub twins-read : (number : ℕ) (blank : Bytes) → publicRead disk number blank ≡ publicRead other number blank
+  pub publicRead-twins : (number : ℕ) (blank : Bytes) → publicRead disk number blank ≡ publicRead other number blank
   unfolding publicRead
-  twins-read number blank =
+  publicRead-twins number blank =
       ⊎-elim
-      (λ e. cond-true _ [] (eq-eqb (publicReadRefusal disk number blank) 0 e) ∙ shown-same number blank e
-      ∙ sym (cond-true _ [] (eq-eqb (publicReadRefusal other number blank) 0 (sym (twins-readRefusal number blank) ∙ e))))
+      (λ e. cond-true _ [] (eq-eqb (publicReadRefusal disk number blank) 0 e) ∙ shown-twins number blank e
+      ∙ sym (cond-true _ [] (eq-eqb (publicReadRefusal other number blank) 0 (sym (publicReadRefusal-twins number blank) ∙ e))))
       (λ e. cond-false _ [] (ne-eqb (publicReadRefusal disk number blank) 0 e)
-      ∙ sym (cond-false _ [] (ne-eqb (publicReadRefusal other number blank) 0 (λ z. e (twins-readRefusal number blank ∙ z)))))
+      ∙ sym (cond-false _ [] (ne-eqb (publicReadRefusal other number blank) 0 (λ z. e (publicReadRefusal-twins number blank ∙ z)))))
       (eq-cases (publicReadRefusal disk number blank) 0)

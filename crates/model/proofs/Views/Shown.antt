@@ -73,10 +73,10 @@ abbrev pub TraceSame : Geometry → (xs ys : Trace) → Type 0
 TraceSame g xs ys = Along (shownOf g) (g .blockSize) (blockCount g) xs ys
 
 -- a shown block is the same on both
-pub blockAt-same :
+pub blockAt-alike :
     (g : Geometry) (disk other : Bytes) → ShowSame g disk other → (address : DiskAddress) → isShown g address ≡ true →
     blockAt (g .blockSize) disk address ≡ blockAt (g .blockSize) other address
-blockAt-same g disk other a address e =
+blockAt-alike g disk other a address e =
     sym (shownOf-shown g address (blockAt (g .blockSize) disk address) e) ∙ a .same-shown address
     ∙ shownOf-shown g address (blockAt (g .blockSize) other address) e
 

@@ -27,7 +27,7 @@ use Rattle.model.proofs.Laws.RoundCounts.{roundsTo-zero, roundsTo-taken
 use Rattle.model.proofs.Laws.RoundEffects.{mapEntry-kept, isAllocated-kept}
 use Rattle.model.proofs.Views.Agreement.{none, along-append, agree-apply}
 use Rattle.model.proofs.Views.Shown.{ShowSame, TraceSame}
-use Rattle.model.proofs.Views.Sides.{isAllocated-same, roundTrace-same}
+use Rattle.model.proofs.Views.Sides.{isAllocated-alike, roundTrace-alike}
 
 -- ---- one round of a run ----
 
@@ -72,16 +72,16 @@ supplied-later g earlier random state enough writes =
 module _ (g : Geometry) (f : Fits g) (number : ℕ) (content : Bytes) (known : number < g .publics)
     (sized : length content ≡ g .blockSize) where
   -- two runs of at most so many rounds, from any slot of any two disks that show the same
-  abbrev RunsSame : (most : ℕ) → Type 0
-  RunsSame most =
+  abbrev RunsAlike : (most : ℕ) → Type 0
+  RunsAlike most =
       (disk other : Bytes) (slot : ℕ) (random others : Bytes) (state stateOther : HiddenState) (earlier : ℕ) →
       ShowSame g disk other → slot < g .slots → OldPlace g (mapEntry g disk number) →
       roundsTo most (isAllocated g disk) g slot ≡ suc earlier → Supplied g earlier random state → Supplied g earlier others stateOther →
       TraceSame g (runFrom most g number content slot random disk state .trace)
       (runFrom most g number content slot others other stateOther .trace)
 
-  runs-step : (most : ℕ) → RunsSame most → RunsSame (suc most)
-  runs-step most later disk other slot random others state stateOther earlier same inside old rounds supply supplyOther =
+  one-more-alike : (most : ℕ) → RunsAlike most → RunsAlike (suc most)
+  one-more-alike most later disk other slot random others state stateOther earlier same inside old rounds supply supplyOther =
       by (bool-cases (isAllocated g disk slot))
     where
       here : HidesHalf g slot (hiddenHalf g disk slot random state)
@@ -95,10 +95,10 @@ module _ (g : Geometry) (f : Fits g) (number : ℕ) (content : Bytes) (known : n
       round : (choice : PublicChoice) →
           TraceSame g (roundTrace choice g disk number slot content (hiddenHalf g disk slot random state .trace))
           (roundTrace choice g other number slot content (hiddenHalf g other slot others stateOther .trace))
-      round choice = roundTrace-same g f disk other same number slot content known inside sized choice _ _ old (here .hides) (there .hides)
+      round choice = roundTrace-alike g f disk other same number slot content known inside sized choice _ _ old (here .hides) (there .hides)
 
       mark : isAllocated g other slot ≡ isAllocated g disk slot
-      mark = sym (isAllocated-same g f disk other same slot inside)
+      mark = sym (isAllocated-alike g f disk other same slot inside)
 
       by : (isAllocated g disk slot ≡ true) ⊎ (isAllocated g disk slot ≡ false) →
           TraceSame g (runFrom (suc most) g number content slot random disk state .trace)
@@ -131,7 +131,7 @@ module _ (g : Geometry) (f : Fits g) (number : ℕ) (content : Bytes) (known : n
             runFrom-last most g number content slot others other stateOther (mark ∙ e))
           (along-append (shownOf g) (g .blockSize) (blockCount g) (round writePublic) none)
 
-  pub runs-same : (most : ℕ) → RunsSame most
-  runs-same zero = λ disk other slot random others state stateOther earlier same inside old rounds supply supplyOther.
+  pub runFrom-alike : (most : ℕ) → RunsAlike most
+  runFrom-alike zero = λ disk other slot random others state stateOther earlier same inside old rounds supply supplyOther.
       absurd (omega (arith, rounds, roundsTo-zero (isAllocated g disk) g slot))
-  runs-same (suc most) = runs-step most (runs-same most)
+  runFrom-alike (suc most) = one-more-alike most (runFrom-alike most)

@@ -26,19 +26,19 @@ use Rattle.model.proofs.Laws.WriteRuns.{offeredWrites-whole}
 use Rattle.model.proofs.Views.Agreement.{agree-apply}
 use Rattle.model.proofs.Views.Shown.{ShowSame, TraceSame}
 use Rattle.model.proofs.Views.Answers.{writeLengths, simulatedAnswer-write}
-use Rattle.model.proofs.Views.Sides.{entryAt-same}
-use Rattle.model.proofs.Views.SideRuns.{Supplied, runs-same}
+use Rattle.model.proofs.Views.Sides.{entryAt-alike}
+use Rattle.model.proofs.Views.SideRuns.{Supplied, runFrom-alike}
 use Rattle.model.proofs.Views.Allowed.{PlaceAllowed, RoundsAllowed, place-of-write, rounds-of-write}
-use Rattle.model.proofs.Views.Drives.{Twins, twins-geometry, twins-tracker}
+use Rattle.model.proofs.Views.Drives.{Twins, geometryIn-twins, trackerOf-twins}
 use Rattle.model.proofs.Views.Writes.{written-done, written-refused, followed}
 
 module _ (disk other : Bytes) (twins : Twins disk other) (number : ℕ) (content random others : Bytes)
     (same-random : length random ≡ length others) (room : ℕ) where
-  refusal-same : writeRefusal disk number content (length random) room ≡ writeRefusal other number content (length others) room
-  refusal-same =
+  writeRefusal-twins : writeRefusal disk number content (length random) room ≡ writeRefusal other number content (length others) room
+  writeRefusal-twins =
       sym (simulatedAnswer-write disk (twins .accepted) number content (length random) room)
       ∙ ap₂ (λ (sim : Simulator) (n : ℕ). simulatedAnswer sim (writeLengths number (length content) n room))
-      (twins-tracker disk other twins) same-random
+      (trackerOf-twins disk other twins) same-random
       ∙ simulatedAnswer-write other (twins .other-accepted) number content (length others) room
 
   module _ (offer offerOther : Option HiddenWrite) (free : writeRefusal disk number content (length random) room ≡ 0) where
@@ -62,40 +62,40 @@ module _ (disk other : Bytes) (twins : Twins disk other) (number : ℕ) (content
           whole-writes = offeredWrites-whole g offered;
         }
 
-    trace-same :
+    trace-alike :
         TraceSame (geometryIn disk) (writeRun (geometryIn disk) disk number content random offer .trace)
         (writeRun (geometryIn other) other number content others offerOther .trace)
     unfolding writeRun
-    trace-same =
+    trace-alike =
         let g = geometryIn disk in
         let enough : suc (roundCount g disk - 1) * g .height * g .blockSize ≤ length random = rw (← rounds) (allowed .enough-random) in
         subst (λ (run : Run). TraceSame g (runFrom (g .slots) g number content (headIn disk) random disk (startState (offeredWrites g offer)) .trace) (run .trace))
         (ap₂ (λ (h : Geometry) (head : ℕ). runFrom (h .slots) h number content head others other (startState (offeredWrites h offerOther)))
-        (twins-geometry disk other twins) (entryAt-same g (sound .sized .fits) disk other (twins .show-same) 5 (omega arith)))
-        (runs-same g (sound .sized .fits) number content (place .known) (place .sized) (g .slots) disk other (headIn disk) random others
+        (geometryIn-twins disk other twins) (entryAt-alike g (sound .sized .fits) disk other (twins .show-same) 5 (omega arith)))
+        (runFrom-alike g (sound .sized .fits) number content (place .known) (place .sized) (g .slots) disk other (headIn disk) random others
         (startState (offeredWrites g offer)) (startState (offeredWrites g offerOther)) (roundCount g disk - 1) (twins .show-same)
         (sound .head-inside) (old-of-placed g disk number (place .place)) rounds (supplied g random (roundCount g disk - 1) enough offer)
         (supplied g others (roundCount g disk - 1) (rw same-random at enough) offerOther))
 
     -- the disks that the two runs leave
-    final-same :
+    final-alike :
         ShowSame (geometryIn disk)
         (apply (geometryIn disk .blockSize) (writeRun (geometryIn disk) disk number content random offer .trace) disk)
         (apply (geometryIn other .blockSize) (writeRun (geometryIn other) other number content others offerOther .trace) other)
-    final-same =
+    final-alike =
         let g = geometryIn disk in
         let left = apply (g .blockSize) (writeRun g disk number content random offer .trace) disk in
         let run = writeRun (geometryIn other) other number content others offerOther in
-        subst (λ (h : Geometry). ShowSame g left (apply (h .blockSize) (run .trace) other)) (twins-geometry disk other twins)
-        (agree-apply (shownOf g) (g .blockSize) (blockCount g) trace-same (twins .show-same))
+        subst (λ (h : Geometry). ShowSame g left (apply (h .blockSize) (run .trace) other)) (geometryIn-twins disk other twins)
+        (agree-apply (shownOf g) (g .blockSize) (blockCount g) trace-alike (twins .show-same))
 
 module _ (disk other : Bytes) (twins : Twins disk other) (number : ℕ) (content random others : Bytes)
     (same-random : length random ≡ length others) (list lists : List DiskAddress) (same-room : length list ≡ length lists)
     (offer offerOther : Option HiddenWrite) where
-  pub write-twins :
+  pub writtenDisk-twins :
       Twins (writtenDisk (written disk number content random (length list) offer) disk)
       (writtenDisk (written other number content others (length lists) offerOther) other)
-  write-twins =
+  writtenDisk-twins =
       let here = followed disk (twins .accepted) number content random list offer in
       let there = followed other (twins .other-accepted) number content others lists offerOther in
       record {
@@ -109,7 +109,7 @@ module _ (disk other : Bytes) (twins : Twins disk other) (number : ℕ) (content
     where
       refusals : writeRefusal disk number content (length random) (length list) ≡ writeRefusal other number content (length others) (length lists)
       refusals =
-          refusal-same disk other twins number content random others same-random (length list)
+          writeRefusal-twins disk other twins number content random others same-random (length list)
           ∙ ap (writeRefusal other number content (length others)) same-room
 
       done : writeRefusal disk number content (length random) (length list) ≡ 0 →
@@ -118,7 +118,7 @@ module _ (disk other : Bytes) (twins : Twins disk other) (number : ℕ) (content
       done e =
           rw (written-done disk number content random (length list) offer e,
             written-done other number content others (length lists) offerOther (sym refusals ∙ e))
-          (final-same disk other twins number content random others same-random (length list) offer offerOther e)
+          (final-alike disk other twins number content random others same-random (length list) offer offerOther e)
 
       refused : writeRefusal disk number content (length random) (length list) ≢ 0 →
           ShowSame (geometryIn disk) (writtenDisk (written disk number content random (length list) offer) disk)

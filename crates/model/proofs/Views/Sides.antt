@@ -24,40 +24,31 @@ use Rattle.model.proofs.Laws.PublicMap.{mapEntry-block, length-mapBlock
 use Rattle.model.proofs.Laws.Bitmap.{isAllocated-block, bitmapWith-is, length-bitmapWith}
 use Rattle.model.proofs.Laws.Stores.{All, all-append}
 use Rattle.model.proofs.Laws.Paths.{Hides, blockAt-whole}
-use Rattle.model.proofs.Laws.PublicHalf.{OldPlace}
+use Rattle.model.proofs.Laws.PublicHalf.{all-map, OldPlace}
+use Rattle.model.proofs.Laws.RoundStores.{HiddenAddress, hides-addresses}
 use Rattle.model.proofs.Views.Agreement.{none, more, along-append, agree-apply}
-use Rattle.model.proofs.Views.Shown.{isShown-below, isShown-slotStart, isShown-slot-block, isShown-rootAddress, ShowSame, StoreSame, TraceSame, blockAt-same, Hidden, along-hidden}
+use Rattle.model.proofs.Views.Shown.{isShown-below, isShown-slotStart, isShown-slot-block, isShown-rootAddress, ShowSame, StoreSame, TraceSame, blockAt-alike, Hidden, along-hidden}
 
 -- ---- the hidden halves ----
 
-hidden-addressesFrom :
-    (g : Geometry) (slot place count : ℕ) → slot < g .slots → 1 ≤ place → place + count ≤ g .height + 1 →
-    All (Hidden g) (addressesFrom (slotStart g slot + place) count)
-unfolding addressesFrom
-hidden-addressesFrom g slot place zero h low high = tt
-hidden-addressesFrom g slot place (suc count) h low high =
-    let e : slotStart g slot + suc place ≡ suc (slotStart g slot + place) = omega arith in
-    (
-      (slot-block-lt g slot place h (omega arith), isShown-slot-block g slot place low (omega arith)),
-      subst (λ (n : ℕ). All (Hidden g) (addressesFrom n count)) e
-      (hidden-addressesFrom g slot (suc place) count h (omega arith) (omega arith)),
-    )
-
-pub hides-same :
+pub hides-alike :
     (g : Geometry) (slot : ℕ) → slot < g .slots → (xs ys : Trace) → Hides g slot xs → Hides g slot ys → TraceSame g xs ys
-hides-same g slot h xs ys p q =
-    let closed : All (Hidden g) (addressesFrom (slotStart g slot + 1) (g .height) ++ (rootAddress g ∷ [])) =
-    all-append (Hidden g) (addressesFrom (slotStart g slot + 1) (g .height)) (rootAddress g ∷ [])
-    (hidden-addressesFrom g slot 1 (g .height) h (omega arith) (omega arith)) ((rootAddress-lt g, isShown-rootAddress g), tt) in
-    along-hidden g xs ys (p .runs ∙ sym (q .runs)) (rw (← (p .runs)) at closed) (p .whole) (q .whole)
+hides-alike g slot h xs ys p q =
+    along-hidden g xs ys (p .runs ∙ sym (q .runs))
+    (all-map (HiddenAddress g slot) (Hidden g) (addresses xs) hidden (hides-addresses g slot xs p)) (p .whole) (q .whole)
+  where
+    hidden : (address : DiskAddress) → HiddenAddress g slot address → Hidden g address
+    hidden address (inl e) = rw e (rootAddress-lt g, isShown-rootAddress g)
+    hidden address (inr (place, low, high, e)) =
+        rw e (slot-block-lt g slot place h high, isShown-slot-block g slot place low high)
 
 -- ---- the public half ----
 
 -- one content stored at one address
-store-same :
+store-alike :
     (g : Geometry) (address : DiskAddress) (content other : Bytes) → address < blockCount g → length content ≡ g .blockSize →
     content ≡ other → StoreSame g (store address content) (store address other)
-store-same g address content other h sized e =
+store-alike g address content other h sized e =
     record {
       same-address = refl;
       inside = h;
@@ -67,65 +58,65 @@ store-same g address content other h sized e =
     }
 
 module _ (g : Geometry) (f : Fits g) (disk other : Bytes) (same : ShowSame g disk other) where
-  below-same : (address : DiskAddress) → address < rootAddress g → blockAt (g .blockSize) disk address ≡ blockAt (g .blockSize) other address
-  below-same address h = blockAt-same g disk other same address (isShown-below g address h)
+  below-alike : (address : DiskAddress) → address < rootAddress g → blockAt (g .blockSize) disk address ≡ blockAt (g .blockSize) other address
+  below-alike address h = blockAt-alike g disk other same address (isShown-below g address h)
 
-  pub entryAt-same : (index : ℕ) → index < 6 → entryAt index disk ≡ entryAt index other
-  entryAt-same index h =
+  pub entryAt-alike : (index : ℕ) → index < 6 → entryAt index disk ≡ entryAt index other
+  entryAt-alike index h =
       let l : 4 * index + 4 ≤ g .blockSize = omega (arith, f .size-low) in
-      entryAt-header (g .blockSize) disk index l ∙ ap (entryAt index) (below-same 0 (omega arith))
+      entryAt-header (g .blockSize) disk index l ∙ ap (entryAt index) (below-alike 0 (omega arith))
       ∙ sym (entryAt-header (g .blockSize) other index l)
 
-  pub mapEntry-same : (number : ℕ) → number < g .publics → mapEntry g disk number ≡ mapEntry g other number
-  mapEntry-same number h =
-      mapEntry-block g disk other number (below-same (mapAddress g number) (omega (arith, mapAddress-lt g f number h)))
+  pub mapEntry-alike : (number : ℕ) → number < g .publics → mapEntry g disk number ≡ mapEntry g other number
+  mapEntry-alike number h =
+      mapEntry-block g disk other number (below-alike (mapAddress g number) (omega (arith, mapAddress-lt g f number h)))
 
-  pub isAllocated-same : (slot : ℕ) → slot < g .slots → isAllocated g disk slot ≡ isAllocated g other slot
-  isAllocated-same slot h = isAllocated-block g disk other slot (below-same (bitAddress g slot) (bitAddress-lt g f slot h))
+  pub isAllocated-alike : (slot : ℕ) → slot < g .slots → isAllocated g disk slot ≡ isAllocated g other slot
+  isAllocated-alike slot h = isAllocated-block g disk other slot (below-alike (bitAddress g slot) (bitAddress-lt g f slot h))
 
-  bitStore-same : (slot : ℕ) (isSet : Bool) → slot < g .slots → StoreSame g (bitStore g disk slot isSet) (bitStore g other slot isSet)
+  bitStore-alike : (slot : ℕ) (isSet : Bool) → slot < g .slots → StoreSame g (bitStore g disk slot isSet) (bitStore g other slot isSet)
   unfolding bitmapWith
-  bitStore-same slot isSet h =
+  bitStore-alike slot isSet h =
       let l = bitAddress-lt g f slot h in
-      store-same g (bitAddress g slot) (bitmapWith g disk slot isSet) (bitmapWith g other slot isSet) (omega arith)
-      (length-bitmapWith g f disk (same .whole) slot h isSet) (rw (below-same (bitAddress g slot) l))
+      store-alike g (bitAddress g slot) (bitmapWith g disk slot isSet) (bitmapWith g other slot isSet) (omega arith)
+      (length-bitmapWith g f disk (same .whole) slot h isSet) (rw (below-alike (bitAddress g slot) l))
 
-  headerStore-same : (slot : ℕ) → StoreSame g (headerStore g disk slot) (headerStore g other slot)
-  headerStore-same slot =
+  headerStore-alike : (slot : ℕ) → StoreSame g (headerStore g disk slot) (headerStore g other slot)
+  headerStore-alike slot =
       let sized = blockAt-whole g f disk (same .whole) 0 (omega arith) in
-      store-same g 0 _ _ (omega arith)
+      store-alike g 0 _ _ (omega arith)
       (length-setEntry 5 (nextSlot g slot) (blockAt (g .blockSize) disk 0) (omega (arith, f .size-low)) ∙ sized)
-      (ap (setEntry 5 (nextSlot g slot)) (below-same 0 (omega arith)))
+      (ap (setEntry 5 (nextSlot g slot)) (below-alike 0 (omega arith)))
 
-  mapStore-same : (number slot : ℕ) → number < g .publics → StoreSame g (mapStore g disk number slot) (mapStore g other number slot)
-  mapStore-same number slot h =
+  mapStore-alike : (number slot : ℕ) → number < g .publics → StoreSame g (mapStore g disk number slot) (mapStore g other number slot)
+  mapStore-alike number slot h =
       let l = mapAddress-lt g f number h in
-      store-same g (mapAddress g number) _ _ (omega arith) (length-mapBlockWith g f disk (same .whole) number h (slotStart g slot))
-      (ap (setEntry (number % fanout g) (slotStart g slot)) (below-same (mapAddress g number) (omega arith)))
+      store-alike g (mapAddress g number) _ _ (omega arith) (length-mapBlockWith g f disk (same .whole) number h (slotStart g slot))
+      (ap (setEntry (number % fanout g) (slotStart g slot)) (below-alike (mapAddress g number) (omega arith)))
 
-  publicStore-same :
+  publicStore-alike :
       (choice : PublicChoice) (slot : ℕ) (content : Bytes) → slot < g .slots → length content ≡ g .blockSize →
       StoreSame g (publicStore choice g disk slot content) (publicStore choice g other slot content)
   unfolding publicStore
-  publicStore-same keepPublic slot content h sized =
+  publicStore-alike keepPublic slot content h sized =
       let l : slotStart g slot < blockCount g = omega (arith, slot-block-lt g slot 0 h (omega arith)) in
-      store-same g (slotStart g slot) _ _ l (blockAt-whole g f disk (same .whole) (slotStart g slot) l)
-      (blockAt-same g disk other same (slotStart g slot) (isShown-slotStart g slot h))
-  publicStore-same writePublic slot content h sized =
+      store-alike g (slotStart g slot) _ _ l (blockAt-whole g f disk (same .whole) (slotStart g slot) l)
+      (blockAt-alike g disk other same (slotStart g slot) (isShown-slotStart g slot h))
+  publicStore-alike writePublic slot content h sized =
       let l : slotStart g slot < blockCount g = omega (arith, slot-block-lt g slot 0 h (omega arith)) in
-      store-same g (slotStart g slot) content content l sized refl
+      store-alike g (slotStart g slot) content content l sized refl
 
 -- ---- a round ----
 
 module _ (g : Geometry) (f : Fits g) (disk other : Bytes) (same : ShowSame g disk other) (number slot : ℕ) (content : Bytes)
     (known : number < g .publics) (inside : slot < g .slots) (sized : length content ≡ g .blockSize) where
-  bitStores-same :
+  bitStores-alike :
       (entry : DiskAddress) → OldPlace g entry → TraceSame g (bitStores g disk entry slot) (bitStores g other entry slot)
   unfolding bitStores
-  bitStores-same entry old = more new (by old)
+  bitStores-alike entry old = more new (by old)
     where
       new : StoreSame g (bitStore g disk slot true) (bitStore g other slot true)
-      new = bitStore-same g f disk other same slot true inside
+      new = bitStore-alike g f disk other same slot true inside
 
       after : ShowSame g (apply (g .blockSize) (bitStore g disk slot true ∷ []) disk) (apply (g .blockSize) (bitStore g other slot true ∷ []) other)
       after = agree-apply (shownOf g) (g .blockSize) (blockCount g) (more new none) same
@@ -139,25 +130,25 @@ module _ (g : Geometry) (f : Fits g) (disk other : Bytes) (same : ShowSame g dis
           (cond (eqb entry 0) [] (bitStore g (apply (g .blockSize) (bitStore g other slot true ∷ []) other) (slotOf g entry) false ∷ []))
       by (inl e) = rw (eq-eqb entry 0 e) none
       by (inr block) =
-          chosen (eqb entry 0) (more (bitStore-same g f _ _ after (slotOf g entry) false (block .slot-inside)) none)
+          chosen (eqb entry 0) (more (bitStore-alike g f _ _ after (slotOf g entry) false (block .slot-inside)) none)
 
-  mapStores-same :
+  mapStores-alike :
       (choice : PublicChoice) → OldPlace g (mapEntry g disk number) →
       TraceSame g (mapStores choice g disk number slot) (mapStores choice g other number slot)
   unfolding mapStores
-  mapStores-same keepPublic old = none
-  mapStores-same writePublic old =
+  mapStores-alike keepPublic old = none
+  mapStores-alike writePublic old =
       let bits : TraceSame g (bitStores g disk (mapEntry g disk number) slot) (bitStores g other (mapEntry g other number) slot) =
-      rw (← (mapEntry-same g f disk other same number known)) (bitStores-same (mapEntry g disk number) old) in
-      more (mapStore-same g f disk other same number slot known) bits
+      rw (← (mapEntry-alike g f disk other same number known)) (bitStores-alike (mapEntry g disk number) old) in
+      more (mapStore-alike g f disk other same number slot known) bits
 
-  pub roundTrace-same :
+  pub roundTrace-alike :
       (choice : PublicChoice) (xs ys : Trace) → OldPlace g (mapEntry g disk number) →
       Hides g slot xs → Hides g slot ys →
       TraceSame g (roundTrace choice g disk number slot content xs) (roundTrace choice g other number slot content ys)
   unfolding roundTrace
-  roundTrace-same choice xs ys old p q =
-      more (publicStore-same g f disk other same choice slot content inside sized)
-      (along-append (shownOf g) (g .blockSize) (blockCount g) (hides-same g slot inside xs ys p q)
-      (along-append (shownOf g) (g .blockSize) (blockCount g) (mapStores-same choice old)
-      (more (headerStore-same g f disk other same slot) none)))
+  roundTrace-alike choice xs ys old p q =
+      more (publicStore-alike g f disk other same choice slot content inside sized)
+      (along-append (shownOf g) (g .blockSize) (blockCount g) (hides-alike g slot inside xs ys p q)
+      (along-append (shownOf g) (g .blockSize) (blockCount g) (mapStores-alike choice old)
+      (more (headerStore-alike g f disk other same slot) none)))

@@ -58,12 +58,12 @@ module _ (g : Geometry) where
 
   -- ---- equal views ----
 
-  pub viewFrom-same :
+  pub viewFrom-alike :
       (disk other : Bytes) → ShowSame g disk other → (count address : ℕ) → viewFrom g disk address count ≡ viewFrom g other address count
   unfolding viewFrom
-  viewFrom-same disk other a zero address = refl
-  viewFrom-same disk other a (suc count) address =
-      ap₂ (λ (xs ys : Bytes). xs ++ ys) (a .same-shown address) (viewFrom-same disk other a count (suc address))
+  viewFrom-alike disk other a zero address = refl
+  viewFrom-alike disk other a (suc count) address =
+      ap₂ (λ (xs ys : Bytes). xs ++ ys) (a .same-shown address) (viewFrom-alike disk other a count (suc address))
 
   module _ (disk other : Bytes) (whole : length disk ≡ blockCount g * g .blockSize) (other-whole : length other ≡ blockCount g * g .blockSize) where
     length-shown :

@@ -10,5 +10,6 @@ pub mod SideRuns
 pub mod Allowed
 pub mod Drives
 pub mod Writes
+pub mod Follows
 pub mod SideWrites
 pub mod CallLists

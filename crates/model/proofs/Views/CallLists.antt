@@ -16,7 +16,7 @@ use Rattle.model.specs.Simulator.{Simulator, CallLengths, lengthsOf, len
 use Rattle.model.proofs.Views.Tracking.{trackerOf}
 use Rattle.model.proofs.Views.Answers.{readLengths, writeLengths, simulatedAnswer-read}
 use Rattle.model.proofs.Views.Drives.{Twins, trackerOf-twins, viewOf-twins, publicReadRefusal-twins, publicRead-twins}
-use Rattle.model.proofs.Views.Writes.{told-ext, toldOf-refused, simulatorAfter-refused, followed}
+use Rattle.model.proofs.Views.Follows.{told-ext, toldOf-refused, simulatorAfter-refused, written-follows}
 use Rattle.model.proofs.Views.SideWrites.{writtenDisk-twins}
 
 -- ---- the simulator ----
@@ -42,7 +42,7 @@ reportsOf-seenOfAll (readPublic number blank ∷ calls) disk accepted =
     (sym (simulatorAfter-refused (trackerOf disk) (readLengths number (length blank)) refl)))
 reportsOf-seenOfAll (readHidden number blank ∷ calls) disk accepted = reportsOf-seenOfAll calls disk accepted
 reportsOf-seenOfAll (write number content random list offer ∷ calls) disk accepted =
-    let f = followed disk accepted number content random list offer in
+    let f = written-follows disk accepted number content random list offer in
     ap₂ {C = List Told} (λ (x : Told) (xs : List Told). x ∷ xs) (f .told-same)
     (reportsOf-seenOfAll calls (writtenDisk (written disk number content random (length list) offer) disk) (f .accepted-after)
     ∙ ap (λ (sim : Simulator). told sim (lengthsOfAll (publicParts calls))) (f .tracker-after))
@@ -110,9 +110,9 @@ plainCalls-same (write number content random list offer ∷ calls) disk other tw
         seenOfWrite (written other number content zeros (length room) none) other room
     first =
         seen-ext
-        (followed disk (twins .accepted) number content random list offer .told-same
+        (written-follows disk (twins .accepted) number content random list offer .told-same
         ∙ lengths (sym (length-replicate (length random) 0)) (sym (length-replicate (length list) 0))
-        ∙ sym (followed other (twins .other-accepted) number content zeros room none .told-same))
+        ∙ sym (written-follows other (twins .other-accepted) number content zeros room none .told-same))
         refl (viewOf-twins _ _ after)
       where
         lengths : length random ≡ length zeros → length list ≡ length room →

@@ -30,7 +30,7 @@ use Rattle.model.proofs.Views.Sides.{entryAt-alike}
 use Rattle.model.proofs.Views.SideRuns.{Supplied, runFrom-alike}
 use Rattle.model.proofs.Views.Allowed.{PlaceAllowed, RoundsAllowed, place-of-write, rounds-of-write}
 use Rattle.model.proofs.Views.Drives.{Twins, geometryIn-twins, trackerOf-twins}
-use Rattle.model.proofs.Views.Writes.{written-done, written-refused, followed}
+use Rattle.model.proofs.Views.Follows.{written-done, written-refused, written-follows}
 
 module _ (disk other : Bytes) (twins : Twins disk other) (number : ℕ) (content random others : Bytes)
     (same-random : length random ≡ length others) (room : ℕ) where
@@ -96,8 +96,8 @@ module _ (disk other : Bytes) (twins : Twins disk other) (number : ℕ) (content
       Twins (writtenDisk (written disk number content random (length list) offer) disk)
       (writtenDisk (written other number content others (length lists) offerOther) other)
   writtenDisk-twins =
-      let here = followed disk (twins .accepted) number content random list offer in
-      let there = followed other (twins .other-accepted) number content others lists offerOther in
+      let here = written-follows disk (twins .accepted) number content random list offer in
+      let there = written-follows other (twins .other-accepted) number content others lists offerOther in
       record {
         accepted = here .accepted-after;
         other-accepted = there .accepted-after;

@@ -15,7 +15,7 @@ use Rattle.model.specs.Geometry.{Geometry, Fits, rootAddress}
 use Rattle.model.specs.Blocks.{Bytes, DiskAddress}
 use Rattle.model.specs.Layout.{geometryIn, headIn, slotStart, slotOf, nextSlot, mapAddress, bitAddress, mapEntry, isAllocated, isPlace, isSlotBlock}
 use Rattle.model.specs.Refusals.{oneMore, roundsTo, roundCount, storeCount, driveRefusal, placeChecks, roundChecks, publicReadRefusal, writeRefusal}
-use Rattle.model.specs.Simulator.{Simulator, CallLengths, entriesFrom, allocatedFrom, leastFrom, simulatedRounds, addressesFrom, slotAddresses, keptRounds, lastRound, simulatedStores, simulatedPlaceChecks, simulatedRoundChecks, simulatedAnswer}
+use Rattle.model.specs.Simulator.{Simulator, CallLengths, entryFor, isTaken, leastFrom, simulatedRounds, addressesFrom, slotAddresses, keptRounds, lastRound, simulatedStores, simulatedPlaceChecks, simulatedRoundChecks, simulatedAnswer}
 use Rattle.model.proofs.Laws.Slots.{nextSlot-lt, slotBlock-of}
 use Rattle.model.proofs.Laws.Refusals.{Accepted, after-drive-pass, accepted-of-refusal}
 use Rattle.model.proofs.Laws.RoundCounts.{roundsTo-ext, length-rounds}
@@ -60,12 +60,13 @@ pub simulatedRounds-is :
     (g : Geometry) → Fits g → (head : ℕ) (disk : Bytes) → head < g .slots →
     simulatedRounds (tracked g head disk) ≡ roundsTo (g .slots) (isAllocated g disk) g head
 simulatedRounds-is g f head disk h =
+    let sim = tracked g head disk in
     let e : head + 0 ≡ head = omega arith in
     let at : (head + 0) % g .slots ≡ head = ap (λ (n : ℕ). n % g .slots) e ∙ mod-eq-of-lt h in
-    leastFrom-roundsTo g (λ slot. getD (tracked g head disk .allocated) slot false) head (g .slots) 0
-    ∙ ap (λ (n : ℕ). countedFrom 0 (roundsTo (g .slots) (λ slot. getD (tracked g head disk .allocated) slot false) g n)) at
-    ∙ countedFrom-zero (roundsTo (g .slots) (λ slot. getD (tracked g head disk .allocated) slot false) g head)
-    ∙ roundsTo-ext (g .slots) (λ slot. getD (tracked g head disk .allocated) slot false) (isAllocated g disk) g f head h (getD-allocated g disk)
+    leastFrom-roundsTo g (isTaken sim) head (g .slots) 0
+    ∙ ap (λ (slot : ℕ). countedFrom 0 (roundsTo (g .slots) (isTaken sim) g slot)) at
+    ∙ countedFrom-zero (roundsTo (g .slots) (isTaken sim) g head)
+    ∙ roundsTo-ext (g .slots) (isTaken sim) (isAllocated g disk) g f head h (getD-allocated g disk)
 
 -- ---- answers ----
 
@@ -93,22 +94,25 @@ and-ext true h = h refl
 and-ext false h = refl
 
 module _ (g : Geometry) (f : Fits g) (disk : Bytes) (inside : headIn disk < g .slots) where
-  place-tracked : (number : ℕ) → number < g .publics →
-      (eqb (getD (entriesFrom g disk 0 (g .publics)) number 0) 0 ||
-      isSlotBlock g 0 (getD (entriesFrom g disk 0 (g .publics)) number 0) &&
-      getD (allocatedFrom g disk 0 (g .slots)) (slotOf g (getD (entriesFrom g disk 0 (g .publics)) number 0)) false) ≡
+  abbrev sim : Simulator
+  sim = tracked g (headIn disk) disk
+
+  -- 6 fails alike
+  place-tracked :
+      (number : ℕ) → number < g .publics →
+      (eqb (entryFor sim number) 0 || isSlotBlock g 0 (entryFor sim number) && isTaken sim (slotOf g (entryFor sim number))) ≡
       (eqb (mapEntry g disk number) 0 || isPlace g disk (mapEntry g disk number))
   unfolding isPlace
   place-tracked number h =
+      let entry = mapEntry g disk number in
       rw (getD-entries g disk number h)
-      (ap (λ (b : Bool). eqb (mapEntry g disk number) 0 || b)
-      (and-ext (isSlotBlock g 0 (mapEntry g disk number))
-      (λ e. getD-allocated g disk (slotOf g (mapEntry g disk number)) (slotBlock-of g 0 (mapEntry g disk number) e .slot-inside))))
+      (ap (λ (b : Bool). eqb entry 0 || b)
+      (and-ext (isSlotBlock g 0 entry) (λ e. getD-allocated g disk (slotOf g entry) (slotBlock-of g 0 entry e .slot-inside))))
 
   -- 4 to 6, with whatever checks come after
   place-answer :
       (call : CallLengths) (cs ds : List Check) → (call .number < g .publics → SameAnswer cs ds) →
-      SameAnswer (simulatedPlaceChecks (tracked g (headIn disk) disk) call ++ cs) (placeChecks g disk (call .number) (call .content) ++ ds)
+      SameAnswer (simulatedPlaceChecks sim call ++ cs) (placeChecks g disk (call .number) (call .content) ++ ds)
   unfolding placeChecks
   place-answer call cs ds h =
       sameAnswer-check refl
@@ -117,7 +121,7 @@ module _ (g : Geometry) (f : Fits g) (disk : Bytes) (inside : headIn disk < g .s
 
   length-simulatedStores :
       (number : ℕ) → number < g .publics → roundCount g disk ≢ 0 →
-      length (simulatedStores (tracked g (headIn disk) disk) number) ≡ storeCount g (roundCount g disk) (mapEntry g disk number)
+      length (simulatedStores sim number) ≡ storeCount g (roundCount g disk) (mapEntry g disk number)
   unfolding simulatedStores
   length-simulatedStores number h some =
       let rounds : suc (roundCount g disk - 1) ≡ roundCount g disk = omega arith in
@@ -128,7 +132,7 @@ module _ (g : Geometry) (f : Fits g) (disk : Bytes) (inside : headIn disk < g .s
   -- 7 to 9
   round-answer :
       (call : CallLengths) → call .number < g .publics →
-      SameAnswer (simulatedRoundChecks (tracked g (headIn disk) disk) call) (roundChecks g disk (call .number) (call .random) (call .room))
+      SameAnswer (simulatedRoundChecks sim call) (roundChecks g disk (call .number) (call .random) (call .room))
   unfolding roundChecks
   round-answer call h =
       let rounds = simulatedRounds-is g f (headIn disk) disk inside in

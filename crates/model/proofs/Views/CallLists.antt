@@ -21,11 +21,21 @@ use Rattle.model.proofs.Views.SideWrites.{writtenDisk-twins}
 
 -- ---- the simulator ----
 
--- a public read changes nothing
+-- what is seen of a public read
+abbrev readSeen : (disk : Bytes) → (number : ℕ) → (blank : Bytes) → Seen
+readSeen disk number blank =
+    record {
+      answer = publicReadRefusal disk number blank;
+      shown = publicRead disk number blank;
+      rounds = 0;
+      stores = 0;
+      entries = [];
+      view = viewOf disk;
+    }
+
 read-told :
     (disk : Bytes) → driveRefusal disk ≡ 0 → (number : ℕ) (blank : Bytes) →
-    record { answer = publicReadRefusal disk number blank; rounds = 0; stores = 0; entries = [] } ≡
-    toldOf (trackerOf disk) (readLengths number (length blank))
+    reportOf (readSeen disk number blank) ≡ toldOf (trackerOf disk) (readLengths number (length blank))
 read-told disk accepted number blank =
     told-ext (sym (simulatedAnswer-read disk accepted number blank)) refl refl refl
     ∙ sym (toldOf-refused (trackerOf disk) (readLengths number (length blank)) refl)
@@ -61,8 +71,15 @@ plainCalls (call ∷ calls) = plainCall call ∷ plainCalls calls
 
 seen-ext :
     {seen other : Seen} → reportOf seen ≡ reportOf other → seen .shown ≡ other .shown → seen .view ≡ other .view → seen ≡ other
-seen-ext p q r = λ i. record {
-  answer = p i .answer; shown = q i; rounds = p i .rounds; stores = p i .stores; entries = p i .entries; view = r i }
+seen-ext p q r = λ i.
+    record {
+      answer = p i .answer;
+      shown = q i;
+      rounds = p i .rounds;
+      stores = p i .stores;
+      entries = p i .entries;
+      view = r i;
+    }
 
 -- what is seen of two lists on two drives, and the drives that they leave
 pub record SeenSame (disk other : Bytes) (calls others : List Call) : Type 0 where
@@ -80,10 +97,10 @@ plainCalls-same (readPublic number blank ∷ calls) disk other twins =
       twins-after = later .twins-after;
     }
   where
-    first : _≡_ {A = Seen}
-        (record { answer = publicReadRefusal disk number blank; shown = publicRead disk number blank; rounds = 0; stores = 0; entries = []; view = viewOf disk })
-        (record { answer = publicReadRefusal other number blank; shown = publicRead other number blank; rounds = 0; stores = 0; entries = []; view = viewOf other })
-    first = seen-ext (told-ext (publicReadRefusal-twins disk other twins number blank) refl refl refl) (publicRead-twins disk other twins number blank) (viewOf-twins disk other twins)
+    first : readSeen disk number blank ≡ readSeen other number blank
+    first =
+        seen-ext (told-ext (publicReadRefusal-twins disk other twins number blank) refl refl refl)
+        (publicRead-twins disk other twins number blank) (viewOf-twins disk other twins)
 plainCalls-same (readHidden number blank ∷ calls) disk other twins =
     let later = plainCalls-same calls disk other twins in
     record { seen-same = later .seen-same; twins-after = later .twins-after }

@@ -12,7 +12,7 @@ use borrow.Author.Tests.{eq-eqb, ne-eqb}
 use Rattle.laws.proofs.Cases.{eq-cases, and-left, cond-true, cond-false}
 use Rattle.model.specs.Geometry.{Geometry, blockCount, driveSize}
 use Rattle.model.specs.Blocks.{Bytes, blockAt, entryAt}
-use Rattle.model.specs.Layout.{Drive, geometryIn, mapEntry, isSlotBlock, isPlace}
+use Rattle.model.specs.Layout.{Drive, geometryIn, slotOf, mapEntry, isSlotBlock, isAllocated, isPlace}
 use Rattle.model.specs.Refusals.{driveRefusal, publicReadRefusal, writeRefusal}
 use Rattle.model.specs.Calls.{publicRead}
 use Rattle.model.specs.View.{viewFrom, viewOf, Alike}
@@ -37,23 +37,30 @@ pub record Twins (disk other : Bytes) : Type 0 where
 pub twins-of-alike : (disk other : Bytes) → Alike disk other → Twins disk other
 unfolding viewOf
 twins-of-alike disk other a =
-    let here = drive-of-refusal disk (a .accepted) in
-    let there = drive-of-refusal other (a .other-accepted) in
-    let e : geometryIn other ≡ geometryIn disk =
-    geometry-ext other disk
-    (λ index h. sym (entryAt-viewOf other there index (omega arith)) ∙ entryAt-view index ∙ entryAt-viewOf disk here index (omega arith)) in
     record {
       accepted = a .accepted;
       other-accepted = a .other-accepted;
       show-same =
         showSame-of-viewFrom (geometryIn disk) disk other (here .whole) (sym (a .same-length) ∙ here .whole)
-        (a .same-view ∙ ap (λ (g : Geometry). viewFrom g other 0 (blockCount g)) e);
+        (a .same-view ∙ ap (λ (g : Geometry). viewFrom g other 0 (blockCount g)) (geometry-ext other disk same-entry));
     }
   where
-    entryAt-view : (index : ℕ) → entryAt index (viewOf other) ≡ entryAt index (viewOf disk)
-    entryAt-view index = ap (entryAt index) (sym (a .same-view))
+    here : Drive (geometryIn disk) disk
+    here = drive-of-refusal disk (a .accepted)
+
+    same-entry : (index : ℕ) → index < 5 → entryAt index other ≡ entryAt index disk
+    same-entry index h =
+        sym (entryAt-viewOf other (drive-of-refusal other (a .other-accepted)) index (omega arith))
+        ∙ ap (entryAt index) (sym (a .same-view)) ∙ entryAt-viewOf disk here index (omega arith)
+
+-- what an entry shows: the caller's blank, or its block
+abbrev entryShown : Geometry → (disk blank : Bytes) → (entry : ℕ) → Bytes
+entryShown g disk blank entry = cond (eqb entry 0) blank (blockAt (g .blockSize) disk entry)
 
 module _ (disk other : Bytes) (twins : Twins disk other) where
+  abbrev g : Geometry
+  g = geometryIn disk
+
   here : Drive (geometryIn disk) disk
   here = drive-of-refusal disk (twins .accepted)
 
@@ -94,31 +101,23 @@ module _ (disk other : Bytes) (twins : Twins disk other) where
   -- what a read that is not refused shows
   shown-twins :
       (number : ℕ) (blank : Bytes) → publicReadRefusal disk number blank ≡ 0 →
-      cond (eqb (mapEntry (geometryIn disk) disk number) 0) blank
-      (blockAt (geometryIn disk .blockSize) disk (mapEntry (geometryIn disk) disk number)) ≡
-      cond (eqb (mapEntry (geometryIn other) other number) 0) blank
-      (blockAt (geometryIn other .blockSize) other (mapEntry (geometryIn other) other number))
+      entryShown (geometryIn disk) disk blank (mapEntry (geometryIn disk) disk number) ≡
+      entryShown (geometryIn other) other blank (mapEntry (geometryIn other) other number)
   unfolding isPlace
   shown-twins number blank e =
-      let g = geometryIn disk in
       let allowed = place-of-read disk (twins .accepted) number blank e in
-      let entry : mapEntry g disk number ≡ mapEntry g other number =
-      mapEntry-alike g (here .fits) disk other (twins .show-same) number (allowed .known) in
       by (allowed .place)
-      ∙ ap (λ (n : ℕ). cond (eqb n 0) blank (blockAt (g .blockSize) other n)) entry
-      ∙ ap (λ (h : Geometry). cond (eqb (mapEntry h other number) 0) blank (blockAt (h .blockSize) other (mapEntry h other number))) geometryIn-twins
+      ∙ ap (entryShown g other blank) (mapEntry-alike g (here .fits) disk other (twins .show-same) number (allowed .known))
+      ∙ ap (λ (h : Geometry). entryShown h other blank (mapEntry h other number)) geometryIn-twins
     where
-      by : Placed (geometryIn disk) disk number →
-          cond (eqb (mapEntry (geometryIn disk) disk number) 0) blank
-          (blockAt (geometryIn disk .blockSize) disk (mapEntry (geometryIn disk) disk number)) ≡
-          cond (eqb (mapEntry (geometryIn disk) disk number) 0) blank
-          (blockAt (geometryIn disk .blockSize) other (mapEntry (geometryIn disk) disk number))
-      by (inl z) = rw (eq-eqb (mapEntry (geometryIn disk) disk number) 0 z)
+      entry : ℕ
+      entry = mapEntry g disk number
+
+      by : Placed g disk number → entryShown g disk blank entry ≡ entryShown g other blank entry
+      by (inl z) = rw (eq-eqb entry 0 z)
       by (inr place) =
-          ap (cond (eqb (mapEntry (geometryIn disk) disk number) 0) blank)
-          (blockAt-alike (geometryIn disk) disk other (twins .show-same) (mapEntry (geometryIn disk) disk number)
-          (isShown-slotBlock (geometryIn disk) (mapEntry (geometryIn disk) disk number)
-          (and-left (isSlotBlock (geometryIn disk) 0 (mapEntry (geometryIn disk) disk number)) _ place)))
+          let starts = and-left (isSlotBlock g 0 entry) (isAllocated g disk (slotOf g entry)) place in
+          ap (cond (eqb entry 0) blank) (blockAt-alike g disk other (twins .show-same) entry (isShown-slotBlock g entry starts))
 
   pub publicRead-twins : (number : ℕ) (blank : Bytes) → publicRead disk number blank ≡ publicRead other number blank
   unfolding publicRead

@@ -42,59 +42,72 @@ module _ (disk other : Bytes) (twins : Twins disk other) (number : ℕ) (content
       ∙ simulatedAnswer-write other (twins .other-accepted) number content (length others) room
 
   module _ (offer offerOther : Option HiddenWrite) (free : writeRefusal disk number content (length random) room ≡ 0) where
-    place : PlaceAllowed (geometryIn disk) disk number (length content)
+    abbrev g : Geometry
+    g = geometryIn disk
+
+    -- the two runs
+    abbrev run : Run
+    run = writeRun (geometryIn disk) disk number content random offer
+
+    abbrev runOther : Run
+    runOther = writeRun (geometryIn other) other number content others offerOther
+
+    place : PlaceAllowed g disk number (length content)
     place = place-of-write disk (twins .accepted) number content (length random) room free
 
-    allowed : RoundsAllowed (geometryIn disk) disk number (length random) room
+    allowed : RoundsAllowed g disk number (length random) room
     allowed = rounds-of-write disk (twins .accepted) number content (length random) room free
 
     sound : Accepted disk
     sound = accepted-of-refusal disk (twins .accepted)
 
-    rounds : roundCount (geometryIn disk) disk ≡ suc (roundCount (geometryIn disk) disk - 1)
+    rounds : roundCount g disk ≡ suc (roundCount g disk - 1)
     rounds = omega (arith, allowed .some-rounds)
 
-    supplied : (g : Geometry) (bytes : Bytes) (count : ℕ) → suc count * g .height * g .blockSize ≤ length bytes → (offered : Option HiddenWrite) →
-        Supplied g count bytes (startState (offeredWrites g offered))
-    supplied g bytes count enough offered =
+    supplied :
+        (bytes : Bytes) → roundCount g disk * g .height * g .blockSize ≤ length bytes → (offered : Option HiddenWrite) →
+        Supplied g (roundCount g disk - 1) bytes (startState (offeredWrites g offered))
+    supplied bytes enough offered =
         record {
-          enough = omega (arith, mul-assoc (suc count) (g .height) (g .blockSize));
+          enough = rw (← rounds) (omega (arith, mul-assoc (roundCount g disk) (g .height) (g .blockSize)));
           whole-writes = offeredWrites-whole g offered;
         }
 
-    trace-alike :
-        TraceSame (geometryIn disk) (writeRun (geometryIn disk) disk number content random offer .trace)
-        (writeRun (geometryIn other) other number content others offerOther .trace)
+    -- the other run, over the first drive's geometry and from its head
+    runOther-is :
+        runFrom (g .slots) g number content (headIn disk) others other (startState (offeredWrites g offerOther)) ≡ runOther
+    unfolding writeRun
+    runOther-is =
+        ap₂ (λ (h : Geometry) (head : ℕ). runFrom (h .slots) h number content head others other (startState (offeredWrites h offerOther)))
+        (geometryIn-twins disk other twins) (entryAt-alike g (sound .sized .fits) disk other (twins .show-same) 5 (omega arith))
+
+    trace-alike : TraceSame g (run .trace) (runOther .trace)
     unfolding writeRun
     trace-alike =
-        let g = geometryIn disk in
-        let enough : suc (roundCount g disk - 1) * g .height * g .blockSize ≤ length random = rw (← rounds) (allowed .enough-random) in
-        subst (λ (run : Run). TraceSame g (runFrom (g .slots) g number content (headIn disk) random disk (startState (offeredWrites g offer)) .trace) (run .trace))
-        (ap₂ (λ (h : Geometry) (head : ℕ). runFrom (h .slots) h number content head others other (startState (offeredWrites h offerOther)))
-        (geometryIn-twins disk other twins) (entryAt-alike g (sound .sized .fits) disk other (twins .show-same) 5 (omega arith)))
-        (runFrom-alike g (sound .sized .fits) number content (place .known) (place .sized) (g .slots) disk other (headIn disk) random others
-        (startState (offeredWrites g offer)) (startState (offeredWrites g offerOther)) (roundCount g disk - 1) (twins .show-same)
-        (sound .head-inside) (old-of-placed g disk number (place .place)) rounds (supplied g random (roundCount g disk - 1) enough offer)
-        (supplied g others (roundCount g disk - 1) (rw same-random at enough) offerOther))
+        subst (λ (r : Run). TraceSame g (run .trace) (r .trace)) runOther-is
+        (runFrom-alike g (sound .sized .fits) number content (place .known) (place .sized) (g .slots) disk other (headIn disk) random
+        others (startState (offeredWrites g offer)) (startState (offeredWrites g offerOther)) (roundCount g disk - 1)
+        (twins .show-same) (sound .head-inside) (old-of-placed g disk number (place .place)) rounds
+        (supplied random (allowed .enough-random) offer)
+        (supplied others (rw same-random at (allowed .enough-random)) offerOther))
 
     -- the disks that the two runs leave
-    final-alike :
-        ShowSame (geometryIn disk)
-        (apply (geometryIn disk .blockSize) (writeRun (geometryIn disk) disk number content random offer .trace) disk)
-        (apply (geometryIn other .blockSize) (writeRun (geometryIn other) other number content others offerOther .trace) other)
+    final-alike : ShowSame g (apply (g .blockSize) (run .trace) disk) (apply (geometryIn other .blockSize) (runOther .trace) other)
     final-alike =
-        let g = geometryIn disk in
-        let left = apply (g .blockSize) (writeRun g disk number content random offer .trace) disk in
-        let run = writeRun (geometryIn other) other number content others offerOther in
-        subst (λ (h : Geometry). ShowSame g left (apply (h .blockSize) (run .trace) other)) (geometryIn-twins disk other twins)
-        (agree-apply (shownOf g) (g .blockSize) (blockCount g) trace-alike (twins .show-same))
+        subst (λ (h : Geometry). ShowSame g (apply (g .blockSize) (run .trace) disk) (apply (h .blockSize) (runOther .trace) other))
+        (geometryIn-twins disk other twins) (agree-apply (shownOf g) (g .blockSize) (blockCount g) trace-alike (twins .show-same))
 
 module _ (disk other : Bytes) (twins : Twins disk other) (number : ℕ) (content random others : Bytes)
     (same-random : length random ≡ length others) (list lists : List DiskAddress) (same-room : length list ≡ length lists)
     (offer offerOther : Option HiddenWrite) where
-  pub writtenDisk-twins :
-      Twins (writtenDisk (written disk number content random (length list) offer) disk)
-      (writtenDisk (written other number content others (length lists) offerOther) other)
+  -- the drives that the two writes leave
+  abbrev after : Bytes
+  after = writtenDisk (written disk number content random (length list) offer) disk
+
+  abbrev afterOther : Bytes
+  afterOther = writtenDisk (written other number content others (length lists) offerOther) other
+
+  pub writtenDisk-twins : Twins after afterOther
   writtenDisk-twins =
       let here = written-follows disk (twins .accepted) number content random list offer in
       let there = written-follows other (twins .other-accepted) number content others lists offerOther in
@@ -102,29 +115,31 @@ module _ (disk other : Bytes) (twins : Twins disk other) (number : ℕ) (content
         accepted = here .accepted-after;
         other-accepted = there .accepted-after;
         show-same =
-          subst (λ (g : Geometry). ShowSame g (writtenDisk (written disk number content random (length list) offer) disk)
-          (writtenDisk (written other number content others (length lists) offerOther) other)) (sym (here .geometry-after))
+          subst (λ (g : Geometry). ShowSame g after afterOther) (sym (here .geometry-after))
           (⊎-elim done refused (eq-cases (writeRefusal disk number content (length random) (length list)) 0));
       }
     where
-      refusals : writeRefusal disk number content (length random) (length list) ≡ writeRefusal other number content (length others) (length lists)
+      refusals :
+          writeRefusal disk number content (length random) (length list) ≡
+          writeRefusal other number content (length others) (length lists)
       refusals =
           writeRefusal-twins disk other twins number content random others same-random (length list)
           ∙ ap (writeRefusal other number content (length others)) same-room
 
-      done : writeRefusal disk number content (length random) (length list) ≡ 0 →
-          ShowSame (geometryIn disk) (writtenDisk (written disk number content random (length list) offer) disk)
-          (writtenDisk (written other number content others (length lists) offerOther) other)
+      done : writeRefusal disk number content (length random) (length list) ≡ 0 → ShowSame (geometryIn disk) after afterOther
       done e =
-          rw (written-done disk number content random (length list) offer e,
-            written-done other number content others (length lists) offerOther (sym refusals ∙ e))
+          rw (
+            written-done disk number content random (length list) offer e,
+            written-done other number content others (length lists) offerOther (sym refusals ∙ e),
+          )
           (final-alike disk other twins number content random others same-random (length list) offer offerOther e)
 
-      refused : writeRefusal disk number content (length random) (length list) ≢ 0 →
-          ShowSame (geometryIn disk) (writtenDisk (written disk number content random (length list) offer) disk)
-          (writtenDisk (written other number content others (length lists) offerOther) other)
+      refused : writeRefusal disk number content (length random) (length list) ≢ 0 → ShowSame (geometryIn disk) after afterOther
       refused ne =
-          rw (written-refused disk number content random (length list) offer ne,
+          rw (
+            written-refused disk number content random (length list) offer ne,
             written-refused other number content others (length lists) offerOther (λ e. ne (refusals ∙ e)),
-            apply-nil (geometryIn disk .blockSize) disk, apply-nil (geometryIn other .blockSize) other)
+            apply-nil (geometryIn disk .blockSize) disk,
+            apply-nil (geometryIn other .blockSize) other,
+          )
           (twins .show-same)

@@ -1,11 +1,11 @@
--- Demand 3: nothing hidden shows. Each list is compared with its public calls alone, with nothing hidden in them, on the
--- first drive. Assumes nothing.
+-- Demand 3: nothing hidden shows. Each list is compared with its public calls alone, with nothing hidden in
+-- them, on the first drive. Assumes nothing.
 use mathlib.Core.Path.{_≡_, refl, sym, ap, _∙_}
 use mathlib.Core.List.{List}
 use Rattle.model.specs.Blocks.{Bytes}
 use Rattle.model.specs.Refusals.{driveRefusal}
-use Rattle.model.specs.View.{viewOf, Alike}
-use Rattle.model.specs.Runs.{Call, PublicCall, publicParts, bareCalls, diskAfterAll, seenOfAll}
+use Rattle.model.specs.View.{Alike}
+use Rattle.model.specs.Runs.{Call, PublicCall, publicParts, bareCalls, seenOfAll}
 use Rattle.model.specs.Simulator.{Simulator, lengthsOfAll, told}
 use Rattle.model.specs.Promises.Noninterference.{Simulated, Noninterference}
 use Rattle.model.proofs.Laws.Refusals.{drive-of-refusal}

@@ -1,8 +1,9 @@
--- Two disks that agree on what every address shows of its block, and two traces side by side: the same addresses, whole
--- blocks, contents that show the same. Over what an address shows, the width of a block and their number. Assumes nothing.
-use mathlib.Core.Path.{_≡_, refl, sym, ap, _∙_}
+-- Two disks that agree on what every address shows of its block, and two traces side by side: the same
+-- addresses, whole blocks, contents that show the same. Over what an address shows, the width of a block and
+-- their number. Assumes nothing.
+use mathlib.Core.Path.{_≡_, refl, sym, _∙_}
 use mathlib.Core.Logic.{_≢_, _⊎_, inl, inr}
-use mathlib.Core.List.{List, [], _∷_, _++_}
+use mathlib.Core.List.{[], _∷_, _++_}
 use Prim.Native.Nat.{ℕ, zero, suc, _*_, _<_}
 use lib.ListN.{length, take}
 use Rattle.laws.proofs.Cases.{eq-cases}
@@ -14,7 +15,9 @@ module _ (shows : DiskAddress → Bytes → Bytes) (width count : ℕ) where
   pub record Agree (disk other : Bytes) : Type 0 where
     pub whole : length disk ≡ count * width
     pub other-whole : length other ≡ count * width
-    pub same-shown : (address : DiskAddress) → shows address (blockAt width disk address) ≡ shows address (blockAt width other address)
+    pub same-shown :
+        (address : DiskAddress) →
+        shows address (blockAt width disk address) ≡ shows address (blockAt width other address)
 
   -- two stores to one address that show the same there
   pub record Beside (x y : Store) : Type 0 where
@@ -78,7 +81,9 @@ module _ (shows : DiskAddress → Bytes → Bytes) (width count : ℕ) where
           address (λ e. ne (e ∙ sym (b .same-address))) in
           rw (here, there) (a .same-shown address)
 
-  pub agree-apply : {xs ys : Trace} {disk other : Bytes} → Along xs ys → Agree disk other → Agree (apply width xs disk) (apply width ys other)
+  pub agree-apply :
+      {xs ys : Trace} {disk other : Bytes} → Along xs ys → Agree disk other →
+      Agree (apply width xs disk) (apply width ys other)
   unfolding apply
   agree-apply none a = a
   agree-apply (more b h) a = agree-apply h (agree-one a b)

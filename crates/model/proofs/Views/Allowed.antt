@@ -1,11 +1,12 @@
--- What a public call that is not refused gives as plain facts: 4 to 6 of a read, 4 to 9 of a write. Assumes nothing.
+-- What a public call that is not refused gives as plain facts: 4 to 6 of a read, 4 to 9 of a write. Assumes
+-- nothing.
 use mathlib.Core.Path.{_≡_, sym, ap, _∙_}
-use mathlib.Core.Logic.{_≢_, _⊎_, inl, inr, ⊎-elim}
-use mathlib.Core.Bool.{Bool, true, false, not, _||_}
-use mathlib.Core.List.{List, [], _∷_, _++_, append-nil}
+use mathlib.Core.Logic.{_≢_, inl, inr, ⊎-elim}
+use mathlib.Core.Bool.{_||_}
+use mathlib.Core.List.{List, [], _++_, append-nil}
 use Prim.Native.Nat.{ℕ, _*_, _≤_, _<_}
 use native.Mathlib.Omega.{arith}
-use lib.Dec.{leb, ltb, eqb}
+use lib.Dec.{eqb}
 use lib.ListN.{length}
 use borrow.Author.Tests.{leb-false, ltb-false, eqb-true, eqb-false, not-false}
 use Rattle.laws.specs.Checks.{Check, firstOf}
@@ -30,15 +31,20 @@ pub record RoundsAllowed (g : Geometry) (disk : Bytes) (number random room : ℕ
 
 -- ---- the chains ----
 
-numbered-place : (g : Geometry) (disk : Bytes) (number size : ℕ) (cs : List Check) → Numbered cs → Numbered (placeChecks g disk number size ++ cs)
+numbered-place :
+    (g : Geometry) (disk : Bytes) (number size : ℕ) (cs : List Check) → Numbered cs →
+    Numbered (placeChecks g disk number size ++ cs)
 unfolding placeChecks
 numbered-place g disk number size cs n = (λ e. omega arith, ((λ e. omega arith), ((λ e. omega arith), n)))
 
-numbered-rounds : (g : Geometry) (disk : Bytes) (number random room : ℕ) → Numbered (roundChecks g disk number random room)
+numbered-rounds :
+    (g : Geometry) (disk : Bytes) (number random room : ℕ) → Numbered (roundChecks g disk number random room)
 unfolding roundChecks
 numbered-rounds g disk number random room = (λ e. omega arith, ((λ e. omega arith), ((λ e. omega arith), tt)))
 
-place-of-passed : (g : Geometry) (disk : Bytes) (number size : ℕ) → Passed (placeChecks g disk number size) → PlaceAllowed g disk number size
+place-of-passed :
+    (g : Geometry) (disk : Bytes) (number size : ℕ) → Passed (placeChecks g disk number size) →
+    PlaceAllowed g disk number size
 unfolding placeChecks
 place-of-passed g disk number size p =
     let entry = mapEntry g disk number in
@@ -64,7 +70,9 @@ rounds-of-passed g disk number random room p =
 -- ---- the calls ----
 
 module _ (disk : Bytes) (accepted : driveRefusal disk ≡ 0) (number : ℕ) where
-  pub place-of-read : (blank : Bytes) → publicReadRefusal disk number blank ≡ 0 → PlaceAllowed (geometryIn disk) disk number (length blank)
+  pub place-of-read :
+      (blank : Bytes) → publicReadRefusal disk number blank ≡ 0 →
+      PlaceAllowed (geometryIn disk) disk number (length blank)
   unfolding publicReadRefusal
   place-of-read blank e =
       let cs = placeChecks (geometryIn disk) disk number (length blank) in

@@ -1,23 +1,22 @@
 -- The simulator's rounds, stores and answers are those of the disk that it tracks. Assumes nothing.
-use mathlib.Core.Path.{_≡_, refl, sym, ap, ap₂, _∙_}
-use mathlib.Core.Logic.{_≢_, _⊎_, inl, inr, ⊎-elim}
+use mathlib.Core.Path.{_≡_, refl, sym, ap, _∙_}
+use mathlib.Core.Logic.{_≢_}
 use mathlib.Core.Bool.{Bool, true, false, not, cond, _&&_, _||_}
 use mathlib.Core.List.{List, [], _∷_, _++_, append-nil}
-use Prim.Native.Nat.{ℕ, zero, suc, _+_, _*_, _-_, _/_, _%_, _≤_, _<_}
-use native.Mathlib.Nat.{mod-lt, mod-add-mod, mod-eq-of-lt}
+use Prim.Native.Nat.{ℕ, zero, suc, _+_, _*_, _-_, _%_, _<_}
+use native.Mathlib.Nat.{mod-add-mod, mod-eq-of-lt}
 use native.Mathlib.Omega.{arith}
-use lib.Dec.{ltb, leb, eqb}
-use lib.ListN.{length, getD, length-append}
+use lib.Dec.{ltb, eqb}
+use lib.ListN.{length}
 use borrow.Author.Tests.{leb-false, eqb-false}
 use Rattle.laws.specs.Checks.{Check, check, firstOf}
-use Rattle.laws.proofs.Cases.{bool-cases}
-use Rattle.model.specs.Geometry.{Geometry, Fits, rootAddress}
-use Rattle.model.specs.Blocks.{Bytes, DiskAddress}
-use Rattle.model.specs.Layout.{geometryIn, headIn, slotStart, slotOf, nextSlot, mapAddress, bitAddress, mapEntry, isAllocated, isPlace, isSlotBlock}
+use Rattle.model.specs.Geometry.{Geometry, Fits}
+use Rattle.model.specs.Blocks.{Bytes}
+use Rattle.model.specs.Layout.{geometryIn, headIn, slotOf, nextSlot, mapEntry, isAllocated, isPlace, isSlotBlock}
 use Rattle.model.specs.Refusals.{oneMore, roundsTo, roundCount, storeCount, driveRefusal, placeChecks, roundChecks, publicReadRefusal, writeRefusal}
-use Rattle.model.specs.Simulator.{Simulator, CallLengths, entryFor, isTaken, leastFrom, simulatedRounds, addressesFrom, slotAddresses, keptRounds, lastRound, simulatedStores, simulatedPlaceChecks, simulatedRoundChecks, simulatedAnswer}
-use Rattle.model.proofs.Laws.Slots.{nextSlot-lt, slotBlock-of}
-use Rattle.model.proofs.Laws.Refusals.{Accepted, after-drive-pass, accepted-of-refusal}
+use Rattle.model.specs.Simulator.{Simulator, CallLengths, entryFor, isTaken, leastFrom, simulatedRounds, simulatedStores, simulatedPlaceChecks, simulatedRoundChecks, simulatedAnswer}
+use Rattle.model.proofs.Laws.Slots.{slotBlock-of}
+use Rattle.model.proofs.Laws.Refusals.{after-drive-pass, accepted-of-refusal}
 use Rattle.model.proofs.Laws.RoundCounts.{roundsTo-ext, length-rounds}
 use Rattle.model.proofs.Views.Tracking.{tracked, trackerOf, getD-entries, getD-allocated}
 
@@ -79,7 +78,8 @@ sameAnswer-refl = record { same = refl }
 
 -- equal tests in front; what comes after need be the same only where the test does not hold
 sameAnswer-check :
-    {holds other : Bool} {number : ℕ} {cs ds : List Check} → holds ≡ other → (other ≡ false → SameAnswer cs ds) →
+    {holds other : Bool} {number : ℕ} {cs ds : List Check} → holds ≡ other →
+    (other ≡ false → SameAnswer cs ds) →
     SameAnswer (check holds number ∷ cs) (check other number ∷ ds)
 unfolding firstOf
 sameAnswer-check {holds} {other} {number} {cs} {ds} e h = record { same = rw e (by other h) }
@@ -151,7 +151,9 @@ writeLengths number content random room =
 
 module _ (disk : Bytes) (accepted : driveRefusal disk ≡ 0) where
   pub simulatedAnswer-read :
-      (number : ℕ) (blank : Bytes) → simulatedAnswer (trackerOf disk) (readLengths number (length blank)) ≡ publicReadRefusal disk number blank
+      (number : ℕ) (blank : Bytes) →
+      simulatedAnswer (trackerOf disk) (readLengths number (length blank)) ≡
+      publicReadRefusal disk number blank
   unfolding simulatedAnswer publicReadRefusal
   simulatedAnswer-read number blank =
       let a = accepted-of-refusal disk accepted in
@@ -162,7 +164,8 @@ module _ (disk : Bytes) (accepted : driveRefusal disk ≡ 0) where
 
   pub simulatedAnswer-write :
       (number : ℕ) (content : Bytes) (random room : ℕ) →
-      simulatedAnswer (trackerOf disk) (writeLengths number (length content) random room) ≡ writeRefusal disk number content random room
+      simulatedAnswer (trackerOf disk) (writeLengths number (length content) random room) ≡
+      writeRefusal disk number content random room
   unfolding simulatedAnswer writeRefusal
   simulatedAnswer-write number content random room =
       let a = accepted-of-refusal disk accepted in

@@ -1,18 +1,17 @@
--- Lists of calls: what is seen of one is what the simulator tells, and what its public calls give with nothing hidden in
--- them, on any drive that shows the same. Assumes nothing.
+-- Lists of calls: what is seen of one is what the simulator tells, and what its public calls give with
+-- nothing hidden in them, on any drive that shows the same. Assumes nothing.
 use mathlib.Core.Path.{_≡_, refl, sym, ap, ap₂, _∙_}
-use mathlib.Core.Bool.{Bool, true, false, cond}
-use mathlib.Core.Option.{Option, none}
-use mathlib.Core.List.{List, [], _∷_, _++_}
+use mathlib.Core.Bool.{cond}
+use mathlib.Core.Option.{none}
+use mathlib.Core.List.{List, [], _∷_}
 use Prim.Native.Nat.{ℕ}
 use lib.ListN.{length, replicate, length-replicate}
 use Rattle.model.specs.Blocks.{Bytes, DiskAddress}
-use Rattle.model.specs.HiddenHalf.{HiddenWrite}
 use Rattle.model.specs.Refusals.{driveRefusal, publicReadRefusal}
-use Rattle.model.specs.Calls.{publicRead, Written, written, writtenDisk}
+use Rattle.model.specs.Calls.{publicRead, written, writtenDisk}
 use Rattle.model.specs.View.{viewOf}
-use Rattle.model.specs.Runs.{Call, readPublic, readHidden, write, diskAfter, diskAfterAll, PublicCall, publicPart, publicParts, bareCall, bareCalls, Seen, seenOfWrite, seenOf, seenOfAll}
-use Rattle.model.specs.Simulator.{Simulator, CallLengths, lengthsOf, lengthsOfAll, Told, toldOf, simulatedAnswer, simulatorAfter, told, reportOf, reportsOf}
+use Rattle.model.specs.Runs.{Call, readPublic, readHidden, write, diskAfterAll, PublicCall, publicParts, bareCalls, Seen, seenOfWrite, seenOfAll}
+use Rattle.model.specs.Simulator.{Simulator, lengthsOfAll, Told, toldOf, told, reportOf, reportsOf}
 use Rattle.model.proofs.Views.Tracking.{trackerOf}
 use Rattle.model.proofs.Views.Answers.{readLengths, writeLengths, simulatedAnswer-read}
 use Rattle.model.proofs.Views.Drives.{Twins, trackerOf-twins, viewOf-twins, publicReadRefusal-twins, publicRead-twins}
@@ -70,7 +69,8 @@ plainCalls [] = []
 plainCalls (call ∷ calls) = plainCall call ∷ plainCalls calls
 
 seen-ext :
-    {seen other : Seen} → reportOf seen ≡ reportOf other → seen .shown ≡ other .shown → seen .view ≡ other .view → seen ≡ other
+    {seen other : Seen} → reportOf seen ≡ reportOf other → seen .shown ≡ other .shown →
+    seen .view ≡ other .view → seen ≡ other
 seen-ext p q r = λ i.
     record {
       answer = p i .answer;
@@ -87,7 +87,8 @@ pub record SeenSame (disk other : Bytes) (calls others : List Call) : Type 0 whe
   pub twins-after : Twins (diskAfterAll disk calls) (diskAfterAll other others)
 
 pub plainCalls-same :
-    (calls : List Call) (disk other : Bytes) → Twins disk other → SeenSame disk other calls (plainCalls (publicParts calls))
+    (calls : List Call) (disk other : Bytes) → Twins disk other →
+    SeenSame disk other calls (plainCalls (publicParts calls))
 unfolding seenOfAll diskAfterAll publicParts plainCalls
 plainCalls-same [] disk other twins = record { seen-same = refl; twins-after = twins }
 plainCalls-same (readPublic number blank ∷ calls) disk other twins =

@@ -1,19 +1,19 @@
--- Two accepted drives that show the same are alike, and the other way round; of two such drives the simulator keeps the
--- same, and their public reads answer and show the same. Assumes nothing.
-use mathlib.Core.Path.{_≡_, refl, sym, ap, ap₂, _∙_, subst}
-use mathlib.Core.Logic.{_≢_, _⊎_, inl, inr, ⊎-elim}
-use mathlib.Core.Bool.{Bool, true, false, cond}
-use mathlib.Core.List.{List, []}
-use Prim.Native.Nat.{ℕ, _*_, _<_}
+-- Two accepted drives that show the same are alike, and the other way round; of two such drives the simulator
+-- keeps the same, and their public reads answer and show the same. Assumes nothing.
+use mathlib.Core.Path.{_≡_, sym, ap, _∙_}
+use mathlib.Core.Logic.{inl, inr, ⊎-elim}
+use mathlib.Core.Bool.{cond}
+use mathlib.Core.List.{[]}
+use Prim.Native.Nat.{ℕ, _<_}
 use native.Mathlib.Omega.{arith}
 use lib.Dec.{eqb}
 use lib.ListN.{length}
 use borrow.Author.Tests.{eq-eqb, ne-eqb}
 use Rattle.laws.proofs.Cases.{eq-cases, and-left, cond-true, cond-false}
-use Rattle.model.specs.Geometry.{Geometry, blockCount, driveSize}
+use Rattle.model.specs.Geometry.{Geometry, blockCount}
 use Rattle.model.specs.Blocks.{Bytes, blockAt, entryAt}
 use Rattle.model.specs.Layout.{Drive, geometryIn, slotOf, mapEntry, isSlotBlock, isAllocated, isPlace}
-use Rattle.model.specs.Refusals.{driveRefusal, publicReadRefusal, writeRefusal}
+use Rattle.model.specs.Refusals.{driveRefusal, publicReadRefusal}
 use Rattle.model.specs.Calls.{publicRead}
 use Rattle.model.specs.View.{viewFrom, viewOf, Alike}
 use Rattle.model.specs.Simulator.{Simulator, simulatorOf, simulatedAnswer}
@@ -24,7 +24,7 @@ use Rattle.model.proofs.Views.View.{entryAt-viewOf, geometry-ext, viewF
 use Rattle.model.proofs.Views.Tracking.{trackerOf, simulatorOf-viewOf}
 use Rattle.model.proofs.Views.Answers.{readLengths, simulatedAnswer-read}
 use Rattle.model.proofs.Views.Sides.{entryAt-alike, mapEntry-alike}
-use Rattle.model.proofs.Views.Allowed.{PlaceAllowed, place-of-read}
+use Rattle.model.proofs.Views.Allowed.{place-of-read}
 
 -- two accepted drives that show the same
 pub record Twins (disk other : Bytes) : Type 0 where
@@ -92,7 +92,9 @@ module _ (disk other : Bytes) (twins : Twins disk other) where
 
   -- ---- a public read ----
 
-  pub publicReadRefusal-twins : (number : ℕ) (blank : Bytes) → publicReadRefusal disk number blank ≡ publicReadRefusal other number blank
+  pub publicReadRefusal-twins :
+      (number : ℕ) (blank : Bytes) →
+      publicReadRefusal disk number blank ≡ publicReadRefusal other number blank
   publicReadRefusal-twins number blank =
       sym (simulatedAnswer-read disk (twins .accepted) number blank)
       ∙ ap (λ (sim : Simulator). simulatedAnswer sim (readLengths number (length blank))) trackerOf-twins
@@ -119,7 +121,8 @@ module _ (disk other : Bytes) (twins : Twins disk other) where
           let starts = and-left (isSlotBlock g 0 entry) (isAllocated g disk (slotOf g entry)) place in
           ap (cond (eqb entry 0) blank) (blockAt-alike g disk other (twins .show-same) entry (isShown-slotBlock g entry starts))
 
-  pub publicRead-twins : (number : ℕ) (blank : Bytes) → publicRead disk number blank ≡ publicRead other number blank
+  pub publicRead-twins :
+      (number : ℕ) (blank : Bytes) → publicRead disk number blank ≡ publicRead other number blank
   unfolding publicRead
   publicRead-twins number blank =
       ⊎-elim

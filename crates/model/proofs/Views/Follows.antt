@@ -1,5 +1,5 @@
--- The simulator follows every write on an accepted drive: refused or done, it tells the write's answer, rounds and stores,
--- and its next state tracks the drive that the write leaves. Assumes nothing.
+-- The simulator follows every write on an accepted drive: refused or done, it tells the write's answer,
+-- rounds and stores, and its next state tracks the drive that the write leaves. Assumes nothing.
 use mathlib.Core.Path.{_≡_, refl, sym, ap, _∙_, subst}
 use mathlib.Core.Logic.{_≢_, ⊎-elim}
 use mathlib.Core.Bool.{true, false}
@@ -41,14 +41,17 @@ module _ (disk : Bytes) (number : ℕ) (content random : Bytes) (room : ℕ) (of
 
   pub written-refused :
       writeRefusal disk number content (length random) room ≢ 0 →
-      written disk number content random room offer ≡ refusedWrite (writeRefusal disk number content (length random) room)
+      written disk number content random room offer ≡
+      refusedWrite (writeRefusal disk number content (length random) room)
   unfolding written
   written-refused ne = cond-false _ _ (ne-eqb (writeRefusal disk number content (length random) room) 0 ne)
 
 -- ---- the two ways of the simulator ----
 
 module _ (sim : Simulator) (call : CallLengths) where
-  toldOf-done : isDone sim call ≡ true → toldOf sim call ≡ toldStores 0 (simulatedRounds sim) (simulatedStores sim (call .number))
+  toldOf-done :
+      isDone sim call ≡ true →
+      toldOf sim call ≡ toldStores 0 (simulatedRounds sim) (simulatedStores sim (call .number))
   unfolding toldOf
   toldOf-done e = cond-true _ _ e
 
@@ -65,7 +68,8 @@ module _ (sim : Simulator) (call : CallLengths) where
   simulatorAfter-refused e = cond-false _ _ e
 
 pub told-ext :
-    {told other : Told} → told .answer ≡ other .answer → told .rounds ≡ other .rounds → told .stores ≡ other .stores →
+    {told other : Told} → told .answer ≡ other .answer → told .rounds ≡ other .rounds →
+    told .stores ≡ other .stores →
     told .entries ≡ other .entries → told ≡ other
 told-ext p q r s = λ i. record { answer = p i; rounds = q i; stores = r i; entries = s i }
 

@@ -1,16 +1,14 @@
--- Which addresses are shown: header, map and bitmap before the root, and block A of every slot; and disks and traces side
--- by side under that. Assumes nothing.
-use mathlib.Core.Path.{_≡_, refl, sym, ap, _∙_}
-use mathlib.Core.Logic.{_≢_}
-use mathlib.Core.Bool.{Bool, true, false, cond, _||_}
-use mathlib.Core.List.{List, [], _∷_, _++_}
-use Prim.Native.Nat.{ℕ, zero, suc, _+_, _*_, _≤_, _<_}
+-- Which addresses are shown: header, map and bitmap before the root, and block A of every slot; and disks and
+-- traces side by side under that. Assumes nothing.
+use mathlib.Core.Path.{_≡_, sym, _∙_}
+use mathlib.Core.Bool.{true, false}
+use mathlib.Core.List.{[], _∷_}
+use Prim.Native.Nat.{ℕ, _+_, _≤_, _<_}
 use native.Mathlib.Omega.{arith}
 use lib.Dec.{ltb}
-use lib.ListN.{length}
 use borrow.Author.Tests.{lt-ltb, le-ltb}
 use Rattle.laws.proofs.Cases.{or-left, or-right, or-neither, cond-true, cond-false}
-use Rattle.model.specs.Geometry.{Geometry, rootAddress, areaStart, blockCount}
+use Rattle.model.specs.Geometry.{Geometry, rootAddress, blockCount}
 use Rattle.model.specs.Blocks.{Bytes, DiskAddress, blockAt}
 use Rattle.model.specs.Layout.{slotStart, isSlotBlock}
 use Rattle.model.specs.Stores.{Store, Trace, addresses}
@@ -22,12 +20,14 @@ use Rattle.model.proofs.Views.Agreement.{Agree, Beside, Along, none, mo
 
 -- ---- addresses ----
 
-pub isShown-below : (g : Geometry) (address : DiskAddress) → address < rootAddress g → isShown g address ≡ true
+pub isShown-below :
+    (g : Geometry) (address : DiskAddress) → address < rootAddress g → isShown g address ≡ true
 unfolding isShown
 isShown-below g address h = or-left (isSlotBlock g 0 address) (lt-ltb address (rootAddress g) h)
 
 -- block A of a slot
-pub isShown-slotBlock : (g : Geometry) (address : DiskAddress) → isSlotBlock g 0 address ≡ true → isShown g address ≡ true
+pub isShown-slotBlock :
+    (g : Geometry) (address : DiskAddress) → isSlotBlock g 0 address ≡ true → isShown g address ≡ true
 unfolding isShown
 isShown-slotBlock g address e = or-right (ltb address (rootAddress g)) e
 
@@ -35,12 +35,15 @@ pub isShown-slotStart : (g : Geometry) (slot : ℕ) → slot < g .slots → isSh
 isShown-slotStart g slot h = isShown-slotBlock g (slotStart g slot) (isSlotBlock-slotStart g slot h)
 
 isShown-neither :
-    (g : Geometry) (address : DiskAddress) → rootAddress g ≤ address → isSlotBlock g 0 address ≡ false → isShown g address ≡ false
+    (g : Geometry) (address : DiskAddress) → rootAddress g ≤ address → isSlotBlock g 0 address ≡ false →
+    isShown g address ≡ false
 unfolding isShown
 isShown-neither g address h e = or-neither (le-ltb address (rootAddress g) h) e
 
 -- A + 1 to A + k
-pub isShown-slot-block : (g : Geometry) (slot place : ℕ) → 1 ≤ place → place ≤ g .height → isShown g (slotStart g slot + place) ≡ false
+pub isShown-slot-block :
+    (g : Geometry) (slot place : ℕ) → 1 ≤ place → place ≤ g .height →
+    isShown g (slotStart g slot + place) ≡ false
 isShown-slot-block g slot place low high =
     isShown-neither g (slotStart g slot + place) (omega arith) (isSlotBlock-other g slot place high 0 (λ e. omega arith))
 
@@ -52,11 +55,15 @@ isShown-past g address h = isShown-neither g address (omega arith) (isSlotBlock-
 
 -- ---- what is shown ----
 
-pub shownOf-shown : (g : Geometry) (address : DiskAddress) (block : Bytes) → isShown g address ≡ true → shownOf g address block ≡ block
+pub shownOf-shown :
+    (g : Geometry) (address : DiskAddress) (block : Bytes) → isShown g address ≡ true →
+    shownOf g address block ≡ block
 unfolding shownOf
 shownOf-shown g address block e = cond-true block [] e
 
-pub shownOf-hidden : (g : Geometry) (address : DiskAddress) (block : Bytes) → isShown g address ≡ false → shownOf g address block ≡ []
+pub shownOf-hidden :
+    (g : Geometry) (address : DiskAddress) (block : Bytes) → isShown g address ≡ false →
+    shownOf g address block ≡ []
 unfolding shownOf
 shownOf-hidden g address block e = cond-false block [] e
 
@@ -74,7 +81,8 @@ TraceSame g xs ys = Along (shownOf g) (g .blockSize) (blockCount g) xs ys
 
 -- a shown block is the same on both
 pub blockAt-alike :
-    (g : Geometry) (disk other : Bytes) → ShowSame g disk other → (address : DiskAddress) → isShown g address ≡ true →
+    (g : Geometry) (disk other : Bytes) → ShowSame g disk other → (address : DiskAddress) →
+    isShown g address ≡ true →
     blockAt (g .blockSize) disk address ≡ blockAt (g .blockSize) other address
 blockAt-alike g disk other a address e =
     sym (shownOf-shown g address (blockAt (g .blockSize) disk address) e) ∙ a .same-shown address
@@ -86,7 +94,8 @@ Hidden g address = (address < blockCount g) × (isShown g address ≡ false)
 
 -- whole blocks to addresses that are not shown are side by side, whatever they hold
 pub along-hidden :
-    (g : Geometry) (xs ys : Trace) → addresses xs ≡ addresses ys → All (Hidden g) (addresses xs) → All (WholeStore g) xs →
+    (g : Geometry) (xs ys : Trace) → addresses xs ≡ addresses ys → All (Hidden g) (addresses xs) →
+    All (WholeStore g) xs →
     All (WholeStore g) ys → TraceSame g xs ys
 unfolding addresses
 along-hidden g [] [] e h p q = none

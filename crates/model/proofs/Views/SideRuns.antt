@@ -1,25 +1,22 @@
--- A run of rounds side by side on two disks that show the same: whatever hidden writes and random bytes each has, the two
--- traces are side by side. Assumes nothing.
-use mathlib.Core.Path.{_≡_, refl, sym, ap, _∙_, subst}
-use mathlib.Core.Logic.{_≢_, _⊎_, inl, inr}
-use mathlib.Core.Bool.{Bool, true, false, cond}
-use mathlib.Core.List.{List, [], _∷_, _++_}
-use Prim.Native.Nat.{ℕ, zero, suc, _+_, _*_, _≤_, _<_}
+-- A run of rounds side by side on two disks that show the same: whatever hidden writes and random bytes each
+-- has, the two traces are side by side. Assumes nothing.
+use mathlib.Core.Path.{_≡_, sym, _∙_}
+use mathlib.Core.Logic.{_⊎_, inl, inr}
+use mathlib.Core.Bool.{true, false}
+use Prim.Native.Nat.{ℕ, zero, suc, _*_, _≤_, _<_}
 use native.Mathlib.Omega.{arith}
 use lib.ListN.{length, drop, length-drop}
 use Rattle.laws.proofs.Cases.{bool-cases, cond-true, cond-false}
 use Rattle.model.specs.Geometry.{Geometry, Fits, blockCount}
 use Rattle.model.specs.Blocks.{Bytes}
 use Rattle.model.specs.Layout.{nextSlot, mapEntry, isAllocated}
-use Rattle.model.specs.Stores.{Trace}
 use Rattle.model.specs.Table.{PublicChoice, keepPublic, writePublic}
-use Rattle.model.specs.HiddenHalf.{HiddenState, HiddenHalf, hiddenHalf, rowOf}
-use Rattle.model.specs.Rounds.{Run, roundTrace, runFrom, followedBy, stopped, goesOn}
-use Rattle.model.specs.Refusals.{oneMore, roundsTo}
+use Rattle.model.specs.HiddenHalf.{HiddenState, hiddenHalf, rowOf}
+use Rattle.model.specs.Rounds.{roundTrace, runFrom, followedBy, stopped}
+use Rattle.model.specs.Refusals.{roundsTo}
 use Rattle.model.specs.View.{shownOf}
 use Rattle.model.proofs.Laws.Slots.{nextSlot-lt}
 use Rattle.model.proofs.Laws.Stores.{All}
-use Rattle.model.proofs.Laws.Paths.{Hides}
 use Rattle.model.proofs.Laws.HiddenHalf.{rowOf-public, WholeWrite, HidesHalf, hiddenHalf-hides}
 use Rattle.model.proofs.Laws.PublicHalf.{OldPlace}
 use Rattle.model.proofs.Laws.RoundStores.{afterRound}
@@ -64,7 +61,8 @@ pub record Supplied (g : Geometry) (earlier : ℕ) (random : Bytes) (state : Hid
   pub whole-writes : All (WholeWrite g) (state .waiting)
 
 supplied-later :
-    (g : Geometry) (earlier : ℕ) (random : Bytes) (state : HiddenState) → suc (suc earlier) * (g .height * g .blockSize) ≤ length random →
+    (g : Geometry) (earlier : ℕ) (random : Bytes) (state : HiddenState) →
+    suc (suc earlier) * (g .height * g .blockSize) ≤ length random →
     All (WholeWrite g) (state .waiting) → Supplied g earlier (drop (g .height * g .blockSize) random) state
 supplied-later g earlier random state enough writes =
     record { enough = simp length-drop (omega arith); whole-writes = writes }
@@ -76,7 +74,8 @@ module _ (g : Geometry) (f : Fits g) (number : ℕ) (content : Bytes) (known : n
   RunsAlike most =
       (disk other : Bytes) (slot : ℕ) (random others : Bytes) (state stateOther : HiddenState) (earlier : ℕ) →
       ShowSame g disk other → slot < g .slots → OldPlace g (mapEntry g disk number) →
-      roundsTo most (isAllocated g disk) g slot ≡ suc earlier → Supplied g earlier random state → Supplied g earlier others stateOther →
+      roundsTo most (isAllocated g disk) g slot ≡ suc earlier → Supplied g earlier random state →
+      Supplied g earlier others stateOther →
       TraceSame g (runFrom most g number content slot random disk state .trace)
       (runFrom most g number content slot others other stateOther .trace)
 
@@ -119,7 +118,9 @@ module _ (g : Geometry) (f : Fits g) (number : ℕ) (content : Bytes) (known : n
           entry : mapEntry g after number ≡ mapEntry g disk number
           entry = mapEntry-kept g f disk (same .whole) number known slot inside content sized old _ (here .hides) number known
 
-          marks : roundsTo most (isAllocated g after) g (nextSlot g slot) ≡ roundsTo most (isAllocated g disk) g (nextSlot g slot)
+          marks :
+              roundsTo most (isAllocated g after) g (nextSlot g slot) ≡
+              roundsTo most (isAllocated g disk) g (nextSlot g slot)
           marks =
               roundsTo-ext most (isAllocated g after) (isAllocated g disk) g f (nextSlot g slot) (nextSlot-lt g slot f)
               (isAllocated-kept g f disk (same .whole) number known slot inside content sized old _ (here .hides))

@@ -1,22 +1,23 @@
--- One write side by side on two drives that show the same: with the same public part they are refused alike, and the two
--- drives that they leave show the same, whatever is offered and whatever the random bytes are. Assumes nothing.
-use mathlib.Core.Path.{_≡_, refl, sym, ap, ap₂, _∙_, subst}
+-- One write side by side on two drives that show the same: with the same public part they are refused alike,
+-- and the two drives that they leave show the same, whatever is offered and whatever the random bytes are.
+-- Assumes nothing.
+use mathlib.Core.Path.{_≡_, sym, ap, ap₂, _∙_, subst}
 use mathlib.Core.Logic.{_≢_, ⊎-elim}
 use mathlib.Core.Option.{Option}
 use mathlib.Core.List.{List}
-use Prim.Native.Nat.{ℕ, suc, _*_, _-_, _≤_, _<_}
+use Prim.Native.Nat.{ℕ, suc, _*_, _-_, _≤_}
 use native.Mathlib.Nat.{mul-assoc}
 use native.Mathlib.Omega.{arith}
 use lib.ListN.{length}
 use Rattle.laws.proofs.Cases.{eq-cases}
-use Rattle.model.specs.Geometry.{Geometry, Fits, blockCount}
+use Rattle.model.specs.Geometry.{Geometry, blockCount}
 use Rattle.model.specs.Blocks.{Bytes, DiskAddress}
-use Rattle.model.specs.Layout.{Drive, geometryIn, headIn}
-use Rattle.model.specs.Stores.{Trace, apply}
+use Rattle.model.specs.Layout.{geometryIn, headIn}
+use Rattle.model.specs.Stores.{apply}
 use Rattle.model.specs.HiddenHalf.{HiddenWrite}
 use Rattle.model.specs.Rounds.{Run, runFrom}
-use Rattle.model.specs.Refusals.{driveRefusal, roundCount, writeRefusal}
-use Rattle.model.specs.Calls.{offeredWrites, startState, writeRun, Written, refusedWrite, doneWrite, written, writtenDisk}
+use Rattle.model.specs.Refusals.{roundCount, writeRefusal}
+use Rattle.model.specs.Calls.{offeredWrites, startState, writeRun, written, writtenDisk}
 use Rattle.model.specs.View.{shownOf}
 use Rattle.model.specs.Simulator.{Simulator, simulatedAnswer}
 use Rattle.model.proofs.Laws.Stores.{apply-nil}
@@ -34,7 +35,9 @@ use Rattle.model.proofs.Views.Follows.{written-done, written-refused, w
 
 module _ (disk other : Bytes) (twins : Twins disk other) (number : ℕ) (content random others : Bytes)
     (same-random : length random ≡ length others) (room : ℕ) where
-  writeRefusal-twins : writeRefusal disk number content (length random) room ≡ writeRefusal other number content (length others) room
+  writeRefusal-twins :
+      writeRefusal disk number content (length random) room ≡
+      writeRefusal other number content (length others) room
   writeRefusal-twins =
       sym (simulatedAnswer-write disk (twins .accepted) number content (length random) room)
       ∙ ap₂ (λ (sim : Simulator) (n : ℕ). simulatedAnswer sim (writeLengths number (length content) n room))
@@ -65,7 +68,8 @@ module _ (disk other : Bytes) (twins : Twins disk other) (number : ℕ) (content
     rounds = omega (arith, allowed .some-rounds)
 
     supplied :
-        (bytes : Bytes) → roundCount g disk * g .height * g .blockSize ≤ length bytes → (offered : Option HiddenWrite) →
+        (bytes : Bytes) → roundCount g disk * g .height * g .blockSize ≤ length bytes →
+        (offered : Option HiddenWrite) →
         Supplied g (roundCount g disk - 1) bytes (startState (offeredWrites g offered))
     supplied bytes enough offered =
         record {
@@ -75,7 +79,8 @@ module _ (disk other : Bytes) (twins : Twins disk other) (number : ℕ) (content
 
     -- the other run, over the first drive's geometry and from its head
     runOther-is :
-        runFrom (g .slots) g number content (headIn disk) others other (startState (offeredWrites g offerOther)) ≡ runOther
+        runFrom (g .slots) g number content (headIn disk) others other (startState (offeredWrites g offerOther)) ≡
+        runOther
     unfolding writeRun
     runOther-is =
         ap₂ (λ (h : Geometry) (head : ℕ). runFrom (h .slots) h number content head others other (startState (offeredWrites h offerOther)))
@@ -126,7 +131,9 @@ module _ (disk other : Bytes) (twins : Twins disk other) (number : ℕ) (content
           writeRefusal-twins disk other twins number content random others same-random (length list)
           ∙ ap (writeRefusal other number content (length others)) same-room
 
-      done : writeRefusal disk number content (length random) (length list) ≡ 0 → ShowSame (geometryIn disk) after afterOther
+      done :
+          writeRefusal disk number content (length random) (length list) ≡ 0 →
+          ShowSame (geometryIn disk) after afterOther
       done e =
           rw (
             written-done disk number content random (length list) offer e,
@@ -134,7 +141,9 @@ module _ (disk other : Bytes) (twins : Twins disk other) (number : ℕ) (content
           )
           (final-alike disk other twins number content random others same-random (length list) offer offerOther e)
 
-      refused : writeRefusal disk number content (length random) (length list) ≢ 0 → ShowSame (geometryIn disk) after afterOther
+      refused :
+          writeRefusal disk number content (length random) (length list) ≢ 0 →
+          ShowSame (geometryIn disk) after afterOther
       refused ne =
           rw (
             written-refused disk number content random (length list) offer ne,

@@ -1,28 +1,25 @@
--- One round side by side on two disks that show the same: whatever the two hidden halves store, the two traces are side
--- by side, so that the disks show the same afterwards. Assumes nothing.
-use mathlib.Core.Path.{_≡_, refl, sym, ap, _∙_, subst}
-use mathlib.Core.Logic.{_≢_, _⊎_, inl, inr}
+-- One round side by side on two disks that show the same: whatever the two hidden halves store, the two
+-- traces are side by side, so that the disks show the same afterwards. Assumes nothing.
+use mathlib.Core.Path.{_≡_, refl, sym, ap, _∙_}
+use mathlib.Core.Logic.{inl, inr}
 use mathlib.Core.Bool.{Bool, true, false, cond}
-use mathlib.Core.List.{List, [], _∷_, _++_}
-use Prim.Native.Nat.{ℕ, zero, suc, _+_, _*_, _%_, _≤_, _<_}
+use mathlib.Core.List.{[], _∷_}
+use Prim.Native.Nat.{ℕ, _+_, _*_, _%_, _≤_, _<_}
 use native.Mathlib.Omega.{arith}
 use lib.Dec.{eqb}
 use lib.ListN.{length}
 use borrow.Author.Tests.{eq-eqb}
-use Rattle.laws.proofs.Cases.{bool-cases}
 use Rattle.model.specs.Geometry.{Geometry, Fits, fanout, rootAddress, blockCount}
 use Rattle.model.specs.Blocks.{Bytes, DiskAddress, blockAt, entryAt, setEntry}
-use Rattle.model.specs.Layout.{slotStart, slotOf, nextSlot, mapAddress, mapEntry, bitAddress, bitPlace, isAllocated, bitmapWith}
-use Rattle.model.specs.Stores.{Store, Trace, store, apply, addresses}
+use Rattle.model.specs.Layout.{slotStart, slotOf, nextSlot, mapAddress, mapEntry, bitAddress, isAllocated, bitmapWith}
+use Rattle.model.specs.Stores.{Trace, store, apply, addresses}
 use Rattle.model.specs.Table.{PublicChoice, keepPublic, writePublic}
-use Rattle.model.specs.Simulator.{addressesFrom}
-use Rattle.model.specs.View.{isShown, shownOf}
+use Rattle.model.specs.View.{shownOf}
 use Rattle.model.specs.Rounds.{publicStore, mapStore, bitStore, bitStores, headerStore, mapStores, roundTrace}
 use Rattle.model.proofs.Laws.Geometry.{mapAddress-lt, bitAddress-lt, slot-block-lt, rootAddress-lt}
 use Rattle.model.proofs.Laws.Entries.{length-setEntry, entryAt-header}
 use Rattle.model.proofs.Laws.PublicMap.{mapEntry-block, length-mapBlockWith}
-use Rattle.model.proofs.Laws.Bitmap.{isAllocated-block, bitmapWith-is, length-bitmapWith}
-use Rattle.model.proofs.Laws.Stores.{All, all-append}
+use Rattle.model.proofs.Laws.Bitmap.{isAllocated-block, length-bitmapWith}
 use Rattle.model.proofs.Laws.Paths.{Hides, blockAt-whole}
 use Rattle.model.proofs.Laws.PublicHalf.{all-map, OldPlace}
 use Rattle.model.proofs.Laws.RoundStores.{HiddenAddress, hides-addresses}
@@ -32,7 +29,8 @@ use Rattle.model.proofs.Views.Shown.{isShown-below, isShown-slotStart, 
 -- ---- the hidden halves ----
 
 pub hides-alike :
-    (g : Geometry) (slot : ℕ) → slot < g .slots → (xs ys : Trace) → Hides g slot xs → Hides g slot ys → TraceSame g xs ys
+    (g : Geometry) (slot : ℕ) → slot < g .slots → (xs ys : Trace) → Hides g slot xs → Hides g slot ys →
+    TraceSame g xs ys
 hides-alike g slot h xs ys p q =
     along-hidden g xs ys (p .runs ∙ sym (q .runs))
     (all-map (HiddenAddress g slot) (Hidden g) (addresses xs) hidden (hides-addresses g slot xs p)) (p .whole) (q .whole)
@@ -46,7 +44,8 @@ hides-alike g slot h xs ys p q =
 
 -- one content stored at one address
 store-alike :
-    (g : Geometry) (address : DiskAddress) (content other : Bytes) → address < blockCount g → length content ≡ g .blockSize →
+    (g : Geometry) (address : DiskAddress) (content other : Bytes) → address < blockCount g →
+    length content ≡ g .blockSize →
     content ≡ other → StoreSame g (store address content) (store address other)
 store-alike g address content other h sized e =
     record {
@@ -58,7 +57,9 @@ store-alike g address content other h sized e =
     }
 
 module _ (g : Geometry) (f : Fits g) (disk other : Bytes) (same : ShowSame g disk other) where
-  below-alike : (address : DiskAddress) → address < rootAddress g → blockAt (g .blockSize) disk address ≡ blockAt (g .blockSize) other address
+  below-alike :
+      (address : DiskAddress) → address < rootAddress g →
+      blockAt (g .blockSize) disk address ≡ blockAt (g .blockSize) other address
   below-alike address h = blockAt-alike g disk other same address (isShown-below g address h)
 
   pub entryAt-alike : (index : ℕ) → index < 6 → entryAt index disk ≡ entryAt index other
@@ -74,7 +75,9 @@ module _ (g : Geometry) (f : Fits g) (disk other : Bytes) (same : ShowSame g dis
   pub isAllocated-alike : (slot : ℕ) → slot < g .slots → isAllocated g disk slot ≡ isAllocated g other slot
   isAllocated-alike slot h = isAllocated-block g disk other slot (below-alike (bitAddress g slot) (bitAddress-lt g f slot h))
 
-  bitStore-alike : (slot : ℕ) (isSet : Bool) → slot < g .slots → StoreSame g (bitStore g disk slot isSet) (bitStore g other slot isSet)
+  bitStore-alike :
+      (slot : ℕ) (isSet : Bool) → slot < g .slots →
+      StoreSame g (bitStore g disk slot isSet) (bitStore g other slot isSet)
   unfolding bitmapWith
   bitStore-alike slot isSet h =
       let l = bitAddress-lt g f slot h in
@@ -88,7 +91,9 @@ module _ (g : Geometry) (f : Fits g) (disk other : Bytes) (same : ShowSame g dis
       (length-setEntry 5 (nextSlot g slot) (blockAt (g .blockSize) disk 0) (omega (arith, f .size-low)) ∙ sized)
       (ap (setEntry 5 (nextSlot g slot)) (below-alike 0 (omega arith)))
 
-  mapStore-alike : (number slot : ℕ) → number < g .publics → StoreSame g (mapStore g disk number slot) (mapStore g other number slot)
+  mapStore-alike :
+      (number slot : ℕ) → number < g .publics →
+      StoreSame g (mapStore g disk number slot) (mapStore g other number slot)
   mapStore-alike number slot h =
       let l = mapAddress-lt g f number h in
       store-alike g (mapAddress g number) _ _ (omega arith) (length-mapBlockWith g f disk (same .whole) number h (slotStart g slot))
@@ -111,7 +116,8 @@ module _ (g : Geometry) (f : Fits g) (disk other : Bytes) (same : ShowSame g dis
 module _ (g : Geometry) (f : Fits g) (disk other : Bytes) (same : ShowSame g disk other) (number slot : ℕ) (content : Bytes)
     (known : number < g .publics) (inside : slot < g .slots) (sized : length content ≡ g .blockSize) where
   bitStores-alike :
-      (entry : DiskAddress) → OldPlace g entry → TraceSame g (bitStores g disk entry slot) (bitStores g other entry slot)
+      (entry : DiskAddress) → OldPlace g entry →
+      TraceSame g (bitStores g disk entry slot) (bitStores g other entry slot)
   unfolding bitStores
   bitStores-alike entry old = more new (by old)
     where

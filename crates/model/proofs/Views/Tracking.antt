@@ -1,21 +1,16 @@
--- The simulator of an accepted drive: its entries, marks and rounds are the disk's, and so are its answers. Assumes nothing.
-use mathlib.Core.Path.{_≡_, refl, sym, ap, ap₂, _∙_}
-use mathlib.Core.Logic.{_≢_, _⊎_, inl, inr, ⊎-elim}
-use mathlib.Core.Bool.{Bool, true, false, not, cond, _&&_, _||_}
-use mathlib.Core.List.{List, [], _∷_, _++_}
-use Prim.Native.Nat.{ℕ, zero, suc, _+_, _*_, _-_, _/_, _%_, _≤_, _<_}
-use native.Mathlib.Nat.{mod-lt, mod-add-mod, mod-eq-of-lt}
+-- The simulator of an accepted drive: its entries, marks and rounds are the disk's, and so are its answers.
+-- Assumes nothing.
+use mathlib.Core.Path.{_≡_, refl, ap, ap₂, _∙_}
+use mathlib.Core.Bool.{Bool, false}
+use mathlib.Core.List.{List, _∷_}
+use Prim.Native.Nat.{ℕ, zero, suc, _+_, _≤_, _<_}
 use native.Mathlib.Omega.{arith}
-use lib.Dec.{ltb, leb, eqb}
-use lib.ListN.{length, getD, length-append}
-use Rattle.laws.proofs.Cases.{bool-cases}
-use Rattle.model.specs.Geometry.{Geometry, Fits, rootAddress}
-use Rattle.model.specs.Blocks.{Bytes, DiskAddress}
-use Rattle.model.specs.Layout.{Drive, geometryIn, headIn, slotStart, slotOf, nextSlot, mapEntry, isAllocated}
-use Rattle.model.specs.Refusals.{oneMore, roundsTo, roundCount, storeCount}
+use lib.ListN.{length, getD}
+use Rattle.model.specs.Geometry.{Geometry}
+use Rattle.model.specs.Blocks.{Bytes}
+use Rattle.model.specs.Layout.{Drive, geometryIn, headIn, mapEntry, isAllocated}
 use Rattle.model.specs.View.{viewOf}
-use Rattle.model.specs.Simulator.{Simulator, entriesFrom, allocatedFrom, simulatorOf, entryFor, isTaken, leastFrom, slotOfRound, simulatedRounds, addressesFrom, slotAddresses, keptRounds, lastRound, simulatedStores}
-use Rattle.model.proofs.Laws.Slots.{nextSlot-lt}
+use Rattle.model.specs.Simulator.{Simulator, entriesFrom, allocatedFrom, simulatorOf}
 use Rattle.model.proofs.Views.View.{entryAt-viewOf, mapEntry-viewOf, isAllocated-viewOf, geometryIn-viewOf}
 
 -- ---- entries and marks ----
@@ -31,7 +26,9 @@ module _ (g : Geometry) (disk : Bytes) where
   length-allocatedFrom slot zero = refl
   length-allocatedFrom slot (suc count) = ap suc (length-allocatedFrom (suc slot) count)
 
-  getD-entriesFrom : (number count index : ℕ) → index < count → getD (entriesFrom g disk number count) index 0 ≡ mapEntry g disk (number + index)
+  getD-entriesFrom :
+      (number count index : ℕ) → index < count →
+      getD (entriesFrom g disk number count) index 0 ≡ mapEntry g disk (number + index)
   unfolding entriesFrom
   getD-entriesFrom number zero index h = absurd (omega arith)
   getD-entriesFrom number (suc count) zero h = let e : number + 0 ≡ number = omega arith in rw e
@@ -39,7 +36,9 @@ module _ (g : Geometry) (disk : Bytes) where
       let e : suc number + index ≡ number + suc index = omega arith in
       getD-entriesFrom (suc number) count index (omega arith) ∙ ap (mapEntry g disk) e
 
-  getD-allocatedFrom : (slot count index : ℕ) → index < count → getD (allocatedFrom g disk slot count) index false ≡ isAllocated g disk (slot + index)
+  getD-allocatedFrom :
+      (slot count index : ℕ) → index < count →
+      getD (allocatedFrom g disk slot count) index false ≡ isAllocated g disk (slot + index)
   unfolding allocatedFrom
   getD-allocatedFrom slot zero index h = absurd (omega arith)
   getD-allocatedFrom slot (suc count) zero h = let e : slot + 0 ≡ slot = omega arith in rw e
@@ -47,28 +46,36 @@ module _ (g : Geometry) (disk : Bytes) where
       let e : suc slot + index ≡ slot + suc index = omega arith in
       getD-allocatedFrom (suc slot) count index (omega arith) ∙ ap (isAllocated g disk) e
 
-  pub getD-entries : (number : ℕ) → number < g .publics → getD (entriesFrom g disk 0 (g .publics)) number 0 ≡ mapEntry g disk number
+  pub getD-entries :
+      (number : ℕ) → number < g .publics →
+      getD (entriesFrom g disk 0 (g .publics)) number 0 ≡ mapEntry g disk number
   getD-entries number h =
       let e : 0 + number ≡ number = omega arith in
       getD-entriesFrom 0 (g .publics) number h ∙ ap (mapEntry g disk) e
 
-  pub getD-allocated : (slot : ℕ) → slot < g .slots → getD (allocatedFrom g disk 0 (g .slots)) slot false ≡ isAllocated g disk slot
+  pub getD-allocated :
+      (slot : ℕ) → slot < g .slots →
+      getD (allocatedFrom g disk 0 (g .slots)) slot false ≡ isAllocated g disk slot
   getD-allocated slot h =
       let e : 0 + slot ≡ slot = omega arith in
       getD-allocatedFrom 0 (g .slots) slot h ∙ ap (isAllocated g disk) e
 
 -- the same, read from two runs of bytes
 entriesFrom-ext :
-    (g : Geometry) (disk other : Bytes) → ((number : ℕ) → number < g .publics → mapEntry g disk number ≡ mapEntry g other number) →
-    (number count : ℕ) → number + count ≤ g .publics → entriesFrom g disk number count ≡ entriesFrom g other number count
+    (g : Geometry) (disk other : Bytes) →
+    ((number : ℕ) → number < g .publics → mapEntry g disk number ≡ mapEntry g other number) →
+    (number count : ℕ) → number + count ≤ g .publics →
+    entriesFrom g disk number count ≡ entriesFrom g other number count
 unfolding entriesFrom
 entriesFrom-ext g disk other e number zero h = refl
 entriesFrom-ext g disk other e number (suc count) h =
     ap₂ {C = List ℕ} (λ (x : ℕ) (xs : List ℕ). x ∷ xs) (e number (omega arith)) (entriesFrom-ext g disk other e (suc number) count (omega arith))
 
 allocatedFrom-ext :
-    (g : Geometry) (disk other : Bytes) → ((slot : ℕ) → slot < g .slots → isAllocated g disk slot ≡ isAllocated g other slot) →
-    (slot count : ℕ) → slot + count ≤ g .slots → allocatedFrom g disk slot count ≡ allocatedFrom g other slot count
+    (g : Geometry) (disk other : Bytes) →
+    ((slot : ℕ) → slot < g .slots → isAllocated g disk slot ≡ isAllocated g other slot) →
+    (slot count : ℕ) → slot + count ≤ g .slots →
+    allocatedFrom g disk slot count ≡ allocatedFrom g other slot count
 unfolding allocatedFrom
 allocatedFrom-ext g disk other e slot zero h = refl
 allocatedFrom-ext g disk other e slot (suc count) h =
@@ -90,11 +97,14 @@ tracked g head disk =
 abbrev pub trackerOf : (disk : Bytes) → Simulator
 trackerOf disk = tracked (geometryIn disk) (headIn disk) disk
 
-pub simulator-ext : {sim other : Simulator} → sim .geometry ≡ other .geometry → sim .head ≡ other .head → sim .entries ≡ other .entries → sim .allocated ≡ other .allocated → sim ≡ other
+pub simulator-ext :
+    {sim other : Simulator} → sim .geometry ≡ other .geometry → sim .head ≡ other .head →
+    sim .entries ≡ other .entries → sim .allocated ≡ other .allocated → sim ≡ other
 simulator-ext {sim} {other} p q r s = λ i. record { geometry = p i; head = q i; entries = r i; allocated = s i }
 
 -- the view tells as much as the disk
-pub simulatorOf-viewOf : (disk : Bytes) → Drive (geometryIn disk) disk → simulatorOf (viewOf disk) ≡ trackerOf disk
+pub simulatorOf-viewOf :
+    (disk : Bytes) → Drive (geometryIn disk) disk → simulatorOf (viewOf disk) ≡ trackerOf disk
 unfolding simulatorOf
 simulatorOf-viewOf disk drive =
     let g = geometryIn disk in

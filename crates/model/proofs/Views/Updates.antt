@@ -1,6 +1,6 @@
--- What the simulator keeps after a write: one entry and two marks set are those of the disk that the write leaves.
--- Assumes nothing.
-use mathlib.Core.Path.{_≡_, refl, sym, ap, _∙_}
+-- What the simulator keeps after a write: one entry and two marks set are those of the disk that the write
+-- leaves. Assumes nothing.
+use mathlib.Core.Path.{_≡_, sym, _∙_}
 use mathlib.Core.Logic.{_≢_, _⊎_, inl, inr}
 use mathlib.Core.Bool.{Bool, true, false, cond}
 use mathlib.Core.List.{List}
@@ -18,13 +18,17 @@ use Rattle.model.proofs.Views.Tracking.{length-entriesFrom, length-allo
 
 -- a list that differs from another at one index
 set-of-getD :
-    {A : Type 0} (default : A) (xs ys : List A) (index : ℕ) (x : A) → length xs ≡ length ys → index < length ys →
-    getD xs index default ≡ x → ((i : ℕ) → i < length ys → i ≢ index → getD xs i default ≡ getD ys i default) →
+    {A : Type 0} (default : A) (xs ys : List A) (index : ℕ) (x : A) → length xs ≡ length ys →
+    index < length ys →
+    getD xs index default ≡ x →
+    ((i : ℕ) → i < length ys → i ≢ index → getD xs i default ≡ getD ys i default) →
     xs ≡ set ys index x
 set-of-getD default xs ys index x e h here others =
     ext-getD default xs (set ys index x) (e ∙ sym (length-set ys index x)) (λ i l. at i (rw e at l) (eq-cases i index))
   where
-    at : (i : ℕ) → i < length ys → (i ≡ index) ⊎ (i ≢ index) → getD xs i default ≡ getD (set ys index x) i default
+    at :
+        (i : ℕ) → i < length ys → (i ≡ index) ⊎ (i ≢ index) →
+        getD xs i default ≡ getD (set ys index x) i default
     at i l (inl q) = rw (q, here, getD-set-same ys index x default h)
     at i l (inr ne) = others i l ne ∙ sym (getD-set-other ys index i x default ne)
 
@@ -41,7 +45,8 @@ module _ (g : Geometry) (disk after : Bytes) where
 
   -- the marks with one slot's mark set
   allocatedFrom-set :
-      (marks : List Bool) (slot : ℕ) (isSet : Bool) → length marks ≡ g .slots → slot < g .slots → isAllocated g after slot ≡ isSet →
+      (marks : List Bool) (slot : ℕ) (isSet : Bool) → length marks ≡ g .slots → slot < g .slots →
+      isAllocated g after slot ≡ isSet →
       ((other : ℕ) → other < g .slots → other ≢ slot → isAllocated g after other ≡ getD marks other false) →
       allocatedFrom g after 0 (g .slots) ≡ set marks slot isSet
   allocatedFrom-set marks slot isSet sized h here others =
@@ -64,7 +69,8 @@ module _ (g : Geometry) (disk after : Bytes) where
       sized = length-allocatedFrom g disk 0 (g .slots)
 
       by : (entry ≡ 0) ⊎ (entry ≢ 0) →
-          allocatedFrom g after 0 (g .slots) ≡ set (cond (eqb entry 0) marks (set marks (slotOf g entry) false)) last true
+          allocatedFrom g after 0 (g .slots) ≡
+          set (cond (eqb entry 0) marks (set marks (slotOf g entry) false)) last true
       by (inl e) =
           rw (eq-eqb entry 0 e)
           (allocatedFrom-set marks last true sized h new
@@ -74,7 +80,8 @@ module _ (g : Geometry) (disk after : Bytes) where
           (allocatedFrom-set (set marks (slotOf g entry) false) last true (length-set marks (slotOf g entry) false ∙ sized) h new
           (λ slot l ne. at slot l ne (eq-cases slot (slotOf g entry))))
         where
-          at : (slot : ℕ) → slot < g .slots → slot ≢ last → (slot ≡ slotOf g entry) ⊎ (slot ≢ slotOf g entry) →
+          at :
+              (slot : ℕ) → slot < g .slots → slot ≢ last → (slot ≡ slotOf g entry) ⊎ (slot ≢ slotOf g entry) →
               isAllocated g after slot ≡ getD (set marks (slotOf g entry) false) slot false
           at slot l ne (inl e) =
               rw (e, getD-set-same marks (slotOf g entry) false false (rw sized (old-inside z))) (old z)

@@ -1,25 +1,24 @@
--- The view of a drive: its front is the disk's, so header, map and bitmap read the same from it; and two views are equal
--- exactly if the two disks show the same at every address. Assumes nothing.
-use mathlib.Core.Path.{_≡_, refl, sym, ap, ap₂, _∙_, subst}
-use mathlib.Core.Logic.{_≢_, _⊎_, inl, inr, ⊎-elim}
-use mathlib.Core.Bool.{Bool, true, false}
-use mathlib.Core.List.{List, [], _∷_, _++_}
+-- The view of a drive: its front is the disk's, so header, map and bitmap read the same from it; and two
+-- views are equal exactly if the two disks show the same at every address. Assumes nothing.
+use mathlib.Core.Path.{_≡_, refl, sym, ap, ap₂, _∙_}
+use mathlib.Core.Logic.{_⊎_, inl, inr, ⊎-elim}
+use mathlib.Core.Bool.{true, false}
+use mathlib.Core.List.{List, _++_}
 use Prim.Native.Nat.{ℕ, zero, suc, _+_, _*_, _≤_, _<_}
 use native.Mathlib.Omega.{arith}
 use lib.ListN.{length, take, drop}
 use lib.Seq.{take-at, drop-at, drop-append-add}
 use Rattle.laws.specs.Lists.{part}
 use Rattle.laws.proofs.Cases.{bool-cases, lt-cases, eq-cases}
-use Rattle.model.specs.Geometry.{Geometry, Fits, rootAddress, blockCount}
+use Rattle.model.specs.Geometry.{Geometry, rootAddress, blockCount}
 use Rattle.model.specs.Blocks.{Bytes, DiskAddress, blockAt, entryAt}
-use Rattle.model.specs.Layout.{Drive, geometryIn, headIn, mapAddress, mapEntry, bitAddress, isAllocated}
-use Rattle.model.specs.View.{isShown, shownOf, viewFrom, viewOf, Alike}
+use Rattle.model.specs.Layout.{Drive, geometryIn, mapAddress, mapEntry, bitAddress, isAllocated}
+use Rattle.model.specs.View.{isShown, shownOf, viewFrom, viewOf}
 use Rattle.model.proofs.Laws.Geometry.{mapAddress-lt, bitAddress-lt}
 use Rattle.model.proofs.Laws.Blocks.{length-blockAt}
 use Rattle.model.proofs.Laws.Entries.{entryAt-header}
 use Rattle.model.proofs.Laws.PublicMap.{mapEntry-block}
 use Rattle.model.proofs.Laws.Bitmap.{isAllocated-block}
-use Rattle.model.proofs.Views.Agreement.{Agree}
 use Rattle.model.proofs.Views.Shown.{isShown-below, isShown-past, shownOf-shown, shownOf-hidden, ShowSame}
 
 -- two lists joined of parts of the same lengths
@@ -37,7 +36,8 @@ module _ (g : Geometry) where
   module _ (disk : Bytes) (whole : length disk ≡ blockCount g * g .blockSize) where
     pub blockAt-viewFrom :
         (count address index : ℕ) → index < count → address + index < rootAddress g →
-        blockAt (g .blockSize) (viewFrom g disk address count) index ≡ blockAt (g .blockSize) disk (address + index)
+        blockAt (g .blockSize) (viewFrom g disk address count) index ≡
+        blockAt (g .blockSize) disk (address + index)
     unfolding viewFrom blockAt part
     blockAt-viewFrom zero address index h l = absurd (omega arith)
     blockAt-viewFrom (suc count) address zero h l =
@@ -59,7 +59,8 @@ module _ (g : Geometry) where
   -- ---- equal views ----
 
   pub viewFrom-alike :
-      (disk other : Bytes) → ShowSame g disk other → (count address : ℕ) → viewFrom g disk address count ≡ viewFrom g other address count
+      (disk other : Bytes) → ShowSame g disk other → (count address : ℕ) →
+      viewFrom g disk address count ≡ viewFrom g other address count
   unfolding viewFrom
   viewFrom-alike disk other a zero address = refl
   viewFrom-alike disk other a (suc count) address =
@@ -68,11 +69,13 @@ module _ (g : Geometry) where
   module _ (disk other : Bytes) (whole : length disk ≡ blockCount g * g .blockSize) (other-whole : length other ≡ blockCount g * g .blockSize) where
     length-shown :
         (address : DiskAddress) → address < blockCount g →
-        length (shownOf g address (blockAt (g .blockSize) disk address)) ≡ length (shownOf g address (blockAt (g .blockSize) other address))
+        length (shownOf g address (blockAt (g .blockSize) disk address)) ≡
+        length (shownOf g address (blockAt (g .blockSize) other address))
     length-shown address h = by (bool-cases (isShown g address))
       where
         by : (isShown g address ≡ true) ⊎ (isShown g address ≡ false) →
-            length (shownOf g address (blockAt (g .blockSize) disk address)) ≡ length (shownOf g address (blockAt (g .blockSize) other address))
+            length (shownOf g address (blockAt (g .blockSize) disk address)) ≡
+            length (shownOf g address (blockAt (g .blockSize) other address))
         by (inl s) =
             rw (shownOf-shown g address (blockAt (g .blockSize) disk address) s, shownOf-shown g address (blockAt (g .blockSize) other address) s)
             (length-blockAt (g .blockSize) disk (blockCount g) whole address h
@@ -81,9 +84,11 @@ module _ (g : Geometry) where
             rw (shownOf-hidden g address (blockAt (g .blockSize) disk address) s, shownOf-hidden g address (blockAt (g .blockSize) other address) s)
 
     shown-of-viewFrom :
-        (count address index : ℕ) → address + count ≤ blockCount g → viewFrom g disk address count ≡ viewFrom g other address count →
+        (count address index : ℕ) → address + count ≤ blockCount g →
+        viewFrom g disk address count ≡ viewFrom g other address count →
         address ≤ index → index < address + count →
-        shownOf g index (blockAt (g .blockSize) disk index) ≡ shownOf g index (blockAt (g .blockSize) other index)
+        shownOf g index (blockAt (g .blockSize) disk index) ≡
+        shownOf g index (blockAt (g .blockSize) other index)
     unfolding viewFrom
     shown-of-viewFrom zero address index h e low high = absurd (omega arith)
     shown-of-viewFrom (suc count) address index h e low high =
@@ -94,7 +99,8 @@ module _ (g : Geometry) where
         (λ ne. shown-of-viewFrom count (suc address) index (omega arith) (p .1) (omega arith) (omega arith))
         (eq-cases index address)
 
-    pub showSame-of-viewFrom : viewFrom g disk 0 (blockCount g) ≡ viewFrom g other 0 (blockCount g) → ShowSame g disk other
+    pub showSame-of-viewFrom :
+        viewFrom g disk 0 (blockCount g) ≡ viewFrom g other 0 (blockCount g) → ShowSame g disk other
     showSame-of-viewFrom e =
         record {
           whole = whole;
@@ -111,7 +117,8 @@ module _ (g : Geometry) where
 module _ (disk : Bytes) (drive : Drive (geometryIn disk) disk) where
   pub blockAt-viewOf :
       (address : DiskAddress) → address < rootAddress (geometryIn disk) →
-      blockAt (geometryIn disk .blockSize) (viewOf disk) address ≡ blockAt (geometryIn disk .blockSize) disk address
+      blockAt (geometryIn disk .blockSize) (viewOf disk) address ≡
+      blockAt (geometryIn disk .blockSize) disk address
   unfolding viewOf
   blockAt-viewOf address h =
       let e : 0 + address ≡ address = omega arith in
@@ -125,24 +132,34 @@ module _ (disk : Bytes) (drive : Drive (geometryIn disk) disk) where
       entryAt-header size (viewOf disk) index l ∙ ap (entryAt index) (blockAt-viewOf 0 (omega arith))
       ∙ sym (entryAt-header size disk index l)
 
-  pub mapEntry-viewOf : (number : ℕ) → number < geometryIn disk .publics → mapEntry (geometryIn disk) (viewOf disk) number ≡ mapEntry (geometryIn disk) disk number
+  pub mapEntry-viewOf :
+      (number : ℕ) → number < geometryIn disk .publics →
+      mapEntry (geometryIn disk) (viewOf disk) number ≡ mapEntry (geometryIn disk) disk number
   mapEntry-viewOf number h =
       mapEntry-block (geometryIn disk) (viewOf disk) disk number
       (blockAt-viewOf (mapAddress (geometryIn disk) number) (omega (arith, mapAddress-lt (geometryIn disk) (drive .fits) number h)))
 
-  pub isAllocated-viewOf : (slot : ℕ) → slot < geometryIn disk .slots → isAllocated (geometryIn disk) (viewOf disk) slot ≡ isAllocated (geometryIn disk) disk slot
+  pub isAllocated-viewOf :
+      (slot : ℕ) → slot < geometryIn disk .slots →
+      isAllocated (geometryIn disk) (viewOf disk) slot ≡ isAllocated (geometryIn disk) disk slot
   isAllocated-viewOf slot h =
       isAllocated-block (geometryIn disk) (viewOf disk) disk slot
       (blockAt-viewOf (bitAddress (geometryIn disk) slot) (bitAddress-lt (geometryIn disk) (drive .fits) slot h))
 
 -- a geometry by its five numbers
-pub geometry-ext : (disk other : Bytes) → ((index : ℕ) → index < 5 → entryAt index disk ≡ entryAt index other) → geometryIn disk ≡ geometryIn other
+pub geometry-ext :
+    (disk other : Bytes) → ((index : ℕ) → index < 5 → entryAt index disk ≡ entryAt index other) →
+    geometryIn disk ≡ geometryIn other
 geometry-ext disk other e =
     made (e 0 (omega arith)) (e 1 (omega arith)) (e 2 (omega arith)) (e 3 (omega arith)) (e 4 (omega arith))
   where
-    made : entryAt 0 disk ≡ entryAt 0 other → entryAt 1 disk ≡ entryAt 1 other → entryAt 2 disk ≡ entryAt 2 other →
-        entryAt 3 disk ≡ entryAt 3 other → entryAt 4 disk ≡ entryAt 4 other → geometryIn disk ≡ geometryIn other
+    made :
+        entryAt 0 disk ≡ entryAt 0 other → entryAt 1 disk ≡ entryAt 1 other →
+        entryAt 2 disk ≡ entryAt 2 other →
+        entryAt 3 disk ≡ entryAt 3 other → entryAt 4 disk ≡ entryAt 4 other →
+        geometryIn disk ≡ geometryIn other
     made b k p h m = λ i. record { blockSize = b i; height = k i; publics = p i; hidden = h i; slots = m i }
 
-pub geometryIn-viewOf : (disk : Bytes) → Drive (geometryIn disk) disk → geometryIn (viewOf disk) ≡ geometryIn disk
+pub geometryIn-viewOf :
+    (disk : Bytes) → Drive (geometryIn disk) disk → geometryIn (viewOf disk) ≡ geometryIn disk
 geometryIn-viewOf disk drive = geometry-ext (viewOf disk) disk (λ index h. entryAt-viewOf disk drive index (omega arith))

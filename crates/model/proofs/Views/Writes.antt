@@ -1,9 +1,9 @@
--- A write on an accepted drive and the simulator that tracks it: its rounds, its stores, and what it keeps of the drive
--- that the write leaves. Assumes nothing.
+-- A write on an accepted drive and the simulator that tracks it: its rounds, its stores, and what it keeps of
+-- the drive that the write leaves. Assumes nothing.
 use mathlib.Core.Path.{_≡_, refl, sym, ap, ap₂, _∙_, subst}
 use mathlib.Core.Logic.{_≢_, ⊎-elim}
 use mathlib.Core.Bool.{true, false, cond}
-use mathlib.Core.List.{List, _++_}
+use mathlib.Core.List.{_++_}
 use Prim.Native.Nat.{ℕ, suc, _+_, _-_, _%_, _<_}
 use native.Mathlib.Omega.{arith}
 use lib.Dec.{eqb}
@@ -45,7 +45,8 @@ module _ (disk : Bytes) (accepted : driveRefusal disk ≡ 0) (number : ℕ) (kno
       ap (λ (n : ℕ). (headIn disk + n - 1) % g .slots) simulatedRounds-suc ∙ ap (λ (n : ℕ). n % g .slots) e
 
   pub simulatedStores-is :
-      simulatedStores (trackerOf disk) number ≡ keptRounds earlier g (headIn disk) ++ lastRound g number (mapEntry g disk number) last
+      simulatedStores (trackerOf disk) number ≡
+      keptRounds earlier g (headIn disk) ++ lastRound g number (mapEntry g disk number) last
   unfolding simulatedStores
   simulatedStores-is =
       let e : suc earlier - 1 ≡ earlier = omega arith in
@@ -67,7 +68,8 @@ module _ (disk : Bytes) (accepted : driveRefusal disk ≡ 0) (number : ℕ) (kno
         (wrote .whole ∙ sym (ap driveSize e))
         (subst (λ (h : Geometry). headIn final < h .slots) (sym e) (rw (wrote .head) (nextSlot-lt g last (sound .sized .fits))))
 
-    pub trackerOf-final : Placed (geometryIn disk) disk number → trackerOf final ≡ simulatedWrite (trackerOf disk) number
+    pub trackerOf-final :
+        Placed (geometryIn disk) disk number → trackerOf final ≡ simulatedWrite (trackerOf disk) number
     trackerOf-final place =
         let entries = trackerOf disk .entries in
         let marks = trackerOf disk .allocated in

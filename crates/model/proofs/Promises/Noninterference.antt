@@ -11,7 +11,8 @@ use Rattle.model.specs.Promises.Noninterference.{Simulated, Noninterfere
 use Rattle.model.proofs.Laws.Refusals.{drive-of-refusal}
 use Rattle.model.proofs.Views.Tracking.{simulatorOf-viewOf}
 use Rattle.model.proofs.Views.Drives.{twins-of-alike, alike-of-twins}
-use Rattle.model.proofs.Views.CallLists.{reportsOf-seenOfAll, plainCalls, plainCalls-same, publicParts-bareCalls}
+use Rattle.model.proofs.Views.CallLists.{reportsOf-seenOfAll, plainCalls, plainCalls-same}
+use Rattle.model.proofs.Views.CallLists.{publicParts-bareCalls}
 
 -- ---- alike ----
 
@@ -45,10 +46,12 @@ simulated disk calls e =
     record {
       by-simulator =
         reportsOf-seenOfAll calls disk e
-        ∙ ap (λ (sim : Simulator). told sim (lengthsOfAll (publicParts calls))) (sym (simulatorOf-viewOf disk (drive-of-refusal disk e)));
+        ∙ ap (λ (sim : Simulator). told sim (lengthsOfAll (publicParts calls)))
+        (sym (simulatorOf-viewOf disk (drive-of-refusal disk e)));
       without-offers =
         plainCalls-same calls disk disk twins .seen-same
-        ∙ ap (λ (parts : List PublicCall). seenOfAll disk (plainCalls parts)) (sym (publicParts-bareCalls calls))
+        ∙ ap (λ (parts : List PublicCall). seenOfAll disk (plainCalls parts))
+        (sym (publicParts-bareCalls calls))
         ∙ sym (plainCalls-same (bareCalls calls) disk disk twins .seen-same);
     }
 
@@ -56,10 +59,13 @@ simulated disk calls e =
 
 pub noninterference : Noninterference
 noninterference disk other calls others alike parts =
-    let here = plainCalls-same calls disk disk (twins-of-alike disk disk (alike-refl disk (alike .accepted))) in
+    let here =
+    plainCalls-same calls disk disk (twins-of-alike disk disk (alike-refl disk (alike .accepted))) in
     let there = plainCalls-same others other disk (twins-of-alike other disk (alike-sym alike)) in
     record {
-      same-seen = here .seen-same ∙ ap (λ (ps : List PublicCall). seenOfAll disk (plainCalls ps)) parts ∙ sym (there .seen-same);
+      same-seen =
+        here .seen-same ∙ ap (λ (ps : List PublicCall). seenOfAll disk (plainCalls ps)) parts
+        ∙ sym (there .seen-same);
       here = simulated disk calls (alike .accepted);
       there = simulated other others (alike .other-accepted);
       alike-after =

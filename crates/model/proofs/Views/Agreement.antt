@@ -55,9 +55,12 @@ module _ (shows : DiskAddress → Bytes → Bytes) (width count : ℕ) where
       Agree (setBlock width disk (x .address) (x .content)) (setBlock width other (y .address) (y .content))
   agree-one {disk} {other} {x} {y} a b =
       record {
-        whole = length-setBlock width disk count (a .whole) (x .address) (b .inside) (x .content) (b .sized) ∙ a .whole;
+        whole =
+          length-setBlock width disk count (a .whole) (x .address) (b .inside) (x .content) (b .sized)
+          ∙ a .whole;
         other-whole =
-          length-setBlock width other count (a .other-whole) (y .address) inside-other (y .content) (b .other-sized)
+          length-setBlock width other count (a .other-whole) (y .address) inside-other (y .content)
+          (b .other-sized)
           ∙ a .other-whole;
         same-shown = λ address. by address (eq-cases address (x .address));
       }
@@ -69,15 +72,20 @@ module _ (shows : DiskAddress → Bytes → Bytes) (width count : ℕ) where
           shows address (blockAt width (setBlock width disk (x .address) (x .content)) address) ≡
           shows address (blockAt width (setBlock width other (y .address) (y .content)) address)
       by address (inl e) =
-          let here = blockAt-setBlock-same width disk count (a .whole) (x .address) (b .inside) (x .content) (b .sized) in
+          let here =
+          blockAt-setBlock-same width disk count (a .whole) (x .address) (b .inside) (x .content)
+          (b .sized) in
           let there =
-          blockAt-setBlock-same width other count (a .other-whole) (y .address) inside-other (y .content) (b .other-sized) in
+          blockAt-setBlock-same width other count (a .other-whole) (y .address) inside-other (y .content)
+          (b .other-sized) in
           rw (e, here, b .same-shown, b .same-address, there)
       by address (inr ne) =
           let here =
-          blockAt-setBlock-other width disk count (a .whole) (x .address) (b .inside) (x .content) (b .sized) address ne in
+          blockAt-setBlock-other width disk count (a .whole) (x .address) (b .inside) (x .content)
+          (b .sized) address ne in
           let there =
-          blockAt-setBlock-other width other count (a .other-whole) (y .address) inside-other (y .content) (b .other-sized)
+          blockAt-setBlock-other width other count (a .other-whole) (y .address) inside-other (y .content)
+          (b .other-sized)
           address (λ e. ne (e ∙ sym (b .same-address))) in
           rw (here, there) (a .same-shown address)
 

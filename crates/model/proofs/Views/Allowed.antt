@@ -15,7 +15,8 @@ use Rattle.laws.proofs.Checks.{Numbered, Passed, passed-of-zero, passed-front, 
 use Rattle.model.specs.Geometry.{Geometry}
 use Rattle.model.specs.Blocks.{Bytes}
 use Rattle.model.specs.Layout.{geometryIn, mapEntry, isPlace}
-use Rattle.model.specs.Refusals.{driveRefusal, placeChecks, roundCount, storeCount, roundChecks, publicReadRefusal, writeRefusal}
+use Rattle.model.specs.Refusals.{driveRefusal, placeChecks, roundCount, storeCount, roundChecks}
+use Rattle.model.specs.Refusals.{publicReadRefusal, writeRefusal}
 use Rattle.model.proofs.Laws.Refusals.{after-drive-pass}
 use Rattle.model.proofs.Laws.Wrote.{Placed}
 
@@ -52,7 +53,8 @@ place-of-passed g disk number size p =
       known = leb-false (g .publics) number (p .0);
       sized = eqb-true size (g .blockSize) (not-false (eqb size (g .blockSize)) (p .1 .0));
       place = ⊎-elim (λ e. inl (eqb-true entry 0 e)) (λ e. inr e)
-        (or-cases (eqb entry 0) (isPlace g disk entry) (not-false (eqb entry 0 || isPlace g disk entry) (p .1 .1 .0)));
+        (or-cases (eqb entry 0) (isPlace g disk entry)
+        (not-false (eqb entry 0 || isPlace g disk entry) (p .1 .1 .0)));
     }
 
 rounds-of-passed :
@@ -83,13 +85,16 @@ module _ (disk : Bytes) (accepted : driveRefusal disk ≡ 0) (number : ℕ) wher
 
   passed-of-write :
       (content : Bytes) (random room : ℕ) → writeRefusal disk number content random room ≡ 0 →
-      Passed (placeChecks (geometryIn disk) disk number (length content) ++ roundChecks (geometryIn disk) disk number random room)
+      Passed
+      (placeChecks (geometryIn disk) disk number (length content) ++
+      roundChecks (geometryIn disk) disk number random room)
   unfolding writeRefusal
   passed-of-write content random room e =
       let g = geometryIn disk in
       let cs = placeChecks g disk number (length content) ++ roundChecks g disk number random room in
       passed-of-zero cs
-      (numbered-place g disk number (length content) (roundChecks g disk number random room) (numbered-rounds g disk number random room))
+      (numbered-place g disk number (length content) (roundChecks g disk number random room)
+      (numbered-rounds g disk number random room))
       (sym (after-drive-pass disk cs accepted) ∙ e)
 
   pub place-of-write :
@@ -97,7 +102,8 @@ module _ (disk : Bytes) (accepted : driveRefusal disk ≡ 0) (number : ℕ) wher
       PlaceAllowed (geometryIn disk) disk number (length content)
   place-of-write content random room e =
       place-of-passed (geometryIn disk) disk number (length content)
-      (passed-front (placeChecks (geometryIn disk) disk number (length content)) (roundChecks (geometryIn disk) disk number random room)
+      (passed-front (placeChecks (geometryIn disk) disk number (length content))
+      (roundChecks (geometryIn disk) disk number random room)
       (passed-of-write content random room e))
 
   pub rounds-of-write :
@@ -105,5 +111,6 @@ module _ (disk : Bytes) (accepted : driveRefusal disk ≡ 0) (number : ℕ) wher
       RoundsAllowed (geometryIn disk) disk number random room
   rounds-of-write content random room e =
       rounds-of-passed (geometryIn disk) disk number random room
-      (passed-rest (placeChecks (geometryIn disk) disk number (length content)) (roundChecks (geometryIn disk) disk number random room)
+      (passed-rest (placeChecks (geometryIn disk) disk number (length content))
+      (roundChecks (geometryIn disk) disk number random room)
       (passed-of-write content random room e))

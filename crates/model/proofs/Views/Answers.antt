@@ -12,9 +12,13 @@ use borrow.Author.Tests.{leb-false, eqb-false}
 use Rattle.laws.specs.Checks.{Check, check, firstOf}
 use Rattle.model.specs.Geometry.{Geometry, Fits}
 use Rattle.model.specs.Blocks.{Bytes}
-use Rattle.model.specs.Layout.{geometryIn, headIn, slotOf, nextSlot, mapEntry, isAllocated, isPlace, isSlotBlock}
-use Rattle.model.specs.Refusals.{oneMore, roundsTo, roundCount, storeCount, driveRefusal, placeChecks, roundChecks, publicReadRefusal, writeRefusal}
-use Rattle.model.specs.Simulator.{Simulator, CallLengths, entryFor, isTaken, leastFrom, simulatedRounds, simulatedStores, simulatedPlaceChecks, simulatedRoundChecks, simulatedAnswer}
+use Rattle.model.specs.Layout.{geometryIn, headIn, slotOf, nextSlot, mapEntry, isAllocated, isPlace}
+use Rattle.model.specs.Layout.{isSlotBlock}
+use Rattle.model.specs.Refusals.{oneMore, roundsTo, roundCount, storeCount, driveRefusal, placeChecks}
+use Rattle.model.specs.Refusals.{roundChecks, publicReadRefusal, writeRefusal}
+use Rattle.model.specs.Simulator.{Simulator, CallLengths, entryFor, isTaken, leastFrom, simulatedRounds}
+use Rattle.model.specs.Simulator.{simulatedStores, simulatedPlaceChecks, simulatedRoundChecks}
+use Rattle.model.specs.Simulator.{simulatedAnswer}
 use Rattle.model.proofs.Laws.Slots.{slotBlock-of}
 use Rattle.model.proofs.Laws.Refusals.{after-drive-pass, accepted-of-refusal}
 use Rattle.model.proofs.Laws.RoundCounts.{roundsTo-ext, length-rounds}
@@ -48,7 +52,8 @@ leastFrom-roundsTo g isTaken head (suc most) first =
     let next : nextSlot g ((head + first) % g .slots) ≡ (head + suc first) % g .slots =
     mod-add-mod (head + first) (g .slots) 1 ∙ ap (λ (n : ℕ). n % g .slots) s in
     let later = leastFrom-roundsTo g isTaken head most (suc first) in
-    rw (e, next) (by (isTaken ((head + first) % g .slots)) (roundsTo most isTaken g ((head + suc first) % g .slots)) later)
+    rw (e, next)
+    (by (isTaken ((head + first) % g .slots)) (roundsTo most isTaken g ((head + suc first) % g .slots)) later)
   where
     by : (b : Bool) (rounds : ℕ) {least : ℕ} → least ≡ countedFrom (suc first) rounds →
         cond (not b) (suc first) least ≡ countedFrom first (cond b (oneMore rounds) 1)
@@ -100,19 +105,22 @@ module _ (g : Geometry) (f : Fits g) (disk : Bytes) (inside : headIn disk < g .s
   -- 6 fails alike
   place-tracked :
       (number : ℕ) → number < g .publics →
-      (eqb (entryFor sim number) 0 || isSlotBlock g 0 (entryFor sim number) && isTaken sim (slotOf g (entryFor sim number))) ≡
+      (eqb (entryFor sim number) 0 ||
+      isSlotBlock g 0 (entryFor sim number) && isTaken sim (slotOf g (entryFor sim number))) ≡
       (eqb (mapEntry g disk number) 0 || isPlace g disk (mapEntry g disk number))
   unfolding isPlace
   place-tracked number h =
       let entry = mapEntry g disk number in
       rw (getD-entries g disk number h)
       (ap (λ (b : Bool). eqb entry 0 || b)
-      (and-ext (isSlotBlock g 0 entry) (λ e. getD-allocated g disk (slotOf g entry) (slotBlock-of g 0 entry e .slot-inside))))
+      (and-ext (isSlotBlock g 0 entry)
+      (λ e. getD-allocated g disk (slotOf g entry) (slotBlock-of g 0 entry e .slot-inside))))
 
   -- 4 to 6, with whatever checks come after
   place-answer :
       (call : CallLengths) (cs ds : List Check) → (call .number < g .publics → SameAnswer cs ds) →
-      SameAnswer (simulatedPlaceChecks sim call ++ cs) (placeChecks g disk (call .number) (call .content) ++ ds)
+      SameAnswer (simulatedPlaceChecks sim call ++ cs)
+      (placeChecks g disk (call .number) (call .content) ++ ds)
   unfolding placeChecks
   place-answer call cs ds h =
       sameAnswer-check refl
@@ -132,18 +140,21 @@ module _ (g : Geometry) (f : Fits g) (disk : Bytes) (inside : headIn disk < g .s
   -- 7 to 9
   round-answer :
       (call : CallLengths) → call .number < g .publics →
-      SameAnswer (simulatedRoundChecks sim call) (roundChecks g disk (call .number) (call .random) (call .room))
+      SameAnswer (simulatedRoundChecks sim call)
+      (roundChecks g disk (call .number) (call .random) (call .room))
   unfolding roundChecks
   round-answer call h =
       let rounds = simulatedRounds-is g f (headIn disk) disk inside in
       sameAnswer-check (ap (λ (n : ℕ). eqb n 0) rounds)
       (λ e. let some : roundCount g disk ≢ 0 = eqb-false (roundCount g disk) 0 e in
       sameAnswer-check (ap (λ (n : ℕ). ltb (call .random) (n * g .height * g .blockSize)) rounds)
-      (λ _. sameAnswer-check (ap (ltb (call .room)) (length-simulatedStores (call .number) h some)) (λ _. sameAnswer-refl)))
+      (λ _. sameAnswer-check (ap (ltb (call .room)) (length-simulatedStores (call .number) h some))
+      (λ _. sameAnswer-refl)))
 
 -- what the simulator is fed of a public read, and of a write
 abbrev pub readLengths : (number content : ℕ) → CallLengths
-readLengths number content = record { isWrite = false; number = number; content = content; random = 0; room = 0 }
+readLengths number content =
+    record { isWrite = false; number = number; content = content; random = 0; room = 0 }
 
 abbrev pub writeLengths : (number content random room : ℕ) → CallLengths
 writeLengths number content random room =
@@ -159,7 +170,8 @@ module _ (disk : Bytes) (accepted : driveRefusal disk ≡ 0) where
       let a = accepted-of-refusal disk accepted in
       let g = geometryIn disk in
       let cs = placeChecks g disk number (length blank) in
-      place-answer g (a .sized .fits) disk (a .head-inside) (readLengths number (length blank)) [] [] (λ _. sameAnswer-refl) .same
+      place-answer g (a .sized .fits) disk (a .head-inside) (readLengths number (length blank)) [] []
+      (λ _. sameAnswer-refl) .same
       ∙ ap firstOf (append-nil cs) ∙ sym (after-drive-pass disk cs accepted)
 
   pub simulatedAnswer-write :
@@ -173,5 +185,6 @@ module _ (disk : Bytes) (accepted : driveRefusal disk ≡ 0) where
       let call = writeLengths number (length content) random room in
       let cs = placeChecks g disk number (length content) ++ roundChecks g disk number random room in
       place-answer g (a .sized .fits) disk (a .head-inside) call (simulatedRoundChecks (trackerOf disk) call)
-      (roundChecks g disk number random room) (round-answer g (a .sized .fits) disk (a .head-inside) call) .same
+      (roundChecks g disk number random room)
+      (round-answer g (a .sized .fits) disk (a .head-inside) call) .same
       ∙ sym (after-drive-pass disk cs accepted)

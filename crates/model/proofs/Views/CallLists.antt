@@ -10,12 +10,15 @@ use Rattle.model.specs.Blocks.{Bytes, DiskAddress}
 use Rattle.model.specs.Refusals.{driveRefusal, publicReadRefusal}
 use Rattle.model.specs.Calls.{publicRead, written, writtenDisk}
 use Rattle.model.specs.View.{viewOf}
-use Rattle.model.specs.Runs.{Call, readPublic, readHidden, write, diskAfterAll, PublicCall, publicParts, bareCalls, Seen, seenOfWrite, seenOfAll}
+use Rattle.model.specs.Runs.{Call, readPublic, readHidden, write, diskAfterAll, PublicCall, publicParts}
+use Rattle.model.specs.Runs.{bareCalls, Seen, seenOfWrite, seenOfAll}
 use Rattle.model.specs.Simulator.{Simulator, lengthsOfAll, Told, toldOf, told, reportOf, reportsOf}
 use Rattle.model.proofs.Views.Tracking.{trackerOf}
 use Rattle.model.proofs.Views.Answers.{readLengths, writeLengths, simulatedAnswer-read}
-use Rattle.model.proofs.Views.Drives.{Twins, trackerOf-twins, viewOf-twins, publicReadRefusal-twins, publicRead-twins}
-use Rattle.model.proofs.Views.Follows.{told-ext, toldOf-refused, simulatorAfter-refused, written-follows}
+use Rattle.model.proofs.Views.Drives.{Twins, trackerOf-twins, viewOf-twins, publicReadRefusal-twins}
+use Rattle.model.proofs.Views.Drives.{publicRead-twins}
+use Rattle.model.proofs.Views.Follows.{told-ext, toldOf-refused, simulatorAfter-refused}
+use Rattle.model.proofs.Views.Follows.{written-follows}
 use Rattle.model.proofs.Views.SideWrites.{writtenDisk-twins}
 
 -- ---- the simulator ----
@@ -53,7 +56,8 @@ reportsOf-seenOfAll (readHidden number blank ∷ calls) disk accepted = reportsO
 reportsOf-seenOfAll (write number content random list offer ∷ calls) disk accepted =
     let f = written-follows disk accepted number content random list offer in
     ap₂ {C = List Told} (λ (x : Told) (xs : List Told). x ∷ xs) (f .told-same)
-    (reportsOf-seenOfAll calls (writtenDisk (written disk number content random (length list) offer) disk) (f .accepted-after)
+    (reportsOf-seenOfAll calls (writtenDisk (written disk number content random (length list) offer) disk)
+    (f .accepted-after)
     ∙ ap (λ (sim : Simulator). told sim (lengthsOfAll (publicParts calls))) (f .tracker-after))
 
 -- ---- nothing hidden ----
@@ -61,7 +65,8 @@ reportsOf-seenOfAll (write number content random list offer ∷ calls) disk acce
 -- a public call with nothing hidden in it: no offer, zeros for random bytes and list
 abbrev plainCall : PublicCall → Call
 plainCall call =
-    cond (call .isWrite) (write (call .number) (call .content) (replicate (call .random) 0) (replicate (call .room) 0) none)
+    cond (call .isWrite)
+    (write (call .number) (call .content) (replicate (call .random) 0) (replicate (call .room) 0) none)
     (readPublic (call .number) (call .content))
 
 unfoldable pub plainCalls : List PublicCall → List Call
@@ -121,7 +126,8 @@ plainCalls-same (write number content random list offer ∷ calls) disk other tw
     after : Twins (writtenDisk (written disk number content random (length list) offer) disk)
         (writtenDisk (written other number content zeros (length room) none) other)
     after =
-        writtenDisk-twins disk other twins number content random zeros (sym (length-replicate (length random) 0)) list room
+        writtenDisk-twins disk other twins number content random zeros
+        (sym (length-replicate (length random) 0)) list room
         (sym (length-replicate (length list) 0)) offer none
 
     first : seenOfWrite (written disk number content random (length list) offer) disk list ≡
@@ -137,7 +143,9 @@ plainCalls-same (write number content random list offer ∷ calls) disk other tw
             toldOf (trackerOf disk) (writeLengths number (length content) (length random) (length list)) ≡
             toldOf (trackerOf other) (writeLengths number (length content) (length zeros) (length room))
         lengths p q =
-            ap (λ (sim : Simulator). toldOf sim (writeLengths number (length content) (length random) (length list))) (trackerOf-twins disk other twins)
+            ap (λ (sim : Simulator). toldOf sim
+            (writeLengths number (length content) (length random) (length list)))
+            (trackerOf-twins disk other twins)
             ∙ ap₂ (λ (n m : ℕ). toldOf (trackerOf other) (writeLengths number (length content) n m)) p q
 
 -- a bare list has the same public calls

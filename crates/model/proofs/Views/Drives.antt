@@ -42,7 +42,8 @@ twins-of-alike disk other a =
       other-accepted = a .other-accepted;
       show-same =
         showSame-of-viewFrom (geometryIn disk) disk other (here .whole) (sym (a .same-length) ∙ here .whole)
-        (a .same-view ∙ ap (λ (g : Geometry). viewFrom g other 0 (blockCount g)) (geometry-ext other disk same-entry));
+        (a .same-view
+        ∙ ap (λ (g : Geometry). viewFrom g other 0 (blockCount g)) (geometry-ext other disk same-entry));
     }
   where
     here : Drive (geometryIn disk) disk
@@ -67,7 +68,8 @@ module _ (disk other : Bytes) (twins : Twins disk other) where
   pub geometryIn-twins : geometryIn disk ≡ geometryIn other
   geometryIn-twins =
       geometry-ext disk other
-      (λ index h. entryAt-alike (geometryIn disk) (here .fits) disk other (twins .show-same) index (omega arith))
+      (λ index h. entryAt-alike (geometryIn disk) (here .fits) disk other (twins .show-same) index
+      (omega arith))
 
   pub viewOf-twins : viewOf disk ≡ viewOf other
   unfolding viewOf
@@ -109,7 +111,8 @@ module _ (disk other : Bytes) (twins : Twins disk other) where
   shown-twins number blank e =
       let allowed = place-of-read disk (twins .accepted) number blank e in
       by (allowed .place)
-      ∙ ap (entryShown g other blank) (mapEntry-alike g (here .fits) disk other (twins .show-same) number (allowed .known))
+      ∙ ap (entryShown g other blank)
+      (mapEntry-alike g (here .fits) disk other (twins .show-same) number (allowed .known))
       ∙ ap (λ (h : Geometry). entryShown h other blank (mapEntry h other number)) geometryIn-twins
     where
       entry : ℕ
@@ -119,7 +122,8 @@ module _ (disk other : Bytes) (twins : Twins disk other) where
       by (inl z) = rw (eq-eqb entry 0 z)
       by (inr place) =
           let starts = and-left (isSlotBlock g 0 entry) (isAllocated g disk (slotOf g entry)) place in
-          ap (cond (eqb entry 0) blank) (blockAt-alike g disk other (twins .show-same) entry (isShown-slotBlock g entry starts))
+          ap (cond (eqb entry 0) blank)
+          (blockAt-alike g disk other (twins .show-same) entry (isShown-slotBlock g entry starts))
 
   pub publicRead-twins :
       (number : ℕ) (blank : Bytes) → publicRead disk number blank ≡ publicRead other number blank
@@ -127,7 +131,9 @@ module _ (disk other : Bytes) (twins : Twins disk other) where
   publicRead-twins number blank =
       ⊎-elim
       (λ e. cond-true _ [] (eq-eqb (publicReadRefusal disk number blank) 0 e) ∙ shown-twins number blank e
-      ∙ sym (cond-true _ [] (eq-eqb (publicReadRefusal other number blank) 0 (sym (publicReadRefusal-twins number blank) ∙ e))))
+      ∙ sym (cond-true _ []
+      (eq-eqb (publicReadRefusal other number blank) 0 (sym (publicReadRefusal-twins number blank) ∙ e))))
       (λ e. cond-false _ [] (ne-eqb (publicReadRefusal disk number blank) 0 e)
-      ∙ sym (cond-false _ [] (ne-eqb (publicReadRefusal other number blank) 0 (λ z. e (publicReadRefusal-twins number blank ∙ z)))))
+      ∙ sym (cond-false _ []
+      (ne-eqb (publicReadRefusal other number blank) 0 (λ z. e (publicReadRefusal-twins number blank ∙ z)))))
       (eq-cases (publicReadRefusal disk number blank) 0)

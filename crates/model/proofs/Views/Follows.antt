@@ -17,9 +17,12 @@ use Rattle.model.specs.Layout.{geometryIn, headIn}
 use Rattle.model.specs.Stores.{addresses}
 use Rattle.model.specs.HiddenHalf.{HiddenWrite}
 use Rattle.model.specs.Refusals.{driveRefusal, roundCount, writeRefusal}
-use Rattle.model.specs.Calls.{offerRefusal, writeRun, Written, refusedWrite, doneWrite, written, writtenDisk}
+use Rattle.model.specs.Calls.{offerRefusal, writeRun, Written, refusedWrite, doneWrite, written}
+use Rattle.model.specs.Calls.{writtenDisk}
 use Rattle.model.specs.Runs.{seenOfWrite}
-use Rattle.model.specs.Simulator.{Simulator, CallLengths, simulatedRounds, simulatedStores, simulatedAnswer, Told, toldStores, isDone, toldOf, simulatedWrite, simulatorAfter, reportOf}
+use Rattle.model.specs.Simulator.{Simulator, CallLengths, simulatedRounds, simulatedStores}
+use Rattle.model.specs.Simulator.{simulatedAnswer, Told, toldStores, isDone, toldOf, simulatedWrite}
+use Rattle.model.specs.Simulator.{simulatorAfter, reportOf}
 use Rattle.model.proofs.Laws.Stores.{apply-nil, length-addresses}
 use Rattle.model.proofs.Laws.Refusals.{accepted-of-refusal}
 use Rattle.model.proofs.Laws.Runs.{Ran, length-ran}
@@ -27,7 +30,8 @@ use Rattle.model.proofs.Laws.WriteRuns.{writeRun-accepted}
 use Rattle.model.proofs.Views.Tracking.{trackerOf}
 use Rattle.model.proofs.Views.Answers.{writeLengths, simulatedAnswer-write}
 use Rattle.model.proofs.Views.Allowed.{PlaceAllowed, RoundsAllowed, place-of-write, rounds-of-write}
-use Rattle.model.proofs.Views.Writes.{simulatedRounds-suc, simulatedStores-is, geometryIn-final, accepted-final, trackerOf-final}
+use Rattle.model.proofs.Views.Writes.{simulatedRounds-suc, simulatedStores-is, geometryIn-final}
+use Rattle.model.proofs.Views.Writes.{accepted-final, trackerOf-final}
 
 -- ---- the two ways of a write ----
 
@@ -35,7 +39,8 @@ module _ (disk : Bytes) (number : ℕ) (content random : Bytes) (room : ℕ) (of
   pub written-done :
       writeRefusal disk number content (length random) room ≡ 0 →
       written disk number content random room offer ≡
-      doneWrite (offerRefusal (geometryIn disk) offer) (writeRun (geometryIn disk) disk number content random offer)
+      doneWrite (offerRefusal (geometryIn disk) offer)
+      (writeRun (geometryIn disk) disk number content random offer)
   unfolding written
   written-done e = cond-true _ _ (eq-eqb (writeRefusal disk number content (length random) room) 0 e)
 
@@ -81,13 +86,15 @@ take-over new old h = part-over-same new old 0 (omega arith)
 -- ---- one step ----
 
 -- what a write does and what the simulator says of it
-pub record Follows (disk : Bytes) (list : List DiskAddress) (call : CallLengths) (result : Written) : Type 0 where
+pub record Follows (disk : Bytes) (list : List DiskAddress) (call : CallLengths) (result : Written) :
+    Type 0 where
   pub told-same : reportOf (seenOfWrite result disk list) ≡ toldOf (trackerOf disk) call
   pub accepted-after : driveRefusal (writtenDisk result disk) ≡ 0
   pub geometry-after : geometryIn (writtenDisk result disk) ≡ geometryIn disk
   pub tracker-after : trackerOf (writtenDisk result disk) ≡ simulatorAfter (trackerOf disk) call
 
-module _ (disk : Bytes) (accepted : driveRefusal disk ≡ 0) (number : ℕ) (content random : Bytes) (list : List DiskAddress)
+module _ (disk : Bytes) (accepted : driveRefusal disk ≡ 0) (number : ℕ) (content random : Bytes)
+    (list : List DiskAddress)
     (offer : Option HiddenWrite) where
   abbrev call : CallLengths
   call = writeLengths number (length content) (length random) (length list)
@@ -100,7 +107,8 @@ module _ (disk : Bytes) (accepted : driveRefusal disk ≡ 0) (number : ℕ) (con
 
   refused-follows : refusal ≢ 0 → Follows disk list call (refusedWrite refusal)
   refused-follows ne =
-      let no : isDone (trackerOf disk) call ≡ false = ne-eqb (simulatedAnswer (trackerOf disk) call) 0 (λ e. ne (sym answer-is ∙ e)) in
+      let no : isDone (trackerOf disk) call ≡ false =
+      ne-eqb (simulatedAnswer (trackerOf disk) call) 0 (λ e. ne (sym answer-is ∙ e)) in
       let same = apply-nil (geometryIn disk .blockSize) disk in
       record {
         told-same = told-ext (sym answer-is) refl refl refl ∙ sym (toldOf-refused (trackerOf disk) call no);
@@ -122,26 +130,36 @@ module _ (disk : Bytes) (accepted : driveRefusal disk ≡ 0) (number : ℕ) (con
     rounds : roundCount (geometryIn disk) disk ≡ suc earlier
     rounds = omega (arith, allowed .some-rounds)
 
-    ran : Ran (geometryIn disk) number content (headIn disk) earlier disk (writeRun (geometryIn disk) disk number content random offer)
+    ran :
+        Ran (geometryIn disk) number content (headIn disk) earlier disk
+        (writeRun (geometryIn disk) disk number content random offer)
     ran =
-        writeRun-accepted disk (accepted-of-refusal disk accepted) number (place .known) content (place .sized) (place .place) random
+        writeRun-accepted disk (accepted-of-refusal disk accepted) number (place .known) content
+        (place .sized) (place .place) random
         (allowed .some-rounds) (allowed .enough-random) offer
 
     done-follows :
-        Follows disk list call (doneWrite (offerRefusal (geometryIn disk) offer) (writeRun (geometryIn disk) disk number content random offer))
+        Follows disk list call
+        (doneWrite (offerRefusal (geometryIn disk) offer)
+        (writeRun (geometryIn disk) disk number content random offer))
     done-follows =
-        let yes : isDone (trackerOf disk) call ≡ true = eq-eqb (simulatedAnswer (trackerOf disk) call) 0 (answer-is ∙ free) in
+        let yes : isDone (trackerOf disk) call ≡ true =
+        eq-eqb (simulatedAnswer (trackerOf disk) call) 0 (answer-is ∙ free) in
         let run = writeRun (geometryIn disk) disk number content random offer in
         let stores : addresses (run .trace) ≡ simulatedStores (trackerOf disk) number =
         ran .listed ∙ sym (simulatedStores-is disk accepted number (place .known) earlier rounds) in
-        let count : length (run .trace) ≡ length (addresses (run .trace)) = sym (length-addresses (run .trace)) in
-        let counted = length-ran (geometryIn disk) number content (headIn disk) _ (allowed .some-rounds) disk run ran in
+        let count : length (run .trace) ≡ length (addresses (run .trace)) =
+        sym (length-addresses (run .trace)) in
+        let counted =
+        length-ran (geometryIn disk) number content (headIn disk) _ (allowed .some-rounds) disk run ran in
         let fits : length (addresses (run .trace)) ≤ length list = omega (arith, allowed .enough-room) in
         record {
           told-same =
-            told-ext refl (ran .counted ∙ sym (simulatedRounds-suc disk accepted number (place .known) earlier rounds))
+            told-ext refl
+            (ran .counted ∙ sym (simulatedRounds-suc disk accepted number (place .known) earlier rounds))
             (count ∙ ap length stores)
-            (ap (λ (n : ℕ). take n (over 0 (addresses (run .trace)) list)) count ∙ take-over (addresses (run .trace)) list fits ∙ stores)
+            (ap (λ (n : ℕ). take n (over 0 (addresses (run .trace)) list)) count
+            ∙ take-over (addresses (run .trace)) list fits ∙ stores)
             ∙ sym (toldOf-done (trackerOf disk) call yes);
           accepted-after = accepted-final disk accepted number (place .known) earlier rounds _ (ran .wrote);
           geometry-after = geometryIn-final disk accepted number (place .known) earlier rounds _ (ran .wrote);
@@ -154,6 +172,8 @@ module _ (disk : Bytes) (accepted : driveRefusal disk ≡ 0) (number : ℕ) (con
       Follows disk list (writeLengths number (length content) (length random) (length list))
       (written disk number content random (length list) offer)
   written-follows =
-      ⊎-elim (λ e. subst (Follows disk list call) (sym (written-done disk number content random (length list) offer e)) (done-follows e))
-      (λ ne. subst (Follows disk list call) (sym (written-refused disk number content random (length list) offer ne)) (refused-follows ne))
+      ⊎-elim (λ e. subst (Follows disk list call)
+      (sym (written-done disk number content random (length list) offer e)) (done-follows e))
+      (λ ne. subst (Follows disk list call)
+      (sym (written-refused disk number content random (length list) offer ne)) (refused-follows ne))
       (eq-cases refusal 0)

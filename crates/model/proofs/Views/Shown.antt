@@ -13,7 +13,8 @@ use Rattle.model.specs.Blocks.{Bytes, DiskAddress, blockAt}
 use Rattle.model.specs.Layout.{slotStart, isSlotBlock}
 use Rattle.model.specs.Stores.{Store, Trace, addresses}
 use Rattle.model.specs.View.{isShown, shownOf}
-use Rattle.model.proofs.Laws.Slots.{isSlotBlock-other, isSlotBlock-slotStart, isSlotBlock-below, isSlotBlock-past}
+use Rattle.model.proofs.Laws.Slots.{isSlotBlock-other, isSlotBlock-slotStart, isSlotBlock-below}
+use Rattle.model.proofs.Laws.Slots.{isSlotBlock-past}
 use Rattle.model.proofs.Laws.Stores.{All}
 use Rattle.model.proofs.Laws.Paths.{WholeStore}
 use Rattle.model.proofs.Views.Agreement.{Agree, Beside, Along, none, more}
@@ -45,10 +46,12 @@ pub isShown-slot-block :
     (g : Geometry) (slot place : ℕ) → 1 ≤ place → place ≤ g .height →
     isShown g (slotStart g slot + place) ≡ false
 isShown-slot-block g slot place low high =
-    isShown-neither g (slotStart g slot + place) (omega arith) (isSlotBlock-other g slot place high 0 (λ e. omega arith))
+    isShown-neither g (slotStart g slot + place) (omega arith)
+    (isSlotBlock-other g slot place high 0 (λ e. omega arith))
 
 pub isShown-rootAddress : (g : Geometry) → isShown g (rootAddress g) ≡ false
-isShown-rootAddress g = isShown-neither g (rootAddress g) (omega arith) (isSlotBlock-below g 0 (rootAddress g) (omega arith))
+isShown-rootAddress g =
+    isShown-neither g (rootAddress g) (omega arith) (isSlotBlock-below g 0 (rootAddress g) (omega arith))
 
 pub isShown-past : (g : Geometry) (address : DiskAddress) → blockCount g ≤ address → isShown g address ≡ false
 isShown-past g address h = isShown-neither g address (omega arith) (isSlotBlock-past g 0 address h)
@@ -110,6 +113,8 @@ along-hidden g (x ∷ xs) (y ∷ ys) e h p q =
       inside = h .0 .0;
       sized = p .0;
       other-sized = q .0;
-      same-shown = shownOf-hidden g (x .address) (x .content) (h .0 .1) ∙ sym (shownOf-hidden g (x .address) (y .content) (h .0 .1));
+      same-shown =
+        shownOf-hidden g (x .address) (x .content) (h .0 .1)
+        ∙ sym (shownOf-hidden g (x .address) (y .content) (h .0 .1));
     })
     (along-hidden g xs ys rest (h .1) (p .1) (q .1))

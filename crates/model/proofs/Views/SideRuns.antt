@@ -20,7 +20,8 @@ use Rattle.model.proofs.Laws.Stores.{All}
 use Rattle.model.proofs.Laws.HiddenHalf.{rowOf-public, WholeWrite, HidesHalf, hiddenHalf-hides}
 use Rattle.model.proofs.Laws.PublicHalf.{OldPlace}
 use Rattle.model.proofs.Laws.RoundStores.{afterRound}
-use Rattle.model.proofs.Laws.RoundCounts.{roundsTo-zero, roundsTo-taken, OneMore, oneMore-of, roundsTo-ext}
+use Rattle.model.proofs.Laws.RoundCounts.{roundsTo-zero, roundsTo-taken, OneMore, oneMore-of}
+use Rattle.model.proofs.Laws.RoundCounts.{roundsTo-ext}
 use Rattle.model.proofs.Laws.RoundEffects.{mapEntry-kept, isAllocated-kept}
 use Rattle.model.proofs.Views.Agreement.{none, along-append, agree-apply}
 use Rattle.model.proofs.Views.Shown.{ShowSame, TraceSame}
@@ -28,11 +29,13 @@ use Rattle.model.proofs.Views.Sides.{isAllocated-alike, roundTrace-alik
 
 -- ---- one round of a run ----
 
-module _ (most : ℕ) (g : Geometry) (number : ℕ) (content : Bytes) (slot : ℕ) (random disk : Bytes) (state : HiddenState) where
+module _ (most : ℕ) (g : Geometry) (number : ℕ) (content : Bytes) (slot : ℕ) (random disk : Bytes)
+    (state : HiddenState) where
   runFrom-kept :
       isAllocated g disk slot ≡ true →
       runFrom (suc most) g number content slot random disk state ≡
-      followedBy (roundTrace keepPublic g disk number slot content (hiddenHalf g disk slot random state .trace))
+      followedBy
+      (roundTrace keepPublic g disk number slot content (hiddenHalf g disk slot random state .trace))
       (runFrom most g number content (nextSlot g slot) (drop (g .height * g .blockSize) random)
       (afterRound keepPublic g disk number slot content (hiddenHalf g disk slot random state .trace))
       (hiddenHalf g disk slot random state .state))
@@ -45,7 +48,8 @@ module _ (most : ℕ) (g : Geometry) (number : ℕ) (content : Bytes) (slot : �
   runFrom-last :
       isAllocated g disk slot ≡ false →
       runFrom (suc most) g number content slot random disk state ≡
-      followedBy (roundTrace writePublic g disk number slot content (hiddenHalf g disk slot random state .trace))
+      followedBy
+      (roundTrace writePublic g disk number slot content (hiddenHalf g disk slot random state .trace))
       (stopped (hiddenHalf g disk slot random state .state))
   unfolding runFrom
   runFrom-last e =
@@ -80,21 +84,28 @@ module _ (g : Geometry) (f : Fits g) (number : ℕ) (content : Bytes) (known : n
       (runFrom most g number content slot others other stateOther .trace)
 
   one-more-alike : (most : ℕ) → RunsAlike most → RunsAlike (suc most)
-  one-more-alike most later disk other slot random others state stateOther earlier same inside old rounds supply supplyOther =
+  one-more-alike most later disk other slot random others state stateOther earlier same inside old rounds
+      supply supplyOther =
       by (bool-cases (isAllocated g disk slot))
     where
       here : HidesHalf g slot (hiddenHalf g disk slot random state)
-      here = hiddenHalf-hides g f disk (same .whole) slot inside random (omega (arith, supply .enough)) state (supply .whole-writes)
+      here =
+          hiddenHalf-hides g f disk (same .whole) slot inside random (omega (arith, supply .enough)) state
+          (supply .whole-writes)
 
       there : HidesHalf g slot (hiddenHalf g other slot others stateOther)
       there =
-          hiddenHalf-hides g f other (same .other-whole) slot inside others (omega (arith, supplyOther .enough)) stateOther
+          hiddenHalf-hides g f other (same .other-whole) slot inside others
+          (omega (arith, supplyOther .enough)) stateOther
           (supplyOther .whole-writes)
 
       round : (choice : PublicChoice) →
-          TraceSame g (roundTrace choice g disk number slot content (hiddenHalf g disk slot random state .trace))
+          TraceSame g
+          (roundTrace choice g disk number slot content (hiddenHalf g disk slot random state .trace))
           (roundTrace choice g other number slot content (hiddenHalf g other slot others stateOther .trace))
-      round choice = roundTrace-alike g f disk other same number slot content known inside sized choice _ _ old (here .hides) (there .hides)
+      round choice =
+          roundTrace-alike g f disk other same number slot content known inside sized choice _ _ old
+          (here .hides) (there .hides)
 
       mark : isAllocated g other slot ≡ isAllocated g disk slot
       mark = sym (isAllocated-alike g f disk other same slot inside)
@@ -107,23 +118,31 @@ module _ (g : Geometry) (f : Fits g) (number : ℕ) (content : Bytes) (known : n
             runFrom-kept most g number content slot others other stateOther (mark ∙ e))
           (along-append (shownOf g) (g .blockSize) (blockCount g) (round keepPublic)
           (later _ _ (nextSlot g slot) _ _ _ _ (more .before)
-          (agree-apply (shownOf g) (g .blockSize) (blockCount g) (round keepPublic) same) (nextSlot-lt g slot f) (rw entry old)
+          (agree-apply (shownOf g) (g .blockSize) (blockCount g) (round keepPublic) same)
+          (nextSlot-lt g slot f) (rw entry old)
           (marks ∙ more .rounds-is)
-          (supplied-later g (more .before) random _ (rw (more .earlier-is) at (supply .enough)) (here .waiting))
-          (supplied-later g (more .before) others _ (rw (more .earlier-is) at (supplyOther .enough)) (there .waiting))))
+          (supplied-later g (more .before) random _ (rw (more .earlier-is) at (supply .enough))
+          (here .waiting))
+          (supplied-later g (more .before) others _ (rw (more .earlier-is) at (supplyOther .enough))
+          (there .waiting))))
         where
           after : Bytes
-          after = afterRound keepPublic g disk number slot content (hiddenHalf g disk slot random state .trace)
+          after =
+              afterRound keepPublic g disk number slot content (hiddenHalf g disk slot random state .trace)
 
           entry : mapEntry g after number ≡ mapEntry g disk number
-          entry = mapEntry-kept g f disk (same .whole) number known slot inside content sized old _ (here .hides) number known
+          entry =
+              mapEntry-kept g f disk (same .whole) number known slot inside content sized old _
+              (here .hides) number known
 
           marks :
               roundsTo most (isAllocated g after) g (nextSlot g slot) ≡
               roundsTo most (isAllocated g disk) g (nextSlot g slot)
           marks =
-              roundsTo-ext most (isAllocated g after) (isAllocated g disk) g f (nextSlot g slot) (nextSlot-lt g slot f)
-              (isAllocated-kept g f disk (same .whole) number known slot inside content sized old _ (here .hides))
+              roundsTo-ext most (isAllocated g after) (isAllocated g disk) g f (nextSlot g slot)
+              (nextSlot-lt g slot f)
+              (isAllocated-kept g f disk (same .whole) number known slot inside content sized old _
+              (here .hides))
 
           more : OneMore (roundsTo most (isAllocated g disk) g (nextSlot g slot)) earlier
           more = oneMore-of _ earlier (sym (roundsTo-taken most (isAllocated g disk) g slot e) ∙ rounds)
@@ -133,6 +152,7 @@ module _ (g : Geometry) (f : Fits g) (number : ℕ) (content : Bytes) (known : n
           (along-append (shownOf g) (g .blockSize) (blockCount g) (round writePublic) none)
 
   pub runFrom-alike : (most : ℕ) → RunsAlike most
-  runFrom-alike zero = λ disk other slot random others state stateOther earlier same inside old rounds supply supplyOther.
+  runFrom-alike zero =
+      λ disk other slot random others state stateOther earlier same inside old rounds supply supplyOther.
       absurd (omega (arith, rounds, roundsTo-zero (isAllocated g disk) g slot))
   runFrom-alike (suc most) = one-more-alike most (runFrom-alike most)

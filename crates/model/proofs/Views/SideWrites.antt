@@ -44,7 +44,8 @@ module _ (disk other : Bytes) (twins : Twins disk other) (number : ℕ) (content
       (trackerOf-twins disk other twins) same-random
       ∙ simulatedAnswer-write other (twins .other-accepted) number content (length others) room
 
-  module _ (offer offerOther : Option HiddenWrite) (free : writeRefusal disk number content (length random) room ≡ 0) where
+  module _ (offer offerOther : Option HiddenWrite)
+      (free : writeRefusal disk number content (length random) room ≡ 0) where
     abbrev g : Geometry
     g = geometryIn disk
 
@@ -79,31 +80,41 @@ module _ (disk other : Bytes) (twins : Twins disk other) (number : ℕ) (content
 
     -- the other run, over the first drive's geometry and from its head
     runOther-is :
-        runFrom (g .slots) g number content (headIn disk) others other (startState (offeredWrites g offerOther)) ≡
+        runFrom (g .slots) g number content (headIn disk) others other
+        (startState (offeredWrites g offerOther)) ≡
         runOther
     unfolding writeRun
     runOther-is =
-        ap₂ (λ (h : Geometry) (head : ℕ). runFrom (h .slots) h number content head others other (startState (offeredWrites h offerOther)))
-        (geometryIn-twins disk other twins) (entryAt-alike g (sound .sized .fits) disk other (twins .show-same) 5 (omega arith))
+        ap₂ (λ (h : Geometry) (head : ℕ). runFrom (h .slots) h number content head others other
+        (startState (offeredWrites h offerOther)))
+        (geometryIn-twins disk other twins)
+        (entryAt-alike g (sound .sized .fits) disk other (twins .show-same) 5 (omega arith))
 
     trace-alike : TraceSame g (run .trace) (runOther .trace)
     unfolding writeRun
     trace-alike =
         subst (λ (r : Run). TraceSame g (run .trace) (r .trace)) runOther-is
-        (runFrom-alike g (sound .sized .fits) number content (place .known) (place .sized) (g .slots) disk other (headIn disk) random
-        others (startState (offeredWrites g offer)) (startState (offeredWrites g offerOther)) (roundCount g disk - 1)
+        (runFrom-alike g (sound .sized .fits) number content (place .known) (place .sized)
+        (g .slots) disk other (headIn disk) random
+        others (startState (offeredWrites g offer)) (startState (offeredWrites g offerOther))
+        (roundCount g disk - 1)
         (twins .show-same) (sound .head-inside) (old-of-placed g disk number (place .place)) rounds
         (supplied random (allowed .enough-random) offer)
         (supplied others (rw same-random at (allowed .enough-random)) offerOther))
 
     -- the disks that the two runs leave
-    final-alike : ShowSame g (apply (g .blockSize) (run .trace) disk) (apply (geometryIn other .blockSize) (runOther .trace) other)
+    final-alike :
+        ShowSame g (apply (g .blockSize) (run .trace) disk)
+        (apply (geometryIn other .blockSize) (runOther .trace) other)
     final-alike =
-        subst (λ (h : Geometry). ShowSame g (apply (g .blockSize) (run .trace) disk) (apply (h .blockSize) (runOther .trace) other))
-        (geometryIn-twins disk other twins) (agree-apply (shownOf g) (g .blockSize) (blockCount g) trace-alike (twins .show-same))
+        subst (λ (h : Geometry). ShowSame g (apply (g .blockSize) (run .trace) disk)
+        (apply (h .blockSize) (runOther .trace) other))
+        (geometryIn-twins disk other twins)
+        (agree-apply (shownOf g) (g .blockSize) (blockCount g) trace-alike (twins .show-same))
 
 module _ (disk other : Bytes) (twins : Twins disk other) (number : ℕ) (content random others : Bytes)
-    (same-random : length random ≡ length others) (list lists : List DiskAddress) (same-room : length list ≡ length lists)
+    (same-random : length random ≡ length others) (list lists : List DiskAddress)
+    (same-room : length list ≡ length lists)
     (offer offerOther : Option HiddenWrite) where
   -- the drives that the two writes leave
   abbrev after : Bytes
@@ -139,7 +150,8 @@ module _ (disk other : Bytes) (twins : Twins disk other) (number : ℕ) (content
             written-done disk number content random (length list) offer e,
             written-done other number content others (length lists) offerOther (sym refusals ∙ e),
           )
-          (final-alike disk other twins number content random others same-random (length list) offer offerOther e)
+          (final-alike disk other twins number content random others same-random
+          (length list) offer offerOther e)
 
       refused :
           writeRefusal disk number content (length random) (length list) ≢ 0 →

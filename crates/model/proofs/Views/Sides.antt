@@ -11,11 +11,13 @@ use lib.ListN.{length}
 use borrow.Author.Tests.{eq-eqb}
 use Rattle.model.specs.Geometry.{Geometry, Fits, fanout, rootAddress, blockCount}
 use Rattle.model.specs.Blocks.{Bytes, DiskAddress, blockAt, entryAt, setEntry}
-use Rattle.model.specs.Layout.{slotStart, slotOf, nextSlot, mapAddress, mapEntry, bitAddress, isAllocated, bitmapWith}
+use Rattle.model.specs.Layout.{slotStart, slotOf, nextSlot, mapAddress, mapEntry, bitAddress}
+use Rattle.model.specs.Layout.{isAllocated, bitmapWith}
 use Rattle.model.specs.Stores.{Trace, store, apply, addresses}
 use Rattle.model.specs.Table.{PublicChoice, keepPublic, writePublic}
 use Rattle.model.specs.View.{shownOf}
-use Rattle.model.specs.Rounds.{publicStore, mapStore, bitStore, bitStores, headerStore, mapStores, roundTrace}
+use Rattle.model.specs.Rounds.{publicStore, mapStore, bitStore, bitStores, headerStore, mapStores}
+use Rattle.model.specs.Rounds.{roundTrace}
 use Rattle.model.proofs.Laws.Geometry.{mapAddress-lt, bitAddress-lt, slot-block-lt, rootAddress-lt}
 use Rattle.model.proofs.Laws.Entries.{length-setEntry, entryAt-header}
 use Rattle.model.proofs.Laws.PublicMap.{mapEntry-block, length-mapBlockWith}
@@ -24,7 +26,9 @@ use Rattle.model.proofs.Laws.Paths.{Hides, blockAt-whole}
 use Rattle.model.proofs.Laws.PublicHalf.{all-map, OldPlace}
 use Rattle.model.proofs.Laws.RoundStores.{HiddenAddress, hides-addresses}
 use Rattle.model.proofs.Views.Agreement.{none, more, along-append, agree-apply}
-use Rattle.model.proofs.Views.Shown.{isShown-below, isShown-slotStart, isShown-slot-block, isShown-rootAddress, ShowSame, StoreSame, TraceSame, blockAt-alike, Hidden, along-hidden}
+use Rattle.model.proofs.Views.Shown.{isShown-below, isShown-slotStart, isShown-slot-block}
+use Rattle.model.proofs.Views.Shown.{isShown-rootAddress, ShowSame, StoreSame, TraceSame}
+use Rattle.model.proofs.Views.Shown.{blockAt-alike, Hidden, along-hidden}
 
 -- ---- the hidden halves ----
 
@@ -33,7 +37,8 @@ pub hides-alike :
     TraceSame g xs ys
 hides-alike g slot h xs ys p q =
     along-hidden g xs ys (p .runs ∙ sym (q .runs))
-    (all-map (HiddenAddress g slot) (Hidden g) (addresses xs) hidden (hides-addresses g slot xs p)) (p .whole) (q .whole)
+    (all-map (HiddenAddress g slot) (Hidden g) (addresses xs) hidden (hides-addresses g slot xs p)) (p .whole)
+    (q .whole)
   where
     hidden : (address : DiskAddress) → HiddenAddress g slot address → Hidden g address
     hidden address (inl e) = rw e (rootAddress-lt g, isShown-rootAddress g)
@@ -70,10 +75,12 @@ module _ (g : Geometry) (f : Fits g) (disk other : Bytes) (same : ShowSame g dis
 
   pub mapEntry-alike : (number : ℕ) → number < g .publics → mapEntry g disk number ≡ mapEntry g other number
   mapEntry-alike number h =
-      mapEntry-block g disk other number (below-alike (mapAddress g number) (omega (arith, mapAddress-lt g f number h)))
+      mapEntry-block g disk other number
+      (below-alike (mapAddress g number) (omega (arith, mapAddress-lt g f number h)))
 
   pub isAllocated-alike : (slot : ℕ) → slot < g .slots → isAllocated g disk slot ≡ isAllocated g other slot
-  isAllocated-alike slot h = isAllocated-block g disk other slot (below-alike (bitAddress g slot) (bitAddress-lt g f slot h))
+  isAllocated-alike slot h =
+      isAllocated-block g disk other slot (below-alike (bitAddress g slot) (bitAddress-lt g f slot h))
 
   bitStore-alike :
       (slot : ℕ) (isSet : Bool) → slot < g .slots →
@@ -81,14 +88,16 @@ module _ (g : Geometry) (f : Fits g) (disk other : Bytes) (same : ShowSame g dis
   unfolding bitmapWith
   bitStore-alike slot isSet h =
       let l = bitAddress-lt g f slot h in
-      store-alike g (bitAddress g slot) (bitmapWith g disk slot isSet) (bitmapWith g other slot isSet) (omega arith)
+      store-alike g (bitAddress g slot) (bitmapWith g disk slot isSet) (bitmapWith g other slot isSet)
+      (omega arith)
       (length-bitmapWith g f disk (same .whole) slot h isSet) (rw (below-alike (bitAddress g slot) l))
 
   headerStore-alike : (slot : ℕ) → StoreSame g (headerStore g disk slot) (headerStore g other slot)
   headerStore-alike slot =
       let sized = blockAt-whole g f disk (same .whole) 0 (omega arith) in
       store-alike g 0 _ _ (omega arith)
-      (length-setEntry 5 (nextSlot g slot) (blockAt (g .blockSize) disk 0) (omega (arith, f .size-low)) ∙ sized)
+      (length-setEntry 5 (nextSlot g slot) (blockAt (g .blockSize) disk 0) (omega (arith, f .size-low))
+      ∙ sized)
       (ap (setEntry 5 (nextSlot g slot)) (below-alike 0 (omega arith)))
 
   mapStore-alike :
@@ -96,7 +105,8 @@ module _ (g : Geometry) (f : Fits g) (disk other : Bytes) (same : ShowSame g dis
       StoreSame g (mapStore g disk number slot) (mapStore g other number slot)
   mapStore-alike number slot h =
       let l = mapAddress-lt g f number h in
-      store-alike g (mapAddress g number) _ _ (omega arith) (length-mapBlockWith g f disk (same .whole) number h (slotStart g slot))
+      store-alike g (mapAddress g number) _ _ (omega arith)
+      (length-mapBlockWith g f disk (same .whole) number h (slotStart g slot))
       (ap (setEntry (number % fanout g) (slotStart g slot)) (below-alike (mapAddress g number) (omega arith)))
 
   publicStore-alike :
@@ -113,7 +123,8 @@ module _ (g : Geometry) (f : Fits g) (disk other : Bytes) (same : ShowSame g dis
 
 -- ---- a round ----
 
-module _ (g : Geometry) (f : Fits g) (disk other : Bytes) (same : ShowSame g disk other) (number slot : ℕ) (content : Bytes)
+module _ (g : Geometry) (f : Fits g) (disk other : Bytes) (same : ShowSame g disk other) (number slot : ℕ)
+    (content : Bytes)
     (known : number < g .publics) (inside : slot < g .slots) (sized : length content ≡ g .blockSize) where
   bitStores-alike :
       (entry : DiskAddress) → OldPlace g entry →
@@ -124,7 +135,9 @@ module _ (g : Geometry) (f : Fits g) (disk other : Bytes) (same : ShowSame g dis
       new : StoreSame g (bitStore g disk slot true) (bitStore g other slot true)
       new = bitStore-alike g f disk other same slot true inside
 
-      after : ShowSame g (apply (g .blockSize) (bitStore g disk slot true ∷ []) disk) (apply (g .blockSize) (bitStore g other slot true ∷ []) other)
+      after :
+          ShowSame g (apply (g .blockSize) (bitStore g disk slot true ∷ []) disk)
+          (apply (g .blockSize) (bitStore g other slot true ∷ []) other)
       after = agree-apply (shownOf g) (g .blockSize) (blockCount g) (more new none) same
 
       chosen : (b : Bool) {xs ys : Trace} → TraceSame g xs ys → TraceSame g (cond b [] xs) (cond b [] ys)
@@ -132,11 +145,17 @@ module _ (g : Geometry) (f : Fits g) (disk other : Bytes) (same : ShowSame g dis
       chosen false h = h
 
       by : OldPlace g entry →
-          TraceSame g (cond (eqb entry 0) [] (bitStore g (apply (g .blockSize) (bitStore g disk slot true ∷ []) disk) (slotOf g entry) false ∷ []))
-          (cond (eqb entry 0) [] (bitStore g (apply (g .blockSize) (bitStore g other slot true ∷ []) other) (slotOf g entry) false ∷ []))
+          TraceSame g
+          (cond (eqb entry 0) []
+          (bitStore g (apply (g .blockSize) (bitStore g disk slot true ∷ []) disk)
+          (slotOf g entry) false ∷ []))
+          (cond (eqb entry 0) []
+          (bitStore g (apply (g .blockSize) (bitStore g other slot true ∷ []) other)
+          (slotOf g entry) false ∷ []))
       by (inl e) = rw (eq-eqb entry 0 e) none
       by (inr block) =
-          chosen (eqb entry 0) (more (bitStore-alike g f _ _ after (slotOf g entry) false (block .slot-inside)) none)
+          chosen (eqb entry 0)
+          (more (bitStore-alike g f _ _ after (slotOf g entry) false (block .slot-inside)) none)
 
   mapStores-alike :
       (choice : PublicChoice) → OldPlace g (mapEntry g disk number) →
@@ -144,14 +163,17 @@ module _ (g : Geometry) (f : Fits g) (disk other : Bytes) (same : ShowSame g dis
   unfolding mapStores
   mapStores-alike keepPublic old = none
   mapStores-alike writePublic old =
-      let bits : TraceSame g (bitStores g disk (mapEntry g disk number) slot) (bitStores g other (mapEntry g other number) slot) =
-      rw (← (mapEntry-alike g f disk other same number known)) (bitStores-alike (mapEntry g disk number) old) in
+      let bits : TraceSame g (bitStores g disk (mapEntry g disk number) slot)
+      (bitStores g other (mapEntry g other number) slot) =
+      rw (← (mapEntry-alike g f disk other same number known))
+      (bitStores-alike (mapEntry g disk number) old) in
       more (mapStore-alike g f disk other same number slot known) bits
 
   pub roundTrace-alike :
       (choice : PublicChoice) (xs ys : Trace) → OldPlace g (mapEntry g disk number) →
       Hides g slot xs → Hides g slot ys →
-      TraceSame g (roundTrace choice g disk number slot content xs) (roundTrace choice g other number slot content ys)
+      TraceSame g (roundTrace choice g disk number slot content xs)
+      (roundTrace choice g other number slot content ys)
   unfolding roundTrace
   roundTrace-alike choice xs ys old p q =
       more (publicStore-alike g f disk other same choice slot content inside sized)

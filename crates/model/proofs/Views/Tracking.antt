@@ -11,7 +11,8 @@ use Rattle.model.specs.Blocks.{Bytes}
 use Rattle.model.specs.Layout.{Drive, geometryIn, headIn, mapEntry, isAllocated}
 use Rattle.model.specs.View.{viewOf}
 use Rattle.model.specs.Simulator.{Simulator, entriesFrom, allocatedFrom, simulatorOf}
-use Rattle.model.proofs.Views.View.{entryAt-viewOf, mapEntry-viewOf, isAllocated-viewOf, geometryIn-viewOf}
+use Rattle.model.proofs.Views.View.{entryAt-viewOf, mapEntry-viewOf, isAllocated-viewOf}
+use Rattle.model.proofs.Views.View.{geometryIn-viewOf}
 
 -- ---- entries and marks ----
 
@@ -69,7 +70,7 @@ entriesFrom-ext :
 unfolding entriesFrom
 entriesFrom-ext g disk other e number zero h = refl
 entriesFrom-ext g disk other e number (suc count) h =
-    ap₂ {C = List ℕ} (λ (x : ℕ) (xs : List ℕ). x ∷ xs) (e number (omega arith)) (entriesFrom-ext g disk other e (suc number) count (omega arith))
+    rw (e number (omega arith), entriesFrom-ext g disk other e (suc number) count (omega arith))
 
 allocatedFrom-ext :
     (g : Geometry) (disk other : Bytes) →
@@ -79,7 +80,7 @@ allocatedFrom-ext :
 unfolding allocatedFrom
 allocatedFrom-ext g disk other e slot zero h = refl
 allocatedFrom-ext g disk other e slot (suc count) h =
-    ap₂ {C = List Bool} (λ (x : Bool) (xs : List Bool). x ∷ xs) (e slot (omega arith)) (allocatedFrom-ext g disk other e (suc slot) count (omega arith))
+    rw (e slot (omega arith), allocatedFrom-ext g disk other e (suc slot) count (omega arith))
 
 -- ---- the simulator of a disk ----
 
@@ -100,7 +101,8 @@ trackerOf disk = tracked (geometryIn disk) (headIn disk) disk
 pub simulator-ext :
     {sim other : Simulator} → sim .geometry ≡ other .geometry → sim .head ≡ other .head →
     sim .entries ≡ other .entries → sim .allocated ≡ other .allocated → sim ≡ other
-simulator-ext {sim} {other} p q r s = λ i. record { geometry = p i; head = q i; entries = r i; allocated = s i }
+simulator-ext {sim} {other} p q r s =
+    λ i. record { geometry = p i; head = q i; entries = r i; allocated = s i }
 
 -- the view tells as much as the disk
 pub simulatorOf-viewOf :

@@ -14,7 +14,8 @@ use Rattle.model.specs.Geometry.{Geometry}
 use Rattle.model.specs.Blocks.{Bytes, DiskAddress}
 use Rattle.model.specs.Layout.{slotOf, mapEntry, isAllocated}
 use Rattle.model.specs.Simulator.{entriesFrom, allocatedFrom}
-use Rattle.model.proofs.Views.Tracking.{length-entriesFrom, length-allocatedFrom, getD-entries, getD-allocated}
+use Rattle.model.proofs.Views.Tracking.{length-entriesFrom, length-allocatedFrom, getD-entries}
+use Rattle.model.proofs.Views.Tracking.{getD-allocated}
 
 -- a list that differs from another at one index
 set-of-getD :
@@ -24,7 +25,8 @@ set-of-getD :
     ((i : ℕ) → i < length ys → i ≢ index → getD xs i default ≡ getD ys i default) →
     xs ≡ set ys index x
 set-of-getD default xs ys index x e h here others =
-    ext-getD default xs (set ys index x) (e ∙ sym (length-set ys index x)) (λ i l. at i (rw e at l) (eq-cases i index))
+    ext-getD default xs (set ys index x) (e ∙ sym (length-set ys index x))
+    (λ i l. at i (rw e at l) (eq-cases i index))
   where
     at :
         (i : ℕ) → i < length ys → (i ≡ index) ⊎ (i ≢ index) →
@@ -40,8 +42,10 @@ module _ (g : Geometry) (disk after : Bytes) where
   entriesFrom-after number value h here others =
       let sized = length-entriesFrom g disk 0 (g .publics) in
       set-of-getD 0 (entriesFrom g after 0 (g .publics)) (entriesFrom g disk 0 (g .publics)) number value
-      (length-entriesFrom g after 0 (g .publics) ∙ sym sized) (rw sized h) (getD-entries g after number h ∙ here)
-      (λ i l ne. let k : i < g .publics = rw sized at l in getD-entries g after i k ∙ others i k ne ∙ sym (getD-entries g disk i k))
+      (length-entriesFrom g after 0 (g .publics) ∙ sym sized) (rw sized h)
+      (getD-entries g after number h ∙ here)
+      (λ i l ne. let k : i < g .publics = rw sized at l in getD-entries g after i k ∙ others i k ne
+      ∙ sym (getD-entries g disk i k))
 
   -- the marks with one slot's mark set
   allocatedFrom-set :
@@ -51,15 +55,18 @@ module _ (g : Geometry) (disk after : Bytes) where
       allocatedFrom g after 0 (g .slots) ≡ set marks slot isSet
   allocatedFrom-set marks slot isSet sized h here others =
       set-of-getD false (allocatedFrom g after 0 (g .slots)) marks slot isSet
-      (length-allocatedFrom g after 0 (g .slots) ∙ sym sized) (rw sized h) (getD-allocated g after slot h ∙ here)
+      (length-allocatedFrom g after 0 (g .slots) ∙ sym sized) (rw sized h)
+      (getD-allocated g after slot h ∙ here)
       (λ i l ne. let k : i < g .slots = rw sized at l in getD-allocated g after i k ∙ others i k ne)
 
   pub allocatedFrom-after :
       (entry : DiskAddress) (last : ℕ) → last < g .slots → (entry ≢ 0 → slotOf g entry < g .slots) →
       isAllocated g after last ≡ true → (entry ≢ 0 → isAllocated g after (slotOf g entry) ≡ false) →
-      ((slot : ℕ) → slot < g .slots → slot ≢ last → (entry ≢ 0 → slot ≢ slotOf g entry) → isAllocated g after slot ≡ isAllocated g disk slot) →
+      ((slot : ℕ) → slot < g .slots → slot ≢ last →
+      (entry ≢ 0 → slot ≢ slotOf g entry) → isAllocated g after slot ≡ isAllocated g disk slot) →
       allocatedFrom g after 0 (g .slots) ≡
-      set (cond (eqb entry 0) (allocatedFrom g disk 0 (g .slots)) (set (allocatedFrom g disk 0 (g .slots)) (slotOf g entry) false)) last true
+      set (cond (eqb entry 0) (allocatedFrom g disk 0 (g .slots))
+      (set (allocatedFrom g disk 0 (g .slots)) (slotOf g entry) false)) last true
   allocatedFrom-after entry last h old-inside new old others = by (eq-cases entry 0)
     where
       marks : List Bool
@@ -77,7 +84,8 @@ module _ (g : Geometry) (disk after : Bytes) where
           (λ slot l ne. others slot l ne (λ z. absurd (z e)) ∙ sym (getD-allocated g disk slot l)))
       by (inr z) =
           rw (ne-eqb entry 0 z)
-          (allocatedFrom-set (set marks (slotOf g entry) false) last true (length-set marks (slotOf g entry) false ∙ sized) h new
+          (allocatedFrom-set (set marks (slotOf g entry) false) last true
+          (length-set marks (slotOf g entry) false ∙ sized) h new
           (λ slot l ne. at slot l ne (eq-cases slot (slotOf g entry))))
         where
           at :

@@ -5,11 +5,11 @@ pub mod View
 pub mod Tracking
 pub mod Answers
 pub mod Updates
-pub mod Sides
-pub mod SideRuns
 pub mod Allowed
-pub mod Drives
 pub mod Writes
 pub mod Follows
+pub mod Sides
+pub mod SideRuns
+pub mod Drives
 pub mod SideWrites
 pub mod CallLists

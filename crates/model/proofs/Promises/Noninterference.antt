@@ -45,14 +45,14 @@ simulated disk calls e =
     let twins = twins-of-alike disk disk (alike-refl disk e) in
     record {
       by-simulator =
-        reportsOf-seenOfAll calls disk e
-        ∙ ap (λ (sim : Simulator). told sim (lengthsOfAll (publicParts calls)))
-        (sym (simulatorOf-viewOf disk (drive-of-refusal disk e)));
+          reportsOf-seenOfAll calls disk e
+          ∙ ap (λ (sim : Simulator). told sim (lengthsOfAll (publicParts calls)))
+          (sym (simulatorOf-viewOf disk (drive-of-refusal disk e)));
       without-offers =
-        plainCalls-same calls disk disk twins .seen-same
-        ∙ ap (λ (parts : List PublicCall). seenOfAll disk (plainCalls parts))
-        (sym (publicParts-bareCalls calls))
-        ∙ sym (plainCalls-same (bareCalls calls) disk disk twins .seen-same);
+          plainCalls-same calls disk disk twins .seen-same
+          ∙ ap (λ (parts : List PublicCall). seenOfAll disk (plainCalls parts))
+          (sym (publicParts-bareCalls calls))
+          ∙ sym (plainCalls-same (bareCalls calls) disk disk twins .seen-same);
     }
 
 -- ---- two drives ----
@@ -64,11 +64,11 @@ noninterference disk other calls others alike parts =
     let there = plainCalls-same others other disk (twins-of-alike other disk (alike-sym alike)) in
     record {
       same-seen =
-        here .seen-same ∙ ap (λ (ps : List PublicCall). seenOfAll disk (plainCalls ps)) parts
-        ∙ sym (there .seen-same);
+          here .seen-same ∙ ap (λ (ps : List PublicCall). seenOfAll disk (plainCalls ps)) parts
+          ∙ sym (there .seen-same);
       here = simulated disk calls (alike .accepted);
       there = simulated other others (alike .other-accepted);
       alike-after =
-        alike-through (alike-of-twins _ _ (here .twins-after))
-        (rw (← parts) at (alike-of-twins _ _ (there .twins-after)));
+          alike-through (alike-of-twins _ _ (here .twins-after))
+          (rw (← parts) at (alike-of-twins _ _ (there .twins-after)));
     }

@@ -56,12 +56,12 @@ module _ (shows : DiskAddress → Bytes → Bytes) (width count : ℕ) where
   agree-one {disk} {other} {x} {y} a b =
       record {
         whole =
-          length-setBlock width disk count (a .whole) (x .address) (b .inside) (x .content) (b .sized)
-          ∙ a .whole;
+            length-setBlock width disk count (a .whole) (x .address) (b .inside) (x .content) (b .sized)
+            ∙ a .whole;
         other-whole =
-          length-setBlock width other count (a .other-whole) (y .address) inside-other (y .content)
-          (b .other-sized)
-          ∙ a .other-whole;
+            length-setBlock width other count (a .other-whole) (y .address) inside-other (y .content)
+            (b .other-sized)
+            ∙ a .other-whole;
         same-shown = λ address. by address (eq-cases address (x .address));
       }
     where

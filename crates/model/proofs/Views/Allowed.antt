@@ -53,8 +53,8 @@ place-of-passed g disk number size p =
       known = leb-false (g .publics) number (p .0);
       sized = eqb-true size (g .blockSize) (not-false (eqb size (g .blockSize)) (p .1 .0));
       place = ⊎-elim (λ e. inl (eqb-true entry 0 e)) (λ e. inr e)
-        (or-cases (eqb entry 0) (isPlace g disk entry)
-        (not-false (eqb entry 0 || isPlace g disk entry) (p .1 .1 .0)));
+          (or-cases (eqb entry 0) (isPlace g disk entry)
+          (not-false (eqb entry 0 || isPlace g disk entry) (p .1 .1 .0)));
     }
 
 rounds-of-passed :

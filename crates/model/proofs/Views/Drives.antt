@@ -41,9 +41,9 @@ twins-of-alike disk other a =
       accepted = a .accepted;
       other-accepted = a .other-accepted;
       show-same =
-        showSame-of-viewFrom (geometryIn disk) disk other (here .whole) (sym (a .same-length) ∙ here .whole)
-        (a .same-view
-        ∙ ap (λ (g : Geometry). viewFrom g other 0 (blockCount g)) (geometry-ext other disk same-entry));
+          showSame-of-viewFrom (geometryIn disk) disk other (here .whole) (sym (a .same-length) ∙ here .whole)
+          (a .same-view
+          ∙ ap (λ (g : Geometry). viewFrom g other 0 (blockCount g)) (geometry-ext other disk same-entry));
     }
   where
     here : Drive (geometryIn disk) disk

@@ -155,17 +155,17 @@ module _ (disk : Bytes) (accepted : driveRefusal disk ≡ 0) (number : ℕ) (con
         let fits : length (addresses (run .trace)) ≤ length list = omega (arith, allowed .enough-room) in
         record {
           told-same =
-            told-ext refl
-            (ran .counted ∙ sym (simulatedRounds-suc disk accepted number (place .known) earlier rounds))
-            (count ∙ ap length stores)
-            (ap (λ (n : ℕ). take n (over 0 (addresses (run .trace)) list)) count
-            ∙ take-over (addresses (run .trace)) list fits ∙ stores)
-            ∙ sym (toldOf-done (trackerOf disk) call yes);
+              told-ext refl
+              (ran .counted ∙ sym (simulatedRounds-suc disk accepted number (place .known) earlier rounds))
+              (count ∙ ap length stores)
+              (ap (λ (n : ℕ). take n (over 0 (addresses (run .trace)) list)) count
+              ∙ take-over (addresses (run .trace)) list fits ∙ stores)
+              ∙ sym (toldOf-done (trackerOf disk) call yes);
           accepted-after = accepted-final disk accepted number (place .known) earlier rounds _ (ran .wrote);
           geometry-after = geometryIn-final disk accepted number (place .known) earlier rounds _ (ran .wrote);
           tracker-after =
-            trackerOf-final disk accepted number (place .known) earlier rounds _ (ran .wrote) (place .place)
-            ∙ sym (simulatorAfter-done (trackerOf disk) call yes);
+              trackerOf-final disk accepted number (place .known) earlier rounds _ (ran .wrote) (place .place)
+              ∙ sym (simulatorAfter-done (trackerOf disk) call yes);
         }
 
   pub written-follows :

@@ -114,7 +114,7 @@ along-hidden g (x ∷ xs) (y ∷ ys) e h p q =
       sized = p .0;
       other-sized = q .0;
       same-shown =
-        shownOf-hidden g (x .address) (x .content) (h .0 .1)
-        ∙ sym (shownOf-hidden g (x .address) (y .content) (h .0 .1));
+          shownOf-hidden g (x .address) (x .content) (h .0 .1)
+          ∙ sym (shownOf-hidden g (x .address) (y .content) (h .0 .1));
     })
     (along-hidden g xs ys rest (h .1) (p .1) (q .1))

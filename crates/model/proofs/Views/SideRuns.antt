@@ -114,8 +114,10 @@ module _ (g : Geometry) (f : Fits g) (number : ℕ) (content : Bytes) (known : n
           TraceSame g (runFrom (suc most) g number content slot random disk state .trace)
           (runFrom (suc most) g number content slot others other stateOther .trace)
       by (inl e) =
-          rw (runFrom-kept most g number content slot random disk state e,
-            runFrom-kept most g number content slot others other stateOther (mark ∙ e))
+          rw (
+            runFrom-kept most g number content slot random disk state e,
+            runFrom-kept most g number content slot others other stateOther (mark ∙ e),
+          )
           (along-append (shownOf g) (g .blockSize) (blockCount g) (round keepPublic)
           (later _ _ (nextSlot g slot) _ _ _ _ (more .before)
           (agree-apply (shownOf g) (g .blockSize) (blockCount g) (round keepPublic) same)
@@ -147,8 +149,10 @@ module _ (g : Geometry) (f : Fits g) (number : ℕ) (content : Bytes) (known : n
           more : OneMore (roundsTo most (isAllocated g disk) g (nextSlot g slot)) earlier
           more = oneMore-of _ earlier (sym (roundsTo-taken most (isAllocated g disk) g slot e) ∙ rounds)
       by (inr e) =
-          rw (runFrom-last most g number content slot random disk state e,
-            runFrom-last most g number content slot others other stateOther (mark ∙ e))
+          rw (
+            runFrom-last most g number content slot random disk state e,
+            runFrom-last most g number content slot others other stateOther (mark ∙ e),
+          )
           (along-append (shownOf g) (g .blockSize) (blockCount g) (round writePublic) none)
 
   pub runFrom-alike : (most : ℕ) → RunsAlike most

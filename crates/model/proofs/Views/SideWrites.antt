@@ -94,11 +94,9 @@ module _ (disk other : Bytes) (twins : Twins disk other) (number : ℕ) (content
     unfolding writeRun
     trace-alike =
         subst (λ (r : Run). TraceSame g (run .trace) (r .trace)) runOther-is
-        (runFrom-alike g (sound .sized .fits) number content (place .known) (place .sized)
-        (g .slots) disk other (headIn disk) random
-        others (startState (offeredWrites g offer)) (startState (offeredWrites g offerOther))
-        (roundCount g disk - 1)
-        (twins .show-same) (sound .head-inside) (old-of-placed g disk number (place .place)) rounds
+        (runFrom-alike g (sound .sized .fits) number content (place .known) (place .sized) (g .slots) disk other
+        (headIn disk) random others (startState (offeredWrites g offer))
+        (startState (offeredWrites g offerOther)) (roundCount g disk - 1) (twins .show-same) (sound .head-inside) (old-of-placed g disk number (place .place)) rounds
         (supplied random (allowed .enough-random) offer)
         (supplied others (rw same-random at (allowed .enough-random)) offerOther))
 
@@ -114,8 +112,7 @@ module _ (disk other : Bytes) (twins : Twins disk other) (number : ℕ) (content
 
 module _ (disk other : Bytes) (twins : Twins disk other) (number : ℕ) (content random others : Bytes)
     (same-random : length random ≡ length others) (list lists : List DiskAddress)
-    (same-room : length list ≡ length lists)
-    (offer offerOther : Option HiddenWrite) where
+    (same-room : length list ≡ length lists) (offer offerOther : Option HiddenWrite) where
   -- the drives that the two writes leave
   abbrev after : Bytes
   after = writtenDisk (written disk number content random (length list) offer) disk
@@ -131,8 +128,9 @@ module _ (disk other : Bytes) (twins : Twins disk other) (number : ℕ) (content
         accepted = here .accepted-after;
         other-accepted = there .accepted-after;
         show-same =
-          subst (λ (g : Geometry). ShowSame g after afterOther) (sym (here .geometry-after))
-          (⊎-elim done refused (eq-cases (writeRefusal disk number content (length random) (length list)) 0));
+            subst (λ (g : Geometry). ShowSame g after afterOther) (sym (here .geometry-after))
+            (⊎-elim done refused
+            (eq-cases (writeRefusal disk number content (length random) (length list)) 0));
       }
     where
       refusals :

@@ -1,6 +1,6 @@
 -- One round side by side on two disks that show the same: whatever the two hidden halves store, the two
 -- traces are side by side, so that the disks show the same afterwards. Assumes nothing.
-use mathlib.Core.Path.{_≡_, refl, sym, ap, _∙_}
+use mathlib.Core.Path.{_≡_, refl, sym, ap, _∙_, subst}
 use mathlib.Core.Logic.{inl, inr}
 use mathlib.Core.Bool.{Bool, true, false, cond}
 use mathlib.Core.List.{[], _∷_}
@@ -32,7 +32,7 @@ use Rattle.model.proofs.Views.Shown.{blockAt-alike, Hidden, along-hidde
 
 -- ---- the hidden halves ----
 
-pub hides-alike :
+hides-alike :
     (g : Geometry) (slot : ℕ) → slot < g .slots → (xs ys : Trace) → Hides g slot xs → Hides g slot ys →
     TraceSame g xs ys
 hides-alike g slot h xs ys p q =
@@ -50,8 +50,7 @@ hides-alike g slot h xs ys p q =
 -- one content stored at one address
 store-alike :
     (g : Geometry) (address : DiskAddress) (content other : Bytes) → address < blockCount g →
-    length content ≡ g .blockSize →
-    content ≡ other → StoreSame g (store address content) (store address other)
+    length content ≡ g .blockSize → content ≡ other → StoreSame g (store address content) (store address other)
 store-alike g address content other h sized e =
     record {
       same-address = refl;
@@ -89,8 +88,8 @@ module _ (g : Geometry) (f : Fits g) (disk other : Bytes) (same : ShowSame g dis
   bitStore-alike slot isSet h =
       let l = bitAddress-lt g f slot h in
       store-alike g (bitAddress g slot) (bitmapWith g disk slot isSet) (bitmapWith g other slot isSet)
-      (omega arith)
-      (length-bitmapWith g f disk (same .whole) slot h isSet) (rw (below-alike (bitAddress g slot) l))
+      (omega arith) (length-bitmapWith g f disk (same .whole) slot h isSet)
+      (rw (below-alike (bitAddress g slot) l))
 
   headerStore-alike : (slot : ℕ) → StoreSame g (headerStore g disk slot) (headerStore g other slot)
   headerStore-alike slot =
@@ -124,8 +123,8 @@ module _ (g : Geometry) (f : Fits g) (disk other : Bytes) (same : ShowSame g dis
 -- ---- a round ----
 
 module _ (g : Geometry) (f : Fits g) (disk other : Bytes) (same : ShowSame g disk other) (number slot : ℕ)
-    (content : Bytes)
-    (known : number < g .publics) (inside : slot < g .slots) (sized : length content ≡ g .blockSize) where
+    (content : Bytes) (known : number < g .publics) (inside : slot < g .slots)
+    (sized : length content ≡ g .blockSize) where
   bitStores-alike :
       (entry : DiskAddress) → OldPlace g entry →
       TraceSame g (bitStores g disk entry slot) (bitStores g other entry slot)
@@ -135,9 +134,10 @@ module _ (g : Geometry) (f : Fits g) (disk other : Bytes) (same : ShowSame g dis
       new : StoreSame g (bitStore g disk slot true) (bitStore g other slot true)
       new = bitStore-alike g f disk other same slot true inside
 
-      after :
-          ShowSame g (apply (g .blockSize) (bitStore g disk slot true ∷ []) disk)
-          (apply (g .blockSize) (bitStore g other slot true ∷ []) other)
+      withNew : Bytes → Bytes
+      withNew bytes = apply (g .blockSize) (bitStore g bytes slot true ∷ []) bytes
+
+      after : ShowSame g (withNew disk) (withNew other)
       after = agree-apply (shownOf g) (g .blockSize) (blockCount g) (more new none) same
 
       chosen : (b : Bool) {xs ys : Trace} → TraceSame g xs ys → TraceSame g (cond b [] xs) (cond b [] ys)
@@ -145,13 +145,8 @@ module _ (g : Geometry) (f : Fits g) (disk other : Bytes) (same : ShowSame g dis
       chosen false h = h
 
       by : OldPlace g entry →
-          TraceSame g
-          (cond (eqb entry 0) []
-          (bitStore g (apply (g .blockSize) (bitStore g disk slot true ∷ []) disk)
-          (slotOf g entry) false ∷ []))
-          (cond (eqb entry 0) []
-          (bitStore g (apply (g .blockSize) (bitStore g other slot true ∷ []) other)
-          (slotOf g entry) false ∷ []))
+          TraceSame g (cond (eqb entry 0) [] (bitStore g (withNew disk) (slotOf g entry) false ∷ []))
+          (cond (eqb entry 0) [] (bitStore g (withNew other) (slotOf g entry) false ∷ []))
       by (inl e) = rw (eq-eqb entry 0 e) none
       by (inr block) =
           chosen (eqb entry 0)
@@ -163,11 +158,10 @@ module _ (g : Geometry) (f : Fits g) (disk other : Bytes) (same : ShowSame g dis
   unfolding mapStores
   mapStores-alike keepPublic old = none
   mapStores-alike writePublic old =
-      let bits : TraceSame g (bitStores g disk (mapEntry g disk number) slot)
-      (bitStores g other (mapEntry g other number) slot) =
-      rw (← (mapEntry-alike g f disk other same number known))
-      (bitStores-alike (mapEntry g disk number) old) in
-      more (mapStore-alike g f disk other same number slot known) bits
+      more (mapStore-alike g f disk other same number slot known)
+      (subst (λ (entry : ℕ). TraceSame g (bitStores g disk (mapEntry g disk number) slot)
+      (bitStores g other entry slot))
+      (mapEntry-alike g f disk other same number known) (bitStores-alike (mapEntry g disk number) old))
 
   pub roundTrace-alike :
       (choice : PublicChoice) (xs ys : Trace) → OldPlace g (mapEntry g disk number) →

@@ -1,8 +1,7 @@
--- The simulator of an accepted drive: its entries, marks and rounds are the disk's, and so are its answers.
--- Assumes nothing.
-use mathlib.Core.Path.{_≡_, refl, ap, ap₂, _∙_}
-use mathlib.Core.Bool.{Bool, false}
-use mathlib.Core.List.{List, _∷_}
+-- What the simulator keeps, read from a disk: its entries and marks are the disk's, and the view of an accepted
+-- drive tells it as much as the disk. Assumes nothing.
+use mathlib.Core.Path.{_≡_, refl, ap, _∙_}
+use mathlib.Core.Bool.{false}
 use Prim.Native.Nat.{ℕ, zero, suc, _+_, _≤_, _<_}
 use native.Mathlib.Omega.{arith}
 use lib.ListN.{length, getD}

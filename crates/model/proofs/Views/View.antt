@@ -25,11 +25,10 @@ use Rattle.model.proofs.Views.Shown.{ShowSame}
 -- two lists joined of parts of the same lengths
 append-split :
     {A : Type 0} (xs ys us vs : List A) → length xs ≡ length ys → xs ++ us ≡ ys ++ vs → (xs ≡ ys) × (us ≡ vs)
-append-split xs ys us vs e h =
-    (
-      sym (take-at xs us (length ys) e) ∙ ap (take (length ys)) h ∙ take-at ys vs (length ys) refl,
-      sym (drop-at xs us (length ys) e) ∙ ap (drop (length ys)) h ∙ drop-at ys vs (length ys) refl,
-    )
+append-split xs ys us vs e h = (
+  sym (take-at xs us (length ys) e) ∙ ap (take (length ys)) h ∙ take-at ys vs (length ys) refl,
+  sym (drop-at xs us (length ys) e) ∙ ap (drop (length ys)) h ∙ drop-at ys vs (length ys) refl,
+)
 
 -- what an address shows of a disk
 abbrev shownAt : Geometry → (disk : Bytes) → DiskAddress → Bytes
@@ -52,7 +51,7 @@ module _ (g : Geometry) (disk : Bytes) (whole : length disk ≡ blockCount g * g
       by false block e = refl
 
   -- before the root the view stands as the disk does
-  pub blockAt-viewFrom :
+  blockAt-viewFrom :
       (count address index : ℕ) → index < count → address + index < rootAddress g →
       blockAt (g .blockSize) (viewFrom g disk address count) index ≡
       blockAt (g .blockSize) disk (address + index)
@@ -118,11 +117,12 @@ module _ (g : Geometry) (disk other : Bytes) where
           whole = whole;
           other-whole = other-whole;
           same-shown = λ address. ⊎-elim
-            (λ h. shownAt-of-viewFrom (blockCount g) 0 address (omega arith) e (omega arith) (omega arith))
-            (λ h. nothing disk address h ∙ sym (nothing other address h)) (lt-cases address (blockCount g));
+              (λ h. shownAt-of-viewFrom (blockCount g) 0 address (omega arith) e (omega arith) (omega arith))
+              (λ h. nothing disk address h ∙ sym (nothing other address h)) (lt-cases address (blockCount g));
         }
       where
-        nothing : (bytes : Bytes) (address : DiskAddress) → blockCount g ≤ address → shownAt g bytes address ≡ []
+        nothing :
+            (bytes : Bytes) (address : DiskAddress) → blockCount g ≤ address → shownAt g bytes address ≡ []
         nothing bytes address h =
             shownOf-hidden g address (blockAt (g .blockSize) bytes address) (isShown-past g address h)
 

@@ -94,9 +94,11 @@ module _ (disk other : Bytes) (twins : Twins disk other) (number : ℕ) (content
     unfolding writeRun
     trace-alike =
         subst (λ (r : Run). TraceSame g (run .trace) (r .trace)) runOther-is
-        (runFrom-alike g (sound .sized .fits) number content (place .known) (place .sized) (g .slots) disk other
+        (runFrom-alike g (sound .sized .fits) number content (place .known) (place .sized)
+        (g .slots) disk other
         (headIn disk) random others (startState (offeredWrites g offer))
-        (startState (offeredWrites g offerOther)) (roundCount g disk - 1) (twins .show-same) (sound .head-inside) (old-of-placed g disk number (place .place)) rounds
+        (startState (offeredWrites g offerOther)) (roundCount g disk - 1) (twins .show-same)
+        (sound .head-inside) (old-of-placed g disk number (place .place)) rounds
         (supplied random (allowed .enough-random) offer)
         (supplied others (rw same-random at (allowed .enough-random)) offerOther))
 

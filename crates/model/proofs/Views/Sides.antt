@@ -50,7 +50,8 @@ hides-alike g slot h xs ys p q =
 -- one content stored at one address
 store-alike :
     (g : Geometry) (address : DiskAddress) (content other : Bytes) → address < blockCount g →
-    length content ≡ g .blockSize → content ≡ other → StoreSame g (store address content) (store address other)
+    length content ≡ g .blockSize → content ≡ other →
+    StoreSame g (store address content) (store address other)
 store-alike g address content other h sized e =
     record {
       same-address = refl;

@@ -1,5 +1,5 @@
--- What the simulator keeps, read from a disk: its entries and marks are the disk's, and the view of an accepted
--- drive tells it as much as the disk. Assumes nothing.
+-- What the simulator keeps, read from a disk: its entries and marks are the disk's, and the view of an
+-- accepted drive tells it as much as the disk. Assumes nothing.
 use mathlib.Core.Path.{_≡_, refl, ap, _∙_}
 use mathlib.Core.Bool.{false}
 use Prim.Native.Nat.{ℕ, zero, suc, _+_, _≤_, _<_}

@@ -3,3 +3,4 @@ pub mod Figures
 pub mod Limits
 pub mod Refusals
 pub mod BufferBounds
+pub mod Noninterference

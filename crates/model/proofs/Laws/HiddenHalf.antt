@@ -1,7 +1,6 @@
 -- Laws of a round's hidden half: the table's row of a slot by the rule, and that whatever the disk, the
--- hidden
--- writes and the random bytes, the slot's hidden blocks are stored in order and then the root, each whole.
--- Assumes nothing.
+-- hidden writes and the random bytes, the slot's hidden blocks are stored in order and then the root, each
+-- whole. Assumes nothing.
 use mathlib.Core.Path.{_≡_, ap}
 use mathlib.Core.Bool.{cond}
 use mathlib.Core.List.{List, [], _∷_}

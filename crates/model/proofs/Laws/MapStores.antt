@@ -1,6 +1,5 @@
 -- Laws of all stores of map and bitmap that a round makes: where they go, that they are whole, and what they
--- leave
--- in a map block and in a bitmap block. Assumes nothing.
+-- leave in a map block and in a bitmap block. Assumes nothing.
 use mathlib.Core.Path.{_≡_, sym, _∙_}
 use mathlib.Core.Logic.{_≢_, inl, inr}
 use mathlib.Core.Bool.{cond}
@@ -23,8 +22,6 @@ use Rattle.model.proofs.Laws.PublicMap.{length-mapBlockWith, mapped}
 use Rattle.model.proofs.Laws.PublicHalf.{all-map, OldPlace, entry-not-zero, addresses-bitStores}
 use Rattle.model.proofs.Laws.PublicHalf.{withBits, bitStores-stored}
 
--- ---- map and bitmap ----
-
 -- an address of the bitmap
 abbrev InBitmap : Geometry → DiskAddress → Type 0
 InBitmap g address = (1 + mapBlocks g ≤ address) × (address < rootAddress g)
@@ -45,8 +42,8 @@ module _ (g : Geometry) (f : Fits g) (disk : Bytes) (whole : length disk ≡ blo
       ((bitAddress-ge g slot, bitAddress-lt g f slot inside), by old)
     where
       by : OldPlace g (mapEntry g disk number) →
-          All (InBitmap g) (cond (eqb (mapEntry g disk number) 0) []
-          (bitAddress g (slotOf g (mapEntry g disk number)) ∷ []))
+          All (InBitmap g)
+          (cond (eqb (mapEntry g disk number) 0) [] (bitAddress g (slotOf g (mapEntry g disk number)) ∷ []))
       by (inl e) = rw (eq-eqb (mapEntry g disk number) 0 e) tt
       by (inr block) =
           rw (ne-eqb (mapEntry g disk number) 0 (entry-not-zero g (mapEntry g disk number) block)) (
@@ -74,8 +71,8 @@ module _ (g : Geometry) (f : Fits g) (disk : Bytes) (whole : length disk ≡ blo
   )
 
   pub mapStores-stored :
-      (choice : PublicChoice) → All (Stored (g .blockSize) (blockCount g))
-      (mapStores choice g disk number slot)
+      (choice : PublicChoice) →
+      All (Stored (g .blockSize) (blockCount g)) (mapStores choice g disk number slot)
   unfolding mapStores
   mapStores-stored keepPublic = tt
   mapStores-stored writePublic =
@@ -94,8 +91,7 @@ module _ (g : Geometry) (f : Fits g) (disk : Bytes) (whole : length disk ≡ blo
       (all-map (InBitmap g) (λ (a : ℕ). mapAddress g other ≢ a) (addresses bits)
       (λ a l e. omega (arith, mapAddress-lt g f other h)) bits-inBitmap)
       ∙ sym (blockAt-apply (g .blockSize) (blockCount g) (mapStore g disk number slot ∷ []) disk
-      (mapAddress g other) whole
-      (mapStore-stored, tt))
+      (mapAddress g other) whole (mapStore-stored, tt))
 
   -- what they leave in a bitmap block
   pub lastAt-mapStores-bit :

@@ -1,6 +1,5 @@
 -- Laws of the bitmap's stores of a round that takes the call's data: where they go, that they are whole, and
--- the
--- bits after them; and the addresses of all stores of map and bitmap. Assumes nothing.
+-- the bits after them; and the addresses of all stores of map and bitmap. Assumes nothing.
 use mathlib.Core.Path.{_≡_, refl, sym, ap, _∙_}
 use mathlib.Core.Logic.{_≢_, _⊎_, inl, inr}
 use mathlib.Core.Bool.{Bool, true, false, cond}
@@ -72,8 +71,8 @@ module _ (g : Geometry) (f : Fits g) (disk : Bytes) (whole : length disk ≡ blo
     withBits-none e = ap (λ (xs : Trace). apply (g .blockSize) xs disk) (bitStores-none entry e)
 
     withBits-some :
-        (block : SlotBlock g 0 entry) → withBits ≡ marked g f withNew whole-new (slotOf g entry)
-        (block .slot-inside) false
+        (block : SlotBlock g 0 entry) →
+        withBits ≡ marked g f withNew whole-new (slotOf g entry) (block .slot-inside) false
     unfolding apply
     withBits-some block =
         ap (λ (xs : Trace). apply (g .blockSize) xs disk)

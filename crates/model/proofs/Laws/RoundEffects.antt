@@ -39,8 +39,8 @@ module _ (g : Geometry) (f : Fits g) (disk : Bytes) (whole : length disk ≡ blo
 
   -- every block of map and bitmap stays
   pub blockAt-kept :
-      (address : DiskAddress) → InFront g address → blockAt (g .blockSize) kept address ≡
-      blockAt (g .blockSize) disk address
+      (address : DiskAddress) → InFront g address →
+      blockAt (g .blockSize) kept address ≡ blockAt (g .blockSize) disk address
   unfolding mapStores
   blockAt-kept address h =
       blockAt-round-front g f disk whole number counted slot inside content sized
@@ -58,8 +58,8 @@ module _ (g : Geometry) (f : Fits g) (disk : Bytes) (whole : length disk ≡ blo
       (place : ℕ) → place < bitmapBlocks g * (8 * g .blockSize) →
       bitmapBit g kept place ≡ bitmapBit g disk place
   bitmapBit-kept place h =
-      bitmapBit-block g kept disk place (blockAt-kept (blockOfBit g place)
-      (omega arith, blockOfBit-lt g f place h))
+      bitmapBit-block g kept disk place
+      (blockAt-kept (blockOfBit g place) (omega arith, blockOfBit-lt g f place h))
 
   pub isAllocated-kept : (other : ℕ) → other < g .slots → isAllocated g kept other ≡ isAllocated g disk other
   isAllocated-kept other h =
@@ -68,21 +68,21 @@ module _ (g : Geometry) (f : Fits g) (disk : Bytes) (whole : length disk ≡ blo
 
   -- every public block stays
   pub blockAt-kept-start :
-      (other : ℕ) → blockAt (g .blockSize) kept (slotStart g other) ≡
-      blockAt (g .blockSize) disk (slotStart g other)
+      (other : ℕ) →
+      blockAt (g .blockSize) kept (slotStart g other) ≡ blockAt (g .blockSize) disk (slotStart g other)
   unfolding publicStore
   blockAt-kept-start other = ⊎-elim same apart (eq-cases other slot)
     where
       same :
-          other ≡ slot → blockAt (g .blockSize) kept (slotStart g other) ≡
-          blockAt (g .blockSize) disk (slotStart g other)
+          other ≡ slot →
+          blockAt (g .blockSize) kept (slotStart g other) ≡ blockAt (g .blockSize) disk (slotStart g other)
       same e =
           rw e (blockAt-round-start-same g f disk whole number counted slot inside content sized
           old hidden hides keepPublic)
 
       apart :
-          other ≢ slot → blockAt (g .blockSize) kept (slotStart g other) ≡
-          blockAt (g .blockSize) disk (slotStart g other)
+          other ≢ slot →
+          blockAt (g .blockSize) kept (slotStart g other) ≡ blockAt (g .blockSize) disk (slotStart g other)
       apart =
           blockAt-round-start-other g f disk whole number counted slot inside content sized
           old hidden hides keepPublic other
@@ -103,8 +103,7 @@ module _ (g : Geometry) (f : Fits g) (disk : Bytes) (whole : length disk ≡ blo
   mapEntry-last other h =
       mapEntry-block g last (mapped g f disk whole number counted (slotStart g slot)) other
       (blockAt-round-front g f disk whole number counted slot inside content sized
-      old hidden hides writePublic
-      (mapAddress g other) (map-front other h)
+      old hidden hides writePublic (mapAddress g other) (map-front other h)
       ∙ lastAt-mapStores-map g f disk whole slot inside number counted old other h)
 
   pub mapEntry-last-same : mapEntry g last number ≡ slotStart g slot
@@ -128,8 +127,7 @@ module _ (g : Geometry) (f : Fits g) (disk : Bytes) (whole : length disk ≡ blo
   bitmapBit-last place h =
       bitmapBit-block g last bits place
       (blockAt-round-front g f disk whole number counted slot inside content sized
-      old hidden hides writePublic
-      (blockOfBit g place) (omega arith, blockOfBit-lt g f place h)
+      old hidden hides writePublic (blockOfBit g place) (omega arith, blockOfBit-lt g f place h)
       ∙ lastAt-mapStores-bit g f disk whole slot inside number counted old (blockOfBit g place) (omega arith))
 
   pub bitmapBit-last-new :
@@ -144,8 +142,8 @@ module _ (g : Geometry) (f : Fits g) (disk : Bytes) (whole : length disk ≡ blo
   bitmapBit-last-old ne = by old
     where
       by :
-          OldPlace g (mapEntry g disk number) → bitmapBit g last
-          (areaPlace g (slotOf g (mapEntry g disk number))) ≡ false
+          OldPlace g (mapEntry g disk number) →
+          bitmapBit g last (areaPlace g (slotOf g (mapEntry g disk number))) ≡ false
       by (inl e) = absurd (ne e)
       by (inr block) =
           bitmapBit-last (areaPlace g (slotOf g (mapEntry g disk number)))

@@ -1,6 +1,5 @@
 -- Laws of the stores of one round, for any hidden half that stores the slot's hidden blocks and the root:
--- their
--- addresses, and that they are whole and inside the disk. Assumes nothing.
+-- their addresses, and that they are whole and inside the disk. Assumes nothing.
 use mathlib.Core.Path.{_≡_, refl, ap, _∙_, subst}
 use mathlib.Core.Logic.{_⊎_, inl, inr}
 use mathlib.Core.List.{List, [], _∷_, _++_}
@@ -40,8 +39,8 @@ all-addressesFrom P address (suc count) h =
 -- an address of a slot's hidden blocks, or the root
 abbrev pub HiddenAddress : Geometry → (slot : ℕ) → DiskAddress → Type 0
 HiddenAddress g slot address =
-    (address ≡ rootAddress g) ⊎ ((place : ℕ) × (1 ≤ place) × (place ≤ g .height) ×
-    (address ≡ slotStart g slot + place))
+    (address ≡ rootAddress g) ⊎
+    ((place : ℕ) × (1 ≤ place) × (place ≤ g .height) × (address ≡ slotStart g slot + place))
 
 pub hides-addresses :
     (g : Geometry) (slot : ℕ) (hidden : Trace) → Hides g slot hidden →
@@ -71,8 +70,7 @@ publicStore-address writePublic g disk slot content = refl
 
 addresses-round :
     (choice : PublicChoice) (g : Geometry) (disk : Bytes) (number slot : ℕ) (content : Bytes)
-    (hidden : Trace) →
-    Hides g slot hidden →
+    (hidden : Trace) → Hides g slot hidden →
     addresses (roundTrace choice g disk number slot content hidden) ≡
     slotAddresses g slot ++ (addresses (mapStores choice g disk number slot) ++ (0 ∷ []))
 unfolding addresses roundTrace
@@ -109,8 +107,8 @@ header-fits g f disk whole = omega (arith, blockAt-whole g f disk whole 0 (omega
 
 -- the disk after a round
 abbrev pub afterRound :
-    PublicChoice → Geometry → (disk : Bytes) → (number slot : ℕ) → (content : Bytes) → (hidden : Trace) →
-    Bytes
+    PublicChoice → Geometry → (disk : Bytes) → (number slot : ℕ) → (content : Bytes) →
+    (hidden : Trace) → Bytes
 afterRound choice g disk number slot content hidden =
     apply (g .blockSize) (roundTrace choice g disk number slot content hidden) disk
 

@@ -1,6 +1,6 @@
 -- Laws of one round, for any hidden half that stores the slot's hidden blocks and the root: what it leaves in
--- each kind of block, in the order map and bitmap, hidden blocks and root, public blocks, header.
--- Assumes nothing.
+-- each kind of block, in the order map and bitmap, hidden blocks and root, public blocks, header. Assumes
+-- nothing.
 use mathlib.Core.Path.{_≡_, refl, sym, ap, _∙_}
 use mathlib.Core.Logic.{_≢_, inl, inr}
 use mathlib.Core.List.{[], _∷_, _++_}

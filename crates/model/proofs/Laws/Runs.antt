@@ -1,8 +1,6 @@
 -- Laws of the rounds of a write, whatever its hidden writes and random bytes: how many there are, the
--- addresses
--- of all stores in order, that these are whole and inside the disk, and the whole effect on header, map,
--- bitmap
--- and public blocks. Assumes nothing.
+-- addresses of all stores in order, that these are whole and inside the disk, and the whole effect on header,
+-- map, bitmap and public blocks. Assumes nothing.
 use mathlib.Core.Path.{_≡_, refl, sym, ap, ap₂, _∙_, subst}
 use mathlib.Core.Logic.{_≢_}
 use mathlib.Core.Bool.{true, false, cond}
@@ -58,8 +56,8 @@ module _ (g : Geometry) (f : Fits g) (number : ℕ) (inside : number < g .public
   -- ---- one round ----
 
   module _ (disk : Bytes) (whole : length disk ≡ blockCount g * g .blockSize) (slot : ℕ)
-      (here : slot < g .slots)
-      (placed : Placed g disk number) (hidden : Trace) (hides : Hides g slot hidden) where
+      (here : slot < g .slots) (placed : Placed g disk number) (hidden : Trace)
+      (hides : Hides g slot hidden) where
     stored-round :
         (choice : PublicChoice) →
         All (Stored (g .blockSize) (blockCount g)) (roundTrace choice g disk number slot content hidden)
@@ -74,8 +72,8 @@ module _ (g : Geometry) (f : Fits g) (number : ℕ) (inside : number < g .public
         (followedBy (roundTrace writePublic g disk number slot content hidden) (stopped state))
     unfolding keptRounds
     last-ran free state =
-        let e : slotAfter g slot 0 ≡ slot = ap (λ (n : ℕ). n % g .slots) (add-zero slot)
-        ∙ mod-eq-of-lt here in
+        let e : slotAfter g slot 0 ≡ slot =
+        ap (λ (n : ℕ). n % g .slots) (add-zero slot) ∙ mod-eq-of-lt here in
         let round = roundTrace writePublic g disk number slot content hidden in
         record {
           counted = refl;
@@ -93,8 +91,8 @@ module _ (g : Geometry) (f : Fits g) (number : ℕ) (inside : number < g .public
         (earlier : ℕ) (run : Run) →
         Ran g number content (nextSlot g slot) earlier
         (afterRound keepPublic g disk number slot content hidden) run →
-        Ran g number content slot (suc earlier) disk (followedBy
-        (roundTrace keepPublic g disk number slot content hidden) run)
+        Ran g number content slot (suc earlier) disk
+        (followedBy (roundTrace keepPublic g disk number slot content hidden) run)
     unfolding keptRounds
     kept-ran earlier run ran =
         let kept = afterRound keepPublic g disk number slot content hidden in
@@ -124,11 +122,10 @@ module _ (g : Geometry) (f : Fits g) (number : ℕ) (inside : number < g .public
   -- ---- all rounds ----
 
   -- what a run of at most so many rounds does, from any slot of any disk
-  abbrev RanBy : (most : ℕ) → Type 0
+  abbrev pub RanBy : (most : ℕ) → Type 0
   RanBy most =
       (disk : Bytes) → length disk ≡ blockCount g * g .blockSize → (slot : ℕ) → slot < g .slots →
-      Placed g disk number →
-      (random : Bytes) (state : HiddenState) (earlier : ℕ) →
+      Placed g disk number → (random : Bytes) (state : HiddenState) (earlier : ℕ) →
       roundsTo most (isAllocated g disk) g slot ≡ suc earlier →
       suc earlier * (g .height * g .blockSize) ≤ length random → All (WholeWrite g) (state .waiting) →
       Ran g number content slot earlier disk (runFrom most g number content slot random disk state)
@@ -165,8 +162,8 @@ module _ (g : Geometry) (f : Fits g) (number : ℕ) (inside : number < g .public
         (isAllocated-kept g f disk whole number inside slot here content sized old (part .trace)
         (hides .hides)) in
         let e : suc (more .before) ≡ earlier = sym (more .earlier-is) in
-        let rest : suc (more .before) * (g .height * g .blockSize) ≤ length
-        (drop (g .height * g .blockSize) random) =
+        let rest : suc (more .before) * (g .height * g .blockSize) ≤
+        length (drop (g .height * g .blockSize) random) =
         simp length-drop (omega (arith, rw (more .earlier-is) at enough)) in
         subst (λ (n : ℕ). Ran g number content slot n disk (runBy keepPublic)) e
         (kept-ran disk whole slot here placed (part .trace) (hides .hides) (more .before) _

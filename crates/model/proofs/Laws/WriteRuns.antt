@@ -53,11 +53,9 @@ offeredWrites-whole g (some write) =
 
 pub writeRun-ran :
     (g : Geometry) → Fits g → (disk : Bytes) → length disk ≡ blockCount g * g .blockSize →
-    headIn disk < g .slots →
-    (number : ℕ) → number < g .publics → (content : Bytes) → length content ≡ g .blockSize →
-    Placed g disk number →
-    (random : Bytes) → roundCount g disk ≢ 0 → roundCount g disk * g .height * g .blockSize ≤ length random →
-    (offer : Option HiddenWrite) →
+    headIn disk < g .slots → (number : ℕ) → number < g .publics → (content : Bytes) →
+    length content ≡ g .blockSize → Placed g disk number → (random : Bytes) → roundCount g disk ≢ 0 →
+    roundCount g disk * g .height * g .blockSize ≤ length random → (offer : Option HiddenWrite) →
     Ran g number content (headIn disk) (roundCount g disk - 1) disk
     (writeRun g disk number content random offer)
 unfolding writeRun

@@ -1,6 +1,5 @@
 -- What a run of rounds leaves in header, map, bitmap and public blocks: after its last round, and with one
--- more
--- kept round before. Assumes nothing.
+-- more kept round before. Assumes nothing.
 use mathlib.Core.Path.{_≡_, sym, ap, _∙_}
 use mathlib.Core.Logic.{_≢_, _⊎_, inl, inr}
 use mathlib.Core.Bool.{true, false}

@@ -1,0 +1,166 @@
+-- One write side by side on two drives that show the same: with the same public part they are refused alike,
+-- and the two drives that they leave show the same, whatever is offered and whatever the random bytes are.
+-- Assumes nothing.
+use mathlib.Core.Path.{_≡_, sym, ap, ap₂, _∙_, subst}
+use mathlib.Core.Logic.{_≢_, ⊎-elim}
+use mathlib.Core.Option.{Option}
+use mathlib.Core.List.{List}
+use Prim.Native.Nat.{ℕ, suc, _*_, _-_, _≤_}
+use native.Mathlib.Nat.{mul-assoc}
+use native.Mathlib.Omega.{arith}
+use lib.ListN.{length}
+use Rattle.laws.proofs.Cases.{eq-cases}
+use Rattle.model.specs.Geometry.{Geometry, blockCount}
+use Rattle.model.specs.Blocks.{Bytes, DiskAddress}
+use Rattle.model.specs.Layout.{geometryIn, headIn}
+use Rattle.model.specs.Stores.{apply}
+use Rattle.model.specs.HiddenHalf.{HiddenWrite}
+use Rattle.model.specs.Rounds.{Run, runFrom}
+use Rattle.model.specs.Refusals.{roundCount, writeRefusal}
+use Rattle.model.specs.Calls.{offeredWrites, startState, writeRun, written, writtenDisk}
+use Rattle.model.specs.View.{shownOf}
+use Rattle.model.specs.Simulator.{Simulator, simulatedAnswer}
+use Rattle.model.proofs.Laws.Stores.{apply-nil}
+use Rattle.model.proofs.Laws.Refusals.{Accepted, accepted-of-refusal}
+use Rattle.model.proofs.Laws.Wrote.{old-of-placed}
+use Rattle.model.proofs.Laws.WriteRuns.{offeredWrites-whole}
+use Rattle.model.proofs.Views.Agreement.{agree-apply}
+use Rattle.model.proofs.Views.Shown.{ShowSame, TraceSame}
+use Rattle.model.proofs.Views.Answers.{writeLengths, simulatedAnswer-write}
+use Rattle.model.proofs.Views.Sides.{entryAt-alike}
+use Rattle.model.proofs.Views.SideRuns.{Supplied, runFrom-alike}
+use Rattle.model.proofs.Views.Allowed.{PlaceAllowed, RoundsAllowed, place-of-write, rounds-of-write}
+use Rattle.model.proofs.Views.Drives.{Twins, geometryIn-twins, trackerOf-twins}
+use Rattle.model.proofs.Views.Follows.{written-done, written-refused, written-follows}
+
+module _ (disk other : Bytes) (twins : Twins disk other) (number : ℕ) (content random others : Bytes)
+    (same-random : length random ≡ length others) (room : ℕ) where
+  writeRefusal-twins :
+      writeRefusal disk number content (length random) room ≡
+      writeRefusal other number content (length others) room
+  writeRefusal-twins =
+      sym (simulatedAnswer-write disk (twins .accepted) number content (length random) room)
+      ∙ ap₂ (λ (sim : Simulator) (n : ℕ). simulatedAnswer sim (writeLengths number (length content) n room))
+      (trackerOf-twins disk other twins) same-random
+      ∙ simulatedAnswer-write other (twins .other-accepted) number content (length others) room
+
+  module _ (offer offerOther : Option HiddenWrite)
+      (free : writeRefusal disk number content (length random) room ≡ 0) where
+    abbrev g : Geometry
+    g = geometryIn disk
+
+    -- the two runs
+    abbrev run : Run
+    run = writeRun (geometryIn disk) disk number content random offer
+
+    abbrev runOther : Run
+    runOther = writeRun (geometryIn other) other number content others offerOther
+
+    place : PlaceAllowed g disk number (length content)
+    place = place-of-write disk (twins .accepted) number content (length random) room free
+
+    allowed : RoundsAllowed g disk number (length random) room
+    allowed = rounds-of-write disk (twins .accepted) number content (length random) room free
+
+    sound : Accepted disk
+    sound = accepted-of-refusal disk (twins .accepted)
+
+    rounds : roundCount g disk ≡ suc (roundCount g disk - 1)
+    rounds = omega (arith, allowed .some-rounds)
+
+    supplied :
+        (bytes : Bytes) → roundCount g disk * g .height * g .blockSize ≤ length bytes →
+        (offered : Option HiddenWrite) →
+        Supplied g (roundCount g disk - 1) bytes (startState (offeredWrites g offered))
+    supplied bytes enough offered =
+        record {
+          enough = rw (← rounds) (omega (arith, mul-assoc (roundCount g disk) (g .height) (g .blockSize)));
+          whole-writes = offeredWrites-whole g offered;
+        }
+
+    -- the other run, over the first drive's geometry and from its head
+    runOther-is :
+        runFrom (g .slots) g number content (headIn disk) others other
+        (startState (offeredWrites g offerOther)) ≡
+        runOther
+    unfolding writeRun
+    runOther-is =
+        ap₂ (λ (h : Geometry) (head : ℕ). runFrom (h .slots) h number content head others other
+        (startState (offeredWrites h offerOther)))
+        (geometryIn-twins disk other twins)
+        (entryAt-alike g (sound .sized .fits) disk other (twins .show-same) 5 (omega arith))
+
+    trace-alike : TraceSame g (run .trace) (runOther .trace)
+    unfolding writeRun
+    trace-alike =
+        subst (λ (r : Run). TraceSame g (run .trace) (r .trace)) runOther-is
+        (runFrom-alike g (sound .sized .fits) number content (place .known) (place .sized)
+        (g .slots) disk other
+        (headIn disk) random others (startState (offeredWrites g offer))
+        (startState (offeredWrites g offerOther)) (roundCount g disk - 1) (twins .show-same)
+        (sound .head-inside) (old-of-placed g disk number (place .place)) rounds
+        (supplied random (allowed .enough-random) offer)
+        (supplied others (rw same-random at (allowed .enough-random)) offerOther))
+
+    -- the disks that the two runs leave
+    final-alike :
+        ShowSame g (apply (g .blockSize) (run .trace) disk)
+        (apply (geometryIn other .blockSize) (runOther .trace) other)
+    final-alike =
+        subst (λ (h : Geometry). ShowSame g (apply (g .blockSize) (run .trace) disk)
+        (apply (h .blockSize) (runOther .trace) other))
+        (geometryIn-twins disk other twins)
+        (agree-apply (shownOf g) (g .blockSize) (blockCount g) trace-alike (twins .show-same))
+
+module _ (disk other : Bytes) (twins : Twins disk other) (number : ℕ) (content random others : Bytes)
+    (same-random : length random ≡ length others) (list lists : List DiskAddress)
+    (same-room : length list ≡ length lists) (offer offerOther : Option HiddenWrite) where
+  -- the drives that the two writes leave
+  abbrev after : Bytes
+  after = writtenDisk (written disk number content random (length list) offer) disk
+
+  abbrev afterOther : Bytes
+  afterOther = writtenDisk (written other number content others (length lists) offerOther) other
+
+  pub writtenDisk-twins : Twins after afterOther
+  writtenDisk-twins =
+      let here = written-follows disk (twins .accepted) number content random list offer in
+      let there = written-follows other (twins .other-accepted) number content others lists offerOther in
+      record {
+        accepted = here .accepted-after;
+        other-accepted = there .accepted-after;
+        show-same =
+            subst (λ (g : Geometry). ShowSame g after afterOther) (sym (here .geometry-after))
+            (⊎-elim done refused
+            (eq-cases (writeRefusal disk number content (length random) (length list)) 0));
+      }
+    where
+      refusals :
+          writeRefusal disk number content (length random) (length list) ≡
+          writeRefusal other number content (length others) (length lists)
+      refusals =
+          writeRefusal-twins disk other twins number content random others same-random (length list)
+          ∙ ap (writeRefusal other number content (length others)) same-room
+
+      done :
+          writeRefusal disk number content (length random) (length list) ≡ 0 →
+          ShowSame (geometryIn disk) after afterOther
+      done e =
+          rw (
+            written-done disk number content random (length list) offer e,
+            written-done other number content others (length lists) offerOther (sym refusals ∙ e),
+          )
+          (final-alike disk other twins number content random others same-random
+          (length list) offer offerOther e)
+
+      refused :
+          writeRefusal disk number content (length random) (length list) ≢ 0 →
+          ShowSame (geometryIn disk) after afterOther
+      refused ne =
+          rw (
+            written-refused disk number content random (length list) offer ne,
+            written-refused other number content others (length lists) offerOther (λ e. ne (refusals ∙ e)),
+            apply-nil (geometryIn disk .blockSize) disk,
+            apply-nil (geometryIn other .blockSize) other,
+          )
+          (twins .show-same)

@@ -1,0 +1,98 @@
+-- A write on an accepted drive and the simulator that tracks it: its rounds, its stores, and what it keeps of
+-- the drive that the write leaves. Assumes nothing.
+use mathlib.Core.Path.{_≡_, refl, sym, ap, ap₂, _∙_, subst}
+use mathlib.Core.Logic.{_≢_, ⊎-elim}
+use mathlib.Core.Bool.{true, false, cond}
+use mathlib.Core.List.{_++_}
+use Prim.Native.Nat.{ℕ, suc, _+_, _-_, _%_, _<_}
+use native.Mathlib.Omega.{arith}
+use lib.Dec.{eqb}
+use lib.ListN.{length, set}
+use Rattle.model.specs.Geometry.{Geometry, driveSize, isGeometry}
+use Rattle.model.specs.Blocks.{Bytes}
+use Rattle.model.specs.Layout.{geometryIn, headIn, slotStart, slotOf, nextSlot, mapEntry}
+use Rattle.model.specs.Refusals.{driveRefusal, roundCount}
+use Rattle.model.specs.Simulator.{entryFor, simulatedRounds, slotOfRound, keptRounds, lastRound}
+use Rattle.model.specs.Simulator.{simulatedStores, simulatedWrite}
+use Rattle.model.proofs.Laws.Refusals.{Accepted, accepted-of-refusal, refusal-of-accepted}
+use Rattle.model.proofs.Laws.Slots.{nextSlot-lt}
+use Rattle.model.proofs.Laws.Wrote.{Wrote, Placed, old-of-placed}
+use Rattle.model.proofs.Laws.Runs.{slotAfter}
+use Rattle.model.proofs.Views.View.{geometry-ext}
+use Rattle.model.proofs.Views.Tracking.{tracked, trackerOf, simulator-ext, getD-entries}
+use Rattle.model.proofs.Views.Answers.{simulatedRounds-is}
+use Rattle.model.proofs.Views.Updates.{entriesFrom-after, allocatedFrom-after}
+
+-- a write of so many kept rounds and a last one
+module _ (disk : Bytes) (accepted : driveRefusal disk ≡ 0) (number : ℕ)
+    (known : number < geometryIn disk .publics) (earlier : ℕ)
+    (rounds : roundCount (geometryIn disk) disk ≡ suc earlier) where
+  abbrev g : Geometry
+  g = geometryIn disk
+
+  abbrev last : ℕ
+  last = slotAfter (geometryIn disk) (headIn disk) earlier
+
+  sound : Accepted disk
+  sound = accepted-of-refusal disk accepted
+
+  -- ---- rounds and stores ----
+
+  pub simulatedRounds-suc : simulatedRounds (trackerOf disk) ≡ suc earlier
+  simulatedRounds-suc =
+      simulatedRounds-is g (sound .sized .fits) (headIn disk) disk (sound .head-inside) ∙ rounds
+
+  slotOfRound-last : slotOfRound (trackerOf disk) (simulatedRounds (trackerOf disk)) ≡ last
+  slotOfRound-last =
+      let e : headIn disk + suc earlier - 1 ≡ headIn disk + earlier = omega arith in
+      ap (λ (n : ℕ). (headIn disk + n - 1) % g .slots) simulatedRounds-suc ∙ ap (λ (n : ℕ). n % g .slots) e
+
+  pub simulatedStores-is :
+      simulatedStores (trackerOf disk) number ≡
+      keptRounds earlier g (headIn disk) ++ lastRound g number (mapEntry g disk number) last
+  unfolding simulatedStores
+  simulatedStores-is =
+      let e : suc earlier - 1 ≡ earlier = omega arith in
+      ap₂ (λ (n slot : ℕ). keptRounds n g (headIn disk) ++ lastRound g number
+      (entryFor (trackerOf disk) number) slot)
+      (ap (λ (n : ℕ). n - 1) simulatedRounds-suc ∙ e) slotOfRound-last
+      ∙ ap (λ (n : ℕ). keptRounds earlier g (headIn disk) ++ lastRound g number n last)
+      (getD-entries g disk number known)
+
+  -- ---- the drive that the write leaves ----
+
+  module _ {content : Bytes} (final : Bytes)
+      (wrote : Wrote (geometryIn disk) number content
+      (slotAfter (geometryIn disk) (headIn disk) earlier) disk final) where
+    pub geometryIn-final : geometryIn final ≡ geometryIn disk
+    geometryIn-final = geometry-ext final disk (wrote .fields)
+
+    pub accepted-final : driveRefusal final ≡ 0
+    accepted-final =
+        let e = geometryIn-final in
+        let same : length final ≡ length disk = wrote .whole ∙ sym (sound .sized .whole) in
+        refusal-of-accepted final (omega (arith, sound .sized .long))
+        (ap isGeometry e ∙ sound .sized .accepted)
+        (wrote .whole ∙ sym (ap driveSize e))
+        (subst (λ (h : Geometry). headIn final < h .slots) (sym e)
+        (rw (wrote .head) (nextSlot-lt g last (sound .sized .fits))))
+
+    pub trackerOf-final :
+        Placed (geometryIn disk) disk number → trackerOf final ≡ simulatedWrite (trackerOf disk) number
+    trackerOf-final place =
+        let entries = trackerOf disk .entries in
+        let marks = trackerOf disk .allocated in
+        ap (λ (h : Geometry). tracked h (headIn final) final) geometryIn-final
+        ∙ simulator-ext refl (wrote .head ∙ ap (nextSlot g) (sym slotOfRound-last))
+        (entriesFrom-after g disk final number (slotStart g last) known (wrote .map-same) (wrote .map-other)
+        ∙ ap (λ (slot : ℕ). set entries number (slotStart g slot)) (sym slotOfRound-last))
+        (allocatedFrom-after g disk final (mapEntry g disk number) last (wrote .inside) old-inside
+        (wrote .mark-new) (wrote .mark-old)
+        (wrote .mark-other)
+        ∙ ap₂ (λ (entry slot : ℕ). set
+        (cond (eqb entry 0) marks (set marks (slotOf g entry) false)) slot true)
+        (sym (getD-entries g disk number known)) (sym slotOfRound-last))
+      where
+        old-inside : mapEntry g disk number ≢ 0 → slotOf g (mapEntry g disk number) < g .slots
+        old-inside ne =
+            ⊎-elim (λ e. absurd (ne e)) (λ block. block .slot-inside) (old-of-placed g disk number place)

@@ -8,3 +8,4 @@ pub mod PublicMap
 pub mod Stores
 pub mod Table
 pub mod Refusals
+pub mod Formatting

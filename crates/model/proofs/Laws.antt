@@ -9,3 +9,4 @@ pub mod Stores
 pub mod Table
 pub mod Refusals
 pub mod Formatting
+pub mod Calls

@@ -1,0 +1,4 @@
+-- What the calls keep of a drive's two volumes, and what its reads show.
+pub mod Fresh
+pub mod Public
+pub mod Bitmap

@@ -1,0 +1,6 @@
+-- The hidden tree as a ghost, its invariant, and what one round does to it.
+pub mod Keys
+pub mod Ghost
+pub mod Walks
+pub mod Invariant
+pub mod FromInvariant

@@ -1,4 +1,5 @@
 -- What the calls keep of a drive's two volumes, and what its reads show.
-pub mod Fresh
 pub mod Public
 pub mod Bitmap
+pub mod Reads
+pub mod Fresh

@@ -3,3 +3,4 @@ pub mod Public
 pub mod Bitmap
 pub mod Reads
 pub mod Fresh
+pub mod Lists

@@ -10,3 +10,10 @@ pub mod Table
 pub mod Refusals
 pub mod Formatting
 pub mod Calls
+pub mod Paths
+pub mod HiddenHalf
+pub mod BitmapBits
+pub mod PublicHalf
+pub mod RoundStores
+pub mod Rounds
+pub mod RoundEffects

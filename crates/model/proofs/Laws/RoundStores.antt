@@ -1,0 +1,152 @@
+-- Laws of the stores of one round, for any hidden half that stores the slot's hidden blocks and the root: their
+-- addresses, and that they are whole and inside the disk. Assumes nothing.
+use mathlib.Core.Path.{_≡_, refl, ap, _∙_, subst}
+use mathlib.Core.Logic.{_⊎_, inl, inr}
+use mathlib.Core.List.{List, [], _∷_, _++_}
+use Prim.Native.Nat.{ℕ, zero, suc, _+_, _*_, _≤_, _<_}
+use native.Mathlib.Numerals.{add-one}
+use native.Mathlib.Omega.{arith}
+use lib.ListN.{length}
+use Rattle.model.specs.Geometry.{Geometry, Fits, rootAddress, blockCount}
+use Rattle.model.specs.Blocks.{Bytes, DiskAddress, blockAt}
+use Rattle.model.specs.Layout.{slotStart, nextSlot, mapEntry}
+use Rattle.model.specs.Stores.{Trace, apply, addresses}
+use Rattle.model.specs.Table.{PublicChoice, keepPublic, writePublic}
+use Rattle.model.specs.Rounds.{publicStore, headerStore, mapStores, roundTrace}
+use Rattle.model.specs.Simulator.{addressesFrom, slotAddresses, lastRound}
+use Rattle.model.proofs.Laws.Geometry.{slot-block-lt, rootAddress-lt}
+use Rattle.model.proofs.Laws.Entries.{length-setEntry}
+use Rattle.model.proofs.Laws.Stores.{All, all-append, Stored, addresses-append, length-apply}
+use Rattle.model.proofs.Laws.Paths.{WholeStore, Hides, addressesFrom-suc, blockAt-whole}
+use Rattle.model.proofs.Laws.PublicHalf.{all-map, OldPlace, addresses-mapStores, mapStores-stored}
+
+-- ---- addresses ----
+
+all-addressesFrom :
+    (P : ℕ → Type 0) (address : DiskAddress) (count : ℕ) → ((i : ℕ) → i < count → P (address + i)) → All P (addressesFrom address count)
+unfolding addressesFrom
+all-addressesFrom P address zero h = tt
+all-addressesFrom P address (suc count) h =
+    let e : address + 0 ≡ address = omega arith in (
+      subst P e (h 0 (omega arith)),
+      all-addressesFrom P (suc address) count
+          (λ i l. let q : address + suc i ≡ suc address + i = omega arith in subst P q (h (suc i) (omega arith))),
+    )
+
+-- an address of a slot's hidden blocks, or the root
+abbrev pub HiddenAddress : Geometry → (slot : ℕ) → DiskAddress → Type 0
+HiddenAddress g slot address =
+    (address ≡ rootAddress g) ⊎ ((place : ℕ) × (1 ≤ place) × (place ≤ g .height) × (address ≡ slotStart g slot + place))
+
+pub hides-addresses :
+    (g : Geometry) (slot : ℕ) (hidden : Trace) → Hides g slot hidden → All (HiddenAddress g slot) (addresses hidden)
+hides-addresses g slot hidden hides =
+    rw (hides .runs)
+    (all-append (HiddenAddress g slot) (addressesFrom (slotStart g slot + 1) (g .height)) _
+    (all-addressesFrom (HiddenAddress g slot) (slotStart g slot + 1) (g .height)
+    (λ i h. inr (suc i, omega arith, omega arith, omega arith)))
+    (inl refl, tt))
+
+stored-of-whole :
+    (g : Geometry) (xs : Trace) → All (λ (a : ℕ). a < blockCount g) (addresses xs) → All (WholeStore g) xs →
+    All (Stored (g .blockSize) (blockCount g)) xs
+unfolding addresses
+stored-of-whole g [] h w = tt
+stored-of-whole g (x ∷ xs) h w = ((h .0, w .0), stored-of-whole g xs (h .1) (w .1))
+
+-- ---- the stores of a round ----
+
+pub publicStore-address :
+    (choice : PublicChoice) (g : Geometry) (disk : Bytes) (slot : ℕ) (content : Bytes) →
+    publicStore choice g disk slot content .address ≡ slotStart g slot
+unfolding publicStore
+publicStore-address keepPublic g disk slot content = refl
+publicStore-address writePublic g disk slot content = refl
+
+addresses-round :
+    (choice : PublicChoice) (g : Geometry) (disk : Bytes) (number slot : ℕ) (content : Bytes) (hidden : Trace) →
+    Hides g slot hidden →
+    addresses (roundTrace choice g disk number slot content hidden) ≡
+    slotAddresses g slot ++ (addresses (mapStores choice g disk number slot) ++ (0 ∷ []))
+unfolding addresses roundTrace
+addresses-round choice g disk number slot content hidden hides =
+    let public = publicStore choice g disk slot content in
+    let more = mapStores choice g disk number slot in
+    let tail = addresses more ++ (0 ∷ []) in
+    ap (λ (xs : List ℕ). public .address ∷ xs)
+    (addresses-append hidden (more ++ (headerStore g disk slot ∷ []))
+    ∙ ap (λ (xs : List ℕ). addresses hidden ++ xs) (addresses-append more (headerStore g disk slot ∷ []))
+    ∙ ap (λ (xs : List ℕ). xs ++ tail) (hides .runs))
+    ∙ rw (publicStore-address choice g disk slot content, addressesFrom-suc, add-one (slotStart g slot))
+
+pub addresses-kept :
+    (g : Geometry) (disk : Bytes) (number slot : ℕ) (content : Bytes) (hidden : Trace) → Hides g slot hidden →
+    addresses (roundTrace keepPublic g disk number slot content hidden) ≡ slotAddresses g slot ++ (0 ∷ [])
+unfolding mapStores addresses
+addresses-kept g disk number slot content hidden hides =
+    addresses-round keepPublic g disk number slot content hidden hides
+
+pub addresses-last :
+    (g : Geometry) (disk : Bytes) (number slot : ℕ) (content : Bytes) (hidden : Trace) → Hides g slot hidden →
+    addresses (roundTrace writePublic g disk number slot content hidden) ≡ lastRound g number (mapEntry g disk number) slot
+addresses-last g disk number slot content hidden hides =
+    addresses-round writePublic g disk number slot content hidden hides
+    ∙ ap (λ (xs : List ℕ). slotAddresses g slot ++ xs) (addresses-mapStores g disk number slot)
+
+-- the header has room for the head
+pub header-fits :
+    (g : Geometry) → Fits g → (disk : Bytes) → length disk ≡ blockCount g * g .blockSize →
+    4 * 5 + 4 ≤ length (blockAt (g .blockSize) disk 0)
+header-fits g f disk whole = omega (arith, blockAt-whole g f disk whole 0 (omega arith), f .size-low)
+
+-- the disk after a round
+abbrev pub afterRound :
+    PublicChoice → Geometry → (disk : Bytes) → (number slot : ℕ) → (content : Bytes) → (hidden : Trace) → Bytes
+afterRound choice g disk number slot content hidden =
+    apply (g .blockSize) (roundTrace choice g disk number slot content hidden) disk
+
+module _ (g : Geometry) (f : Fits g) (disk : Bytes) (whole : length disk ≡ blockCount g * g .blockSize)
+    (number : ℕ) (counted : number < g .publics) (slot : ℕ) (inside : slot < g .slots) (content : Bytes)
+    (sized : length content ≡ g .blockSize) (old : OldPlace g (mapEntry g disk number)) (hidden : Trace)
+    (hides : Hides g slot hidden) (choice : PublicChoice) where
+  start-lt : slotStart g slot < blockCount g
+  start-lt = omega (arith, slot-block-lt g slot 0 inside (omega arith))
+
+  publicStore-stored : Stored (g .blockSize) (blockCount g) (publicStore choice g disk slot content)
+  unfolding publicStore
+  publicStore-stored = (rw (publicStore-address choice g disk slot content) start-lt, by choice)
+    where
+      by : (choice : PublicChoice) → length (publicStore choice g disk slot content .content) ≡ g .blockSize
+      by keepPublic = blockAt-whole g f disk whole (slotStart g slot) start-lt
+      by writePublic = sized
+
+  headerStore-stored : Stored (g .blockSize) (blockCount g) (headerStore g disk slot)
+  headerStore-stored = (
+    omega arith,
+    length-setEntry 5 (nextSlot g slot) (blockAt (g .blockSize) disk 0) (header-fits g f disk whole)
+        ∙ blockAt-whole g f disk whole 0 (omega arith),
+  )
+
+  hidden-stored : All (Stored (g .blockSize) (blockCount g)) hidden
+  hidden-stored =
+      stored-of-whole g hidden
+      (all-map (HiddenAddress g slot) (λ (a : ℕ). a < blockCount g) (addresses hidden) below
+      (hides-addresses g slot hidden hides)) (hides .whole)
+    where
+      below : (a : ℕ) → HiddenAddress g slot a → a < blockCount g
+      below a (inl e) = omega (arith, rootAddress-lt g)
+      below a (inr (place, low, high, e)) = omega (arith, slot-block-lt g slot place inside high)
+
+  -- every store is of a whole block and inside the disk
+  pub round-stored : All (Stored (g .blockSize) (blockCount g)) (roundTrace choice g disk number slot content hidden)
+  unfolding roundTrace
+  round-stored = (
+    publicStore-stored,
+    all-append (Stored (g .blockSize) (blockCount g)) hidden _ hidden-stored
+        (all-append (Stored (g .blockSize) (blockCount g)) (mapStores choice g disk number slot) _
+        (mapStores-stored g f disk whole slot inside number counted old choice) (headerStore-stored, tt)),
+  )
+
+  pub length-round : length (afterRound choice g disk number slot content hidden) ≡ length disk
+  length-round =
+      length-apply (g .blockSize) (blockCount g) (roundTrace choice g disk number slot content hidden) disk whole round-stored

@@ -4,3 +4,4 @@ pub mod Bitmap
 pub mod Reads
 pub mod Fresh
 pub mod Lists
+pub mod Turns

@@ -12,8 +12,8 @@ use Rattle.model.specs.Runs.{Call, diskAfter, diskAfterAll}
 use Rattle.model.specs.Promises.ReadAfterWrite.{publicAfter, lastPublic, hiddenAfter, lastHidden, orElse, Sound, Readable, ReadsBack}
 
 -- what is shown goes on as the block last placed does
-abbrev pub Follows : (shown after : Bytes) → (step : Option Bytes → Option Bytes) → Type 0
-Follows shown after step =
+abbrev pub Carries : (shown after : Bytes) → (step : Option Bytes → Option Bytes) → Type 0
+Carries shown after step =
     (before : Option Bytes) (otherwise : Bytes) → shown ≡ orElse before otherwise → after ≡ orElse (step before) otherwise
 
 -- what one call does to a sound drive
@@ -21,11 +21,11 @@ pub record Stepped (g : Geometry) (disk : Bytes) (call : Call) : Type 0 where
   pub sound : Sound g (diskAfter disk call)
   pub public-step :
       (number : ℕ) (blank : Bytes) → number < g .publics → length blank ≡ g .blockSize →
-      Follows (publicRead disk number blank) (publicRead (diskAfter disk call) number blank)
+      Carries (publicRead disk number blank) (publicRead (diskAfter disk call) number blank)
       (λ before. publicAfter number before disk call)
   pub hidden-step :
       (number : ℕ) (blank : Bytes) → number < g .hidden → length blank ≡ g .blockSize →
-      Follows (hiddenRead disk number blank) (hiddenRead (diskAfter disk call) number blank)
+      Carries (hiddenRead disk number blank) (hiddenRead (diskAfter disk call) number blank)
       (λ before. hiddenAfter number before disk call)
 
 module _ (g : Geometry) (stepped : (disk : Bytes) (call : Call) → Sound g disk → Stepped g disk call) where
@@ -37,7 +37,7 @@ module _ (g : Geometry) (stepped : (disk : Bytes) (call : Call) → Sound g disk
   module _ (number : ℕ) (blank : Bytes) (sized : length blank ≡ g .blockSize) where
     public-all :
         number < g .publics → (calls : List Call) (disk : Bytes) → Sound g disk →
-        Follows (publicRead disk number blank) (publicRead (diskAfterAll disk calls) number blank)
+        Carries (publicRead disk number blank) (publicRead (diskAfterAll disk calls) number blank)
         (λ before. lastPublic number before disk calls)
     unfolding diskAfterAll lastPublic
     public-all h [] disk sound before otherwise e = e
@@ -48,7 +48,7 @@ module _ (g : Geometry) (stepped : (disk : Bytes) (call : Call) → Sound g disk
 
     hidden-all :
         number < g .hidden → (calls : List Call) (disk : Bytes) → Sound g disk →
-        Follows (hiddenRead disk number blank) (hiddenRead (diskAfterAll disk calls) number blank)
+        Carries (hiddenRead disk number blank) (hiddenRead (diskAfterAll disk calls) number blank)
         (λ before. lastHidden number before disk calls)
     unfolding diskAfterAll lastHidden
     hidden-all h [] disk sound before otherwise e = e

@@ -4,3 +4,8 @@ pub mod Ghost
 pub mod Walks
 pub mod Invariant
 pub mod FromInvariant
+pub mod Nodes
+pub mod Planting
+pub mod Stored
+pub mod Unused
+pub mod Turns

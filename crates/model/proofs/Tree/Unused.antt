@@ -1,0 +1,73 @@
+-- A slot that the ghost tree does not use, overwritten: the tree and what every number shows stay. Assumes nothing.
+use mathlib.Core.Path.{_≡_, refl, sym, ap, _∙_, subst}
+use mathlib.Core.Logic.{_≢_}
+use mathlib.Core.Option.{Option, none, some}
+use Prim.Native.Nat.{ℕ, zero, suc, _+_, _-_, _≤_, _<_}
+use native.Mathlib.Omega.{arith}
+use Rattle.model.specs.Geometry.{Geometry, Fits, fanout, rootAddress, treeCapacity}
+use Rattle.model.specs.Blocks.{Bytes, blockAt, entryAt}
+use Rattle.model.specs.Layout.{slotStart, levelPlace}
+use Rattle.model.specs.HiddenTree.{branchAt}
+use Rattle.model.specs.HiddenHalf.{ownerOf}
+use Rattle.model.proofs.Laws.Slots.{levelPlace-le, levelPlace-ge}
+use Rattle.model.proofs.Tree.Keys.{keyOf}
+use Rattle.model.proofs.Tree.Ghost.{Tree, slotAt, nodeIn, nodeAt, Linked, Owned, Ghost, blockIn, valueOf, nodeAt-height, nodeAt-below, nodeAt-cases}
+use Rattle.model.proofs.Tree.Planting.{Apart}
+
+module _ (g : Geometry) (f : Fits g) (disk after : Bytes) (tree : Tree) (ghost : Ghost g disk tree) (slot : ℕ)
+  (unused : (number level : ℕ) → number < treeCapacity g → level < g .height → slotAt g tree level number ≢ some slot)
+  (root : blockAt (g .blockSize) after (rootAddress g) ≡ blockAt (g .blockSize) disk (rootAddress g)) (apart : Apart g disk after slot) where
+  positive : 0 < g .height
+  positive = omega (arith, f .height-low)
+
+  -- a slot's block that the tree uses is as it was
+  block-kept : (number level held : ℕ) → number < treeCapacity g → level < g .height → slotAt g tree level number ≡ some held →
+      (place : ℕ) → 1 ≤ place → place ≤ g .height →
+      blockAt (g .blockSize) after (slotStart g held + place) ≡ blockAt (g .blockSize) disk (slotStart g held + place)
+  block-kept number level held h k e place low high =
+      apart held place (ghost .links .inside number level held h k e)
+      (λ z. unused number level h k (e ∙ ap {B = Option ℕ} some z)) low high
+
+  nodeAt-kept : (number level : ℕ) → number < treeCapacity g → level ≤ g .height →
+      nodeAt g after tree level number ≡ nodeAt g disk tree level number
+  nodeAt-kept number level h k =
+      nodeAt-cases g disk tree (λ (l : ℕ) (node : Bytes). nodeAt g after tree l number ≡ node) level number k
+      (nodeAt-height g after tree number ∙ root)
+      (λ l. nodeAt-below g after tree level number l ∙ below l (slotAt g tree level number) refl)
+    where
+      below : level < g .height → (held : Option ℕ) → slotAt g tree level number ≡ held → nodeIn g after level held ≡ nodeIn g disk level held
+      below l none e = refl
+      below l (some held) e = block-kept number level held h l e (levelPlace g level) (levelPlace-ge g level positive) (levelPlace-le g level l)
+
+  owned-kept : (number level held : ℕ) → number < treeCapacity g → level < g .height → slotAt g tree level number ≡ some held →
+      Owned g after tree number level held
+  unfolding ownerOf
+  owned-kept number level held h k e =
+      let old = ghost .owned number level held h k e in
+      let same : ownerOf g after held ≡ ownerOf g disk held =
+      ap (entryAt (fanout g - 1)) (block-kept number level held h k e 1 (omega arith) (omega (arith, f .height-low))) in
+      record {
+        owner-lt = subst (λ (n : ℕ). n < g .hidden) (sym same) (old .owner-lt);
+        holds = ap (slotAt g tree 0) same ∙ old .holds;
+        below = ap (keyOf g level) same ∙ old .below;
+      }
+
+  pub ghost-unused : Ghost g after tree
+  ghost-unused =
+      record {
+        links =
+        record {
+          linked = λ number level h k.
+          ap (entryAt (branchAt g number level)) (nodeAt-kept number (suc level) h (omega arith)) ∙ ghost .links .linked number level h k;
+          inside = ghost .links .inside;
+        };
+        owned = owned-kept;
+      }
+
+  pub valueOf-unused : (number : ℕ) → number < treeCapacity g → valueOf g after tree number ≡ valueOf g disk tree number
+  valueOf-unused number h = by (slotAt g tree 0 number) refl
+    where
+      by : (held : Option ℕ) → slotAt g tree 0 number ≡ held → blockIn g after held ≡ blockIn g disk held
+      by none e = refl
+      by (some held) e =
+          ap {B = Option Bytes} some (block-kept number 0 held h positive e (g .height) (omega (arith, f .height-low)) (omega arith))

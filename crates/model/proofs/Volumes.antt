@@ -4,4 +4,5 @@ pub mod Bitmap
 pub mod Reads
 pub mod Fresh
 pub mod Lists
-pub mod Turns
+pub mod Progress
+pub mod Hidden

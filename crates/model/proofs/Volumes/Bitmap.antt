@@ -9,14 +9,15 @@ use Rattle.model.specs.Geometry.{Geometry, bitmapBlocks, areaStart}
 use Rattle.model.specs.Blocks.{Bytes}
 use Rattle.model.specs.Layout.{slotOf, areaPlace, mapEntry}
 use Rattle.model.specs.Invariants.{PublicInvariant, bitmapBit, BitmapInvariant}
-use Rattle.model.proofs.Volumes.Public.{Wrote, place-of}
+use Rattle.model.proofs.Laws.Wrote.{Wrote}
+use Rattle.model.proofs.Volumes.Public.{place-of}
 
 -- a bit is that of a public number's place
 abbrev Mapped : Geometry → (disk : Bytes) → (place : ℕ) → Type 0
 Mapped g disk place = (number : ℕ) × (number < g .publics) × (mapEntry g disk number ≡ areaStart g + place)
 
 module _ (g : Geometry) (disk after : Bytes) (number slot : ℕ) (content : Bytes) (counted : number < g .publics)
-    (public : PublicInvariant g disk) (sound : BitmapInvariant g disk) (wrote : Wrote g disk after number slot content) where
+    (public : PublicInvariant g disk) (sound : BitmapInvariant g disk) (wrote : Wrote g number content slot disk after) where
   -- the slot of the number's old place
   abbrev home : ℕ
   home = slotOf g (mapEntry g disk number)

@@ -14,23 +14,7 @@ use Rattle.model.specs.Blocks.{Bytes, DiskAddress, blockAt}
 use Rattle.model.specs.Layout.{slotStart, slotOf, isSlotBlock, areaPlace, isAllocated, mapEntry, isPlace}
 use Rattle.model.specs.Invariants.{PublicInvariant, bitmapBit}
 use Rattle.model.proofs.Laws.Slots.{slotBlock-of, slotOf-slotStart, isSlotBlock-slotStart}
-use Rattle.model.proofs.Laws.BitmapBits.{isAllocated-bit, areaPlace-lt, areaPlace-apart}
-
-pub record Wrote (g : Geometry) (disk after : Bytes) (number slot : ℕ) (content : Bytes) : Type 0 where
-  pub inside : slot < g .slots
-  pub was-free : isAllocated g disk slot ≡ false
-  pub map-same : mapEntry g after number ≡ slotStart g slot
-  pub map-other : (other : ℕ) → other < g .publics → other ≢ number → mapEntry g after other ≡ mapEntry g disk other
-  pub bit-new : bitmapBit g after (areaPlace g slot) ≡ true
-  pub bit-old : mapEntry g disk number ≢ 0 → bitmapBit g after (areaPlace g (slotOf g (mapEntry g disk number))) ≡ false
-  pub bit-other :
-      (place : ℕ) → place < bitmapBlocks g * (8 * g .blockSize) → place ≢ areaPlace g slot →
-      (mapEntry g disk number ≢ 0 → place ≢ areaPlace g (slotOf g (mapEntry g disk number))) →
-      bitmapBit g after place ≡ bitmapBit g disk place
-  pub block-new : blockAt (g .blockSize) after (slotStart g slot) ≡ content
-  pub block-other :
-      (other : ℕ) → other < g .slots → other ≢ slot →
-      blockAt (g .blockSize) after (slotStart g other) ≡ blockAt (g .blockSize) disk (slotStart g other)
+use Rattle.model.proofs.Laws.Wrote.{Wrote}
 
 -- ---- places ----
 
@@ -62,8 +46,8 @@ publicValue g disk number =
 
 -- ---- after a write ----
 
-module _ (g : Geometry) (f : Fits g) (disk after : Bytes) (number slot : ℕ) (content : Bytes) (counted : number < g .publics)
-    (sound : PublicInvariant g disk) (wrote : Wrote g disk after number slot content) where
+module _ (g : Geometry) (disk after : Bytes) (number slot : ℕ) (content : Bytes) (counted : number < g .publics)
+    (sound : PublicInvariant g disk) (wrote : Wrote g number content slot disk after) where
   -- the slot of a number's place
   abbrev home : (other : ℕ) → ℕ
   home other = slotOf g (mapEntry g disk other)
@@ -84,11 +68,8 @@ module _ (g : Geometry) (f : Fits g) (disk after : Bytes) (number slot : ℕ) (c
 
   mark-kept : (other : ℕ) → other < g .publics → other ≢ number → mapEntry g disk other ≢ 0 → isAllocated g after (home other) ≡ true
   mark-kept other h ne p =
-      isAllocated-bit g after (home other)
-      ∙ wrote .bit-other (areaPlace g (home other)) (areaPlace-lt g f (home other) (place-at other h p .slot-inside))
-      (areaPlace-apart g slot (home other) (home-not-new other h p))
-      (λ q. areaPlace-apart g (home number) (home other) (home-apart other h ne p q))
-      ∙ sym (isAllocated-bit g disk (home other)) ∙ place-at other h p .allocated
+      wrote .mark-other (home other) (place-at other h p .slot-inside) (home-not-new other h p)
+      (λ q. home-apart other h ne p q) ∙ place-at other h p .allocated
 
   -- the new place is nobody's old one
   entry-not-new : (other : ℕ) → other < g .publics → other ≢ number → mapEntry g after other ≢ slotStart g slot
@@ -102,7 +83,7 @@ module _ (g : Geometry) (f : Fits g) (disk after : Bytes) (number slot : ℕ) (c
       same : other ≡ number → isPlace g after (mapEntry g after other) ≡ true
       same e =
           ap (isPlace g after) (ap (mapEntry g after) e ∙ wrote .map-same)
-          ∙ isPlace-of g after slot (wrote .inside) (isAllocated-bit g after slot ∙ wrote .bit-new)
+          ∙ isPlace-of g after slot (wrote .inside) (wrote .mark-new)
 
       different : other ≢ number → isPlace g after (mapEntry g after other) ≡ true
       different ne =
@@ -150,5 +131,5 @@ module _ (g : Geometry) (f : Fits g) (disk after : Bytes) (number slot : ℕ) (c
           ap (λ (entry : DiskAddress). cond (eqb entry 0) none (some (blockAt (g .blockSize) after entry))) e
           ∙ ap (λ (block : Bytes). cond (eqb (mapEntry g disk other) 0) none (some block))
           (ap (blockAt (g .blockSize) after) (place .entry-is)
-          ∙ wrote .block-other (home other) (place .slot-inside) (home-not-new other h p)
+          ∙ wrote .block-other (home other) (home-not-new other h p)
           ∙ ap (blockAt (g .blockSize) disk) (sym (place .entry-is)))

@@ -1,5 +1,5 @@
--- What rounds do to the hidden writes of a call and to what hidden numbers show: turns, one after another, and what a
--- whole call's turns and its hidden outcome say of each other. Assumes nothing.
+-- What rounds do to the hidden writes of a call and to what hidden numbers show: the progress of one round after another,
+-- and what a whole call's progress and its hidden outcome say of each other. Assumes nothing.
 use mathlib.Core.Path.{_≡_, refl, sym, ap, ap₂, _∙_}
 use mathlib.Core.Logic.{_≢_, _⊎_, inl, inr, ⊎-elim}
 use mathlib.Core.Bool.{Bool, true, false, cond, not}
@@ -18,7 +18,7 @@ use Rattle.model.specs.Refusals.{hiddenWriteRefusal}
 use Rattle.model.specs.Calls.{Outcome, noWrite, placed, waiting, damagedWalk, badNumber, badSize, outcomeNumber, outcomeOf, offerRefusal, offeredWrites, startState}
 use Rattle.model.specs.Promises.ReadAfterWrite.{offeredUnder}
 
--- ---- turns ----
+-- ---- progress ----
 
 -- what a number shows once hidden writes are placed, one after another
 unfoldable pub shownAfter : (writes : List HiddenWrite) → (number : ℕ) → (before : Option Bytes) → Option Bytes
@@ -26,7 +26,7 @@ shownAfter [] number before = before
 shownAfter (next ∷ later) number before = shownAfter later number (offeredUnder number before (some next))
 
 -- the first of the waiting writes are placed, without damage, and numbers show them
-pub record Turned (g : Geometry) (state result : HiddenState) (old new : ℕ → Option Bytes) : Type 0 where
+pub record Progress (g : Geometry) (state result : HiddenState) (old new : ℕ → Option Bytes) : Type 0 where
   pub done : List HiddenWrite
   pub waiting-is : state .waiting ≡ done ++ result .waiting
   pub placed-is : result .placed ≡ state .placed + length done
@@ -40,10 +40,10 @@ unfolding shownAfter
 shownAfter-append [] ys number before = refl
 shownAfter-append (next ∷ later) ys number before = shownAfter-append later ys number (offeredUnder number before (some next))
 
-pub turned-then :
+pub progress-then :
     (g : Geometry) (state middle result : HiddenState) (old between new : ℕ → Option Bytes) →
-    Turned g state middle old between → Turned g middle result between new → Turned g state result old new
-turned-then g state middle result old between new p q =
+    Progress g state middle old between → Progress g middle result between new → Progress g state result old new
+progress-then g state middle result old between new p q =
     record {
       done = p .done ++ q .done;
       waiting-is =
@@ -98,29 +98,29 @@ module _ (g : Geometry) (result : HiddenState) (old new : ℕ → Option Bytes) 
   shownBy refusal offer =
       cond (eqb (outcomeNumber (outcomeOf refusal result)) 1) (offeredUnder number (old number) offer) (old number)
 
-  module _ (writes : List HiddenWrite) (turned : Turned g (startState writes) result old new) where
-    shows-unplaced : turned .done ≡ [] → (refusal : ℕ) (offer : Option HiddenWrite) → new number ≡ shownBy refusal offer
+  module _ (writes : List HiddenWrite) (progress : Progress g (startState writes) result old new) where
+    shows-unplaced : progress .done ≡ [] → (refusal : ℕ) (offer : Option HiddenWrite) → new number ≡ shownBy refusal offer
     unfolding shownAfter
     shows-unplaced e refusal offer =
-        let l : length (turned .done) ≡ 0 = ap length e in
-        turned .shows number counted ∙ ap (λ (done : List HiddenWrite). shownAfter done number (old number)) e
-        ∙ sym (cond-false _ _ (outcome-unplaced refusal result (omega (arith, turned .placed-is))))
+        let l : length (progress .done) ≡ 0 = ap length e in
+        progress .shows number counted ∙ ap (λ (done : List HiddenWrite). shownAfter done number (old number)) e
+        ∙ sym (cond-false _ _ (outcome-unplaced refusal result (omega (arith, progress .placed-is))))
 
-    shows-placed : (write : HiddenWrite) → turned .done ≡ write ∷ [] → new number ≡ shownBy 0 (some write)
+    shows-placed : (write : HiddenWrite) → progress .done ≡ write ∷ [] → new number ≡ shownBy 0 (some write)
     unfolding shownAfter
     shows-placed write e =
-        let l : length (turned .done) ≡ 1 = ap length e in
-        let said : outcomeOf 0 result ≡ placed = outcome-placed result (omega (arith, turned .placed-is)) in
-        turned .shows number counted ∙ ap (λ (done : List HiddenWrite). shownAfter done number (old number)) e
+        let l : length (progress .done) ≡ 1 = ap length e in
+        let said : outcomeOf 0 result ≡ placed = outcome-placed result (omega (arith, progress .placed-is)) in
+        progress .shows number counted ∙ ap (λ (done : List HiddenWrite). shownAfter done number (old number)) e
         ∙ sym (cond-true _ _ (ap (λ (outcome : Outcome). eqb (outcomeNumber outcome) 1) said))
 
   -- a call's hidden write is shown just if its outcome says placed
-  pub shows-of-turned :
-      (offer : Option HiddenWrite) → Turned g (startState (offeredWrites g offer)) result old new →
+  pub shows-of-progress :
+      (offer : Option HiddenWrite) → Progress g (startState (offeredWrites g offer)) result old new →
       new number ≡ shownBy (offerRefusal g offer) offer
   unfolding offeredWrites offerRefusal
-  shows-of-turned none turned = shows-unplaced [] turned (none-of-none (turned .done) _ (turned .waiting-is)) 0 none
-  shows-of-turned (some write) turned = ⊎-elim good bad (eq-cases refusal 0)
+  shows-of-progress none progress = shows-unplaced [] progress (none-of-none (progress .done) _ (progress .waiting-is)) 0 none
+  shows-of-progress (some write) progress = ⊎-elim good bad (eq-cases refusal 0)
     where
       refusal : ℕ
       refusal = hiddenWriteRefusal g (write .number) (write .content)
@@ -131,11 +131,11 @@ module _ (g : Geometry) (result : HiddenState) (old new : ℕ → Option Bytes) 
       bad : refusal ≢ 0 → new number ≡ shownBy refusal (some write)
       bad ne =
           let e : offered ≡ [] = cond-false _ _ (ne-eqb refusal 0 ne) in
-          shows-unplaced offered turned (none-of-none (turned .done) _ (sym e ∙ turned .waiting-is)) refusal (some write)
+          shows-unplaced offered progress (none-of-none (progress .done) _ (sym e ∙ progress .waiting-is)) refusal (some write)
 
       good : refusal ≡ 0 → new number ≡ shownBy refusal (some write)
       good z =
           let e : offered ≡ write ∷ [] = cond-true _ _ (eq-eqb refusal 0 z) in
-          ⊎-elim (λ p. shows-unplaced offered turned p refusal (some write))
-          (λ p. shows-placed offered turned write p ∙ ap (λ (n : ℕ). shownBy n (some write)) (sym z))
-          (some-of-one write (turned .done) _ (sym e ∙ turned .waiting-is))
+          ⊎-elim (λ p. shows-unplaced offered progress p refusal (some write))
+          (λ p. shows-placed offered progress write p ∙ ap (λ (n : ℕ). shownBy n (some write)) (sym z))
+          (some-of-one write (progress .done) _ (sym e ∙ progress .waiting-is))

@@ -17,3 +17,7 @@ pub mod PublicHalf
 pub mod RoundStores
 pub mod Rounds
 pub mod RoundEffects
+pub mod Wrote
+pub mod RoundCounts
+pub mod Runs
+pub mod WriteRuns

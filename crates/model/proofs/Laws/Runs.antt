@@ -1,0 +1,198 @@
+-- Laws of the rounds of a write, whatever its hidden writes and random bytes: how many there are, the addresses of all
+-- stores in order, that these are whole and inside the disk, and the whole effect on header, map, bitmap and public
+-- blocks; then the same for the run of a write on an accepted drive. Assumes nothing.
+use mathlib.Core.Path.{_≡_, refl, sym, ap, ap₂, _∙_, subst}
+use mathlib.Core.Logic.{_≢_, _⊎_, inl, inr}
+use mathlib.Core.Bool.{Bool, true, false, cond}
+use mathlib.Core.List.{List, [], _∷_, _++_, append-assoc, append-nil}
+use Prim.Native.Nat.{ℕ, zero, suc, _+_, _*_, _-_, _%_, _≤_, _<_}
+use native.Mathlib.Nat.{add-zero, mod-add-mod, mod-eq-of-lt, mul-assoc}
+use native.Mathlib.Omega.{arith}
+use lib.ListN.{length, drop, length-drop}
+use lib.Seq.{append-snoc}
+use Rattle.laws.proofs.Cases.{cond-cases, cond-true, cond-false}
+use Rattle.model.specs.Geometry.{Geometry, Fits, blockCount}
+use Rattle.model.specs.Blocks.{Bytes}
+use Rattle.model.specs.Layout.{slotStart, nextSlot, mapEntry, isAllocated}
+use Rattle.model.specs.Stores.{Trace, apply, addresses}
+use Rattle.model.specs.Table.{PublicChoice, keepPublic, writePublic}
+use Rattle.model.specs.HiddenHalf.{HiddenState, HiddenHalf, rowOf, hiddenHalf}
+use Rattle.model.specs.Rounds.{Run, stopped, followedBy, goesOn, roundTrace, runFrom}
+use Rattle.model.specs.Refusals.{roundsTo, storeCount}
+use Rattle.model.specs.Simulator.{slotAddresses, keptRounds, lastRound}
+use Rattle.model.proofs.Laws.Slots.{nextSlot-lt}
+use Rattle.model.proofs.Laws.Stores.{All, all-append, Stored, apply-append, addresses-append, length-addresses}
+use Rattle.model.proofs.Laws.Paths.{Hides}
+use Rattle.model.proofs.Laws.HiddenHalf.{WholeWrite, HidesHalf, rowOf-public, hiddenHalf-hides}
+use Rattle.model.proofs.Laws.RoundStores.{afterRound, addresses-kept, addresses-last, round-stored, length-round}
+use Rattle.model.proofs.Laws.RoundEffects.{isAllocated-kept}
+use Rattle.model.proofs.Laws.RoundCounts.{roundsTo-zero, roundsTo-free, roundsTo-taken, OneMore, oneMore-of, roundsTo-ext, length-rounds}
+use Rattle.model.proofs.Laws.Wrote.{Placed, old-of-placed, Wrote, last-wrote, entry-kept, placed-kept, kept-wrote}
+
+-- the slot of the round after so many earlier ones from a slot on
+abbrev pub slotAfter : Geometry → (slot earlier : ℕ) → ℕ
+slotAfter g slot earlier = (slot + earlier) % g .slots
+
+-- a run of so many kept rounds and a last one
+pub record Ran (g : Geometry) (number : ℕ) (content : Bytes) (slot earlier : ℕ) (disk : Bytes) (run : Run) : Type 0 where
+  pub counted : run .rounds ≡ suc earlier
+  pub listed :
+      addresses (run .trace) ≡
+      keptRounds earlier g slot ++ lastRound g number (mapEntry g disk number) (slotAfter g slot earlier)
+  pub stored : All (Stored (g .blockSize) (blockCount g)) (run .trace)
+  pub wrote : Wrote g number content (slotAfter g slot earlier) disk (apply (g .blockSize) (run .trace) disk)
+
+append-between : (xs : List ℕ) (n : ℕ) (ys zs : List ℕ) → (xs ++ (n ∷ [])) ++ (ys ++ zs) ≡ (xs ++ (n ∷ ys)) ++ zs
+append-between xs n ys zs = append-snoc xs n (ys ++ zs) ∙ sym (append-assoc xs (n ∷ ys) zs)
+
+module _ (g : Geometry) (f : Fits g) (number : ℕ) (inside : number < g .publics) (content : Bytes)
+    (sized : length content ≡ g .blockSize) where
+  -- ---- one round ----
+
+  module _ (disk : Bytes) (whole : length disk ≡ blockCount g * g .blockSize) (slot : ℕ) (here : slot < g .slots)
+      (placed : Placed g disk number) (hidden : Trace) (hides : Hides g slot hidden) where
+    stored-round :
+        (choice : PublicChoice) →
+        All (Stored (g .blockSize) (blockCount g)) (roundTrace choice g disk number slot content hidden)
+    stored-round =
+        round-stored g f disk whole number inside slot here content sized (old-of-placed g disk number placed) hidden hides
+
+    -- the last round
+    last-ran :
+        isAllocated g disk slot ≡ false → (state : HiddenState) →
+        Ran g number content slot 0 disk (followedBy (roundTrace writePublic g disk number slot content hidden) (stopped state))
+    unfolding keptRounds
+    last-ran free state =
+        let e : slotAfter g slot 0 ≡ slot = ap (λ (n : ℕ). n % g .slots) (add-zero slot) ∙ mod-eq-of-lt here in
+        let round = roundTrace writePublic g disk number slot content hidden in
+        record {
+          counted = refl;
+          listed =
+            ap addresses (append-nil round) ∙ addresses-last g disk number slot content hidden hides
+            ∙ ap (lastRound g number (mapEntry g disk number)) (sym e);
+          stored = rw append-nil (stored-round writePublic);
+          wrote =
+            rw (e, append-nil) (last-wrote g f disk whole number inside slot here content sized placed hidden hides free);
+        }
+
+    -- a kept round and then a run
+    kept-ran :
+        (earlier : ℕ) (run : Run) →
+        Ran g number content (nextSlot g slot) earlier (afterRound keepPublic g disk number slot content hidden) run →
+        Ran g number content slot (suc earlier) disk (followedBy (roundTrace keepPublic g disk number slot content hidden) run)
+    unfolding keptRounds
+    kept-ran earlier run ran =
+        let kept = afterRound keepPublic g disk number slot content hidden in
+        let round = roundTrace keepPublic g disk number slot content hidden in
+        let same : slotAfter g (nextSlot g slot) earlier ≡ slotAfter g slot (suc earlier) =
+        mod-add-mod (slot + 1) (g .slots) earlier ∙ ap (λ (n : ℕ). n % g .slots) (omega arith) in
+        let entry = entry-kept g f disk whole number inside slot here content sized placed hidden hides in
+        record {
+          counted = ap suc (ran .counted);
+          listed =
+            addresses-append round (run .trace)
+            ∙ ap₂ (λ (xs ys : List ℕ). xs ++ ys) (addresses-kept g disk number slot content hidden hides) (ran .listed)
+            ∙ rw (entry, same)
+            (append-between (slotAddresses g slot) 0 (keptRounds earlier g (nextSlot g slot))
+            (lastRound g number (mapEntry g disk number) (slotAfter g slot (suc earlier))));
+          stored =
+            all-append (Stored (g .blockSize) (blockCount g)) round (run .trace) (stored-round keepPublic) (ran .stored);
+          wrote =
+            kept-wrote g f disk whole number inside slot here content sized placed hidden hides (slotAfter g slot (suc earlier))
+            (apply (g .blockSize) (round ++ run .trace) disk)
+            (rw (← same, apply-append) (ran .wrote));
+        }
+
+  -- ---- all rounds ----
+
+  -- what a run of at most so many rounds does, from any slot of any disk
+  abbrev RanBy : (most : ℕ) → Type 0
+  RanBy most =
+      (disk : Bytes) → length disk ≡ blockCount g * g .blockSize → (slot : ℕ) → slot < g .slots → Placed g disk number →
+      (random : Bytes) (state : HiddenState) (earlier : ℕ) → roundsTo most (isAllocated g disk) g slot ≡ suc earlier →
+      suc earlier * (g .height * g .blockSize) ≤ length random → All (WholeWrite g) (state .waiting) →
+      Ran g number content slot earlier disk (runFrom most g number content slot random disk state)
+
+  -- one round more, whatever its hidden half
+  module _ (most : ℕ) (later : RanBy most) (disk : Bytes) (whole : length disk ≡ blockCount g * g .blockSize)
+      (slot : ℕ) (here : slot < g .slots) (placed : Placed g disk number) (random : Bytes) (earlier : ℕ)
+      (rounds : roundsTo (suc most) (isAllocated g disk) g slot ≡ suc earlier)
+      (enough : suc earlier * (g .height * g .blockSize) ≤ length random) (part : HiddenHalf)
+      (hides : HidesHalf g slot part) where
+    -- the run by the public choice
+    abbrev runBy : PublicChoice → Run
+    runBy choice =
+        followedBy (roundTrace choice g disk number slot content (part .trace))
+        (cond (goesOn choice)
+        (runFrom most g number content (nextSlot g slot) (drop (g .height * g .blockSize) random)
+        (afterRound choice g disk number slot content (part .trace)) (part .state))
+        (stopped (part .state)))
+
+    ran-last : isAllocated g disk slot ≡ false → Ran g number content slot earlier disk (runBy writePublic)
+    ran-last free =
+        let e : 0 ≡ earlier = omega (arith, roundsTo-free most (isAllocated g disk) g slot free, rounds) in
+        subst (λ (n : ℕ). Ran g number content slot n disk (runBy writePublic)) e
+        (last-ran disk whole slot here placed (part .trace) (hides .hides) free (part .state))
+
+    ran-kept : isAllocated g disk slot ≡ true → Ran g number content slot earlier disk (runBy keepPublic)
+    ran-kept taken =
+        let old = old-of-placed g disk number placed in
+        let kept = afterRound keepPublic g disk number slot content (part .trace) in
+        let more = oneMore-of (roundsTo most (isAllocated g disk) g (nextSlot g slot)) earlier
+          (sym (roundsTo-taken most (isAllocated g disk) g slot taken) ∙ rounds) in
+        let same = roundsTo-ext most (isAllocated g kept) (isAllocated g disk) g f (nextSlot g slot) (nextSlot-lt g slot f)
+          (isAllocated-kept g f disk whole number inside slot here content sized old (part .trace) (hides .hides)) in
+        let e : suc (more .before) ≡ earlier = sym (more .earlier-is) in
+        let rest : suc (more .before) * (g .height * g .blockSize) ≤ length (drop (g .height * g .blockSize) random) =
+        simp length-drop (omega (arith, rw (more .earlier-is) at enough)) in
+        subst (λ (n : ℕ). Ran g number content slot n disk (runBy keepPublic)) e
+        (kept-ran disk whole slot here placed (part .trace) (hides .hides) (more .before) _
+        (later kept
+        (length-round g f disk whole number inside slot here content sized old (part .trace) (hides .hides) keepPublic ∙ whole)
+        (nextSlot g slot) (nextSlot-lt g slot f)
+        (placed-kept g f disk whole number inside slot here content sized placed (part .trace) (hides .hides))
+        (drop (g .height * g .blockSize) random) (part .state) (more .before) (same ∙ more .rounds-is) rest (hides .waiting)))
+
+  one-more : (most : ℕ) → RanBy most → RanBy (suc most)
+  unfolding runFrom
+  one-more most later disk whole slot here placed random state earlier rounds enough writes =
+      subst (λ (choice : PublicChoice). Ran g number content slot earlier disk
+      (runBy most later disk whole slot here placed random earlier rounds enough part hides choice))
+      (sym (rowOf-public g disk slot (state .waiting)))
+      (cond-cases (λ (choice : PublicChoice). Ran g number content slot earlier disk
+      (runBy most later disk whole slot here placed random earlier rounds enough part hides choice))
+      (isAllocated g disk slot)
+      (ran-kept most later disk whole slot here placed random earlier rounds enough part hides)
+      (ran-last most later disk whole slot here placed random earlier rounds enough part hides))
+    where
+      part : HiddenHalf
+      part = hiddenHalf g disk slot random state
+
+      hides : HidesHalf g slot part
+      hides = hiddenHalf-hides g f disk whole slot here random (omega arith) state writes
+
+  pub runFrom-ran : (most : ℕ) → RanBy most
+  runFrom-ran zero = λ disk whole slot here placed random state earlier rounds enough writes.
+      absurd (omega (arith, rounds, roundsTo-zero (isAllocated g disk) g slot))
+  runFrom-ran (suc most) = one-more most (runFrom-ran most)
+
+-- ---- by the number of rounds ----
+
+module _ (g : Geometry) (number : ℕ) (content : Bytes) (slot rounds : ℕ) (some : rounds ≢ 0) (disk : Bytes)
+    (run : Run) (ran : Ran g number content slot (rounds - 1) disk run) where
+  pub rounds-ran : run .rounds ≡ rounds
+  rounds-ran = omega (arith, ran .counted)
+
+  pub length-ran : length (run .trace) ≡ storeCount g rounds (mapEntry g disk number)
+  length-ran =
+      let e : suc (rounds - 1) ≡ rounds = omega arith in
+      sym (length-addresses (run .trace)) ∙ ap length (ran .listed)
+      ∙ length-rounds (rounds - 1) g number (mapEntry g disk number) slot (slotAfter g slot (rounds - 1))
+      ∙ ap (λ (n : ℕ). storeCount g n (mapEntry g disk number)) e
+
+-- the slot of the last of so many rounds
+pub slotAfter-rounds :
+    (g : Geometry) (slot rounds : ℕ) → rounds ≢ 0 → slotAfter g slot (rounds - 1) ≡ (slot + rounds - 1) % g .slots
+slotAfter-rounds g slot rounds some =
+    let e : slot + (rounds - 1) ≡ slot + rounds - 1 = omega arith in
+    ap (λ (n : ℕ). n % g .slots) e

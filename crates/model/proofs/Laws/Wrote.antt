@@ -1,0 +1,157 @@
+-- What a run of rounds leaves in header, map, bitmap and public blocks: after its last round, and with one more kept
+-- round before. Assumes nothing.
+use mathlib.Core.Path.{_≡_, sym, ap, _∙_}
+use mathlib.Core.Logic.{_≢_, _⊎_, inl, inr}
+use mathlib.Core.Bool.{Bool, true, false}
+use Prim.Native.Nat.{ℕ, _*_, _<_}
+use lib.ListN.{length}
+use Rattle.laws.proofs.Cases.{and-left, and-right, and-both, true-is-not-false}
+use Rattle.model.specs.Geometry.{Geometry, Fits, bitmapBlocks, blockCount}
+use Rattle.model.specs.Blocks.{Bytes, blockAt, entryAt}
+use Rattle.model.specs.Layout.{headIn, slotStart, slotOf, nextSlot, areaPlace, mapEntry, isSlotBlock, isAllocated, isPlace}
+use Rattle.model.specs.Stores.{Trace}
+use Rattle.model.specs.Table.{keepPublic, writePublic}
+use Rattle.model.specs.Invariants.{bitmapBit}
+use Rattle.model.proofs.Laws.Slots.{slotBlock-of}
+use Rattle.model.proofs.Laws.Paths.{Hides}
+use Rattle.model.proofs.Laws.PublicHalf.{OldPlace}
+use Rattle.model.proofs.Laws.RoundStores.{afterRound, length-round}
+use Rattle.model.proofs.Laws.Rounds.{entryAt-round, headIn-round, blockAt-round-start-other}
+use Rattle.model.proofs.Laws.RoundEffects.{mapEntry-kept, bitmapBit-kept, isAllocated-kept, blockAt-kept-start, blockAt-last-start, mapEntry-last-same, mapEntry-last-other, bitmapBit-last-new, bitmapBit-last-old, bitmapBit-last-other, isAllocated-last-new, isAllocated-last-old, isAllocated-last-other}
+
+-- ---- a number's place ----
+
+-- its entry is 0 or block A of an allocated slot
+abbrev pub Placed : Geometry → (disk : Bytes) → (number : ℕ) → Type 0
+Placed g disk number = (mapEntry g disk number ≡ 0) ⊎ (isPlace g disk (mapEntry g disk number) ≡ true)
+
+pub old-of-placed : (g : Geometry) (disk : Bytes) (number : ℕ) → Placed g disk number → OldPlace g (mapEntry g disk number)
+unfolding isPlace
+old-of-placed g disk number (inl e) = inl e
+old-of-placed g disk number (inr e) =
+    let entry = mapEntry g disk number in
+    inr (slotBlock-of g 0 entry (and-left (isSlotBlock g 0 entry) (isAllocated g disk (slotOf g entry)) e))
+
+-- it is not in a free slot
+pub placed-apart :
+    (g : Geometry) (disk : Bytes) (number slot : ℕ) → Placed g disk number → isAllocated g disk slot ≡ false →
+    mapEntry g disk number ≢ 0 → slotOf g (mapEntry g disk number) ≢ slot
+unfolding isPlace
+placed-apart g disk number slot (inl e) free ne q = ne e
+placed-apart g disk number slot (inr e) free ne q =
+    let entry = mapEntry g disk number in
+    true-is-not-false (and-right (isSlotBlock g 0 entry) (isAllocated g disk (slotOf g entry)) e)
+    (ap (isAllocated g disk) q ∙ free)
+
+-- ---- the whole effect ----
+
+-- what stands on the disk after the rounds of a write whose last round was at a slot
+pub record Wrote (g : Geometry) (number : ℕ) (content : Bytes) (last : ℕ) (disk final : Bytes) : Type 0 where
+  pub whole : length final ≡ blockCount g * g .blockSize
+  pub inside : last < g .slots
+  pub was-free : isAllocated g disk last ≡ false
+  pub fields : (i : ℕ) → i < 5 → entryAt i final ≡ entryAt i disk
+  pub head : headIn final ≡ nextSlot g last
+  pub map-same : mapEntry g final number ≡ slotStart g last
+  pub map-other :
+      (other : ℕ) → other < g .publics → other ≢ number → mapEntry g final other ≡ mapEntry g disk other
+  pub mark-new : isAllocated g final last ≡ true
+  pub mark-old :
+      mapEntry g disk number ≢ 0 → isAllocated g final (slotOf g (mapEntry g disk number)) ≡ false
+  pub mark-other :
+      (slot : ℕ) → slot < g .slots → slot ≢ last →
+      (mapEntry g disk number ≢ 0 → slot ≢ slotOf g (mapEntry g disk number)) →
+      isAllocated g final slot ≡ isAllocated g disk slot
+  pub bit-new : bitmapBit g final (areaPlace g last) ≡ true
+  pub bit-old :
+      mapEntry g disk number ≢ 0 → bitmapBit g final (areaPlace g (slotOf g (mapEntry g disk number))) ≡ false
+  pub bit-other :
+      (place : ℕ) → place < bitmapBlocks g * (8 * g .blockSize) → place ≢ areaPlace g last →
+      (mapEntry g disk number ≢ 0 → place ≢ areaPlace g (slotOf g (mapEntry g disk number))) →
+      bitmapBit g final place ≡ bitmapBit g disk place
+  pub block-new : blockAt (g .blockSize) final (slotStart g last) ≡ content
+  pub block-other :
+      (slot : ℕ) → slot ≢ last →
+      blockAt (g .blockSize) final (slotStart g slot) ≡ blockAt (g .blockSize) disk (slotStart g slot)
+
+module _ (g : Geometry) (f : Fits g) (disk : Bytes) (whole : length disk ≡ blockCount g * g .blockSize)
+    (number : ℕ) (counted : number < g .publics) (slot : ℕ) (inside : slot < g .slots) (content : Bytes)
+    (sized : length content ≡ g .blockSize) (placed : Placed g disk number) (hidden : Trace)
+    (hides : Hides g slot hidden) where
+  old : OldPlace g (mapEntry g disk number)
+  old = old-of-placed g disk number placed
+
+  pub last-wrote :
+      isAllocated g disk slot ≡ false →
+      Wrote g number content slot disk (afterRound writePublic g disk number slot content hidden)
+  last-wrote free =
+      let apart = placed-apart g disk number slot placed free in
+      record {
+        whole = length-round g f disk whole number counted slot inside content sized old hidden hides writePublic ∙ whole;
+        inside = inside;
+        was-free = free;
+        fields = entryAt-round g f disk whole number counted slot inside content sized old hidden hides writePublic;
+        head = headIn-round g f disk whole number counted slot inside content sized old hidden hides writePublic;
+        map-same = mapEntry-last-same g f disk whole number counted slot inside content sized old hidden hides;
+        map-other = mapEntry-last-other g f disk whole number counted slot inside content sized old hidden hides;
+        mark-new = isAllocated-last-new g f disk whole number counted slot inside content sized old hidden hides apart;
+        mark-old = isAllocated-last-old g f disk whole number counted slot inside content sized old hidden hides;
+        mark-other = isAllocated-last-other g f disk whole number counted slot inside content sized old hidden hides;
+        bit-new = bitmapBit-last-new g f disk whole number counted slot inside content sized old hidden hides apart;
+        bit-old = bitmapBit-last-old g f disk whole number counted slot inside content sized old hidden hides;
+        bit-other = bitmapBit-last-other g f disk whole number counted slot inside content sized old hidden hides;
+        block-new = blockAt-last-start g f disk whole number counted slot inside content sized old hidden hides;
+        block-other =
+          blockAt-round-start-other g f disk whole number counted slot inside content sized old hidden hides writePublic;
+      }
+
+  abbrev kept : Bytes
+  kept = afterRound keepPublic g disk number slot content hidden
+
+  mark-kept : (other : ℕ) → other < g .slots → isAllocated g kept other ≡ isAllocated g disk other
+  mark-kept = isAllocated-kept g f disk whole number counted slot inside content sized old hidden hides
+
+  pub entry-kept : mapEntry g kept number ≡ mapEntry g disk number
+  entry-kept = mapEntry-kept g f disk whole number counted slot inside content sized old hidden hides number counted
+
+  pub placed-kept : Placed g kept number
+  unfolding isPlace
+  placed-kept = by placed old
+    where
+      by : Placed g disk number → OldPlace g (mapEntry g disk number) → Placed g kept number
+      by (inl e) z = inl (entry-kept ∙ e)
+      by (inr e) (inl z) = inl (entry-kept ∙ z)
+      by (inr e) (inr block) =
+          inr (rw entry-kept (and-both
+          (and-left (isSlotBlock g 0 (mapEntry g disk number)) (isAllocated g disk (slotOf g (mapEntry g disk number))) e)
+          (mark-kept (slotOf g (mapEntry g disk number)) (block .slot-inside)
+          ∙ and-right (isSlotBlock g 0 (mapEntry g disk number)) (isAllocated g disk (slotOf g (mapEntry g disk number))) e)))
+
+  -- a kept round before
+  pub kept-wrote : (last : ℕ) (final : Bytes) → Wrote g number content last kept final → Wrote g number content last disk final
+  kept-wrote last final w =
+      record {
+        whole = w .whole;
+        inside = w .inside;
+        was-free = sym (mark-kept last (w .inside)) ∙ w .was-free;
+        fields = λ i h.
+          w .fields i h
+          ∙ entryAt-round g f disk whole number counted slot inside content sized old hidden hides keepPublic i h;
+        head = w .head;
+        map-same = w .map-same;
+        map-other = λ other h ne.
+          w .map-other other h ne
+          ∙ mapEntry-kept g f disk whole number counted slot inside content sized old hidden hides other h;
+        mark-new = w .mark-new;
+        mark-old = rw entry-kept at (w .mark-old);
+        mark-other = λ other h ne apart. w .mark-other other h ne (rw entry-kept apart) ∙ mark-kept other h;
+        bit-new = w .bit-new;
+        bit-old = rw entry-kept at (w .bit-old);
+        bit-other = λ place h ne apart.
+          w .bit-other place h ne (rw entry-kept apart)
+          ∙ bitmapBit-kept g f disk whole number counted slot inside content sized old hidden hides place h;
+        block-new = w .block-new;
+        block-other = λ other ne.
+          w .block-other other ne
+          ∙ blockAt-kept-start g f disk whole number counted slot inside content sized old hidden hides other;
+      }

@@ -5,7 +5,9 @@ pub mod Walks
 pub mod Invariant
 pub mod FromInvariant
 pub mod Nodes
+pub mod Planted
 pub mod Planting
 pub mod Stored
 pub mod Unused
+pub mod Placing
 pub mod Turns

@@ -92,6 +92,23 @@ valueOf g disk tree number = blockIn g disk (slotAt g tree 0 number)
 pub some-inj : (n m : ℕ) → some n ≡ some m → n ≡ m
 some-inj n m e = cc
 
+-- a slot's node, or its block, on two disks that agree there
+pub nodeIn-same :
+    (g : Geometry) (disk after : Bytes) (level : ℕ) (held : Option ℕ) →
+    ((slot : ℕ) → held ≡ some slot →
+    blockAt (g .blockSize) after (levelAddress g slot level) ≡ blockAt (g .blockSize) disk (levelAddress g slot level)) →
+    nodeIn g after level held ≡ nodeIn g disk level held
+nodeIn-same g disk after level none same = refl
+nodeIn-same g disk after level (some slot) same = same slot refl
+
+pub blockIn-same :
+    (g : Geometry) (disk after : Bytes) (held : Option ℕ) →
+    ((slot : ℕ) → held ≡ some slot →
+    blockAt (g .blockSize) after (levelAddress g slot 0) ≡ blockAt (g .blockSize) disk (levelAddress g slot 0)) →
+    blockIn g after held ≡ blockIn g disk held
+blockIn-same g disk after none same = refl
+blockIn-same g disk after (some slot) same = ap {B = Option Bytes} some (same slot refl)
+
 module _ (g : Geometry) (disk : Bytes) (tree : Tree) where
   pub nodeAt-height : (number : ℕ) → nodeAt g disk tree (g .height) number ≡ blockAt (g .blockSize) disk (rootAddress g)
   unfolding nodeAt

@@ -76,13 +76,16 @@ module _ (g : Geometry) (f : Fits g) where
   span-positive (suc level) = rw (span-suc g level) (product (span g level) (entriesIn g level) (span-positive level) (entriesIn-positive level))
     where
       product : (n m : ℕ) → 0 < n → 0 < m → 0 < n * m
-      product (suc n) (suc m) h k = omega (arith)
+      product (suc n) (suc m) h k = omega arith
 
   -- the first number below an entry
   pub keyOf-first : (level key : ℕ) → keyOf g level (key * span g level) ≡ key
   keyOf-first level key = mul-div-cancel key (span-positive level)
 
   -- ---- keys at the root ----
+
+  pub lt-treeCapacity : (number : ℕ) → number < g .hidden → number < treeCapacity g
+  lt-treeCapacity number h = omega (arith, f .hidden-fits)
 
   pub span-height : span g (g .height) ≡ treeCapacity g
   unfolding span

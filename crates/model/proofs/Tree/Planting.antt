@@ -1,5 +1,5 @@
--- A path stored in a slot up to a level, all of it with the root or a live slot's own path in part: the ghost tree with the
--- path planted in it is that of the new disk. Assumes nothing.
+-- A path stored in a slot up to a level: the ghost tree with the path planted in it is that of the new disk. Links first,
+-- then owners. Assumes nothing.
 use mathlib.Core.Path.{_≡_, refl, sym, ap, ap₂, _∙_, subst}
 use mathlib.Core.Logic.{_≢_, _⊎_, inl, inr, ⊎-elim}
 use mathlib.Core.Bool.{Bool, true, false, cond, _&&_}
@@ -16,70 +16,11 @@ use Rattle.model.specs.Layout.{slotStart, levelAddress}
 use Rattle.model.specs.HiddenTree.{branchAt}
 use Rattle.model.specs.HiddenHalf.{ownerOf}
 use Rattle.model.specs.Paths.{linkedNode}
-use Rattle.model.proofs.Tree.Keys.{keyOf, keyOf-zero, keyOf-up, keyOf-down, branchAt-same, keyOf-height}
-use Rattle.model.proofs.Tree.Ghost.{Tree, slotAt, entryTo, nodeIn, nodeAt, Linked, Owned, Ghost, some-inj, nodeAt-height, nodeAt-below, nodeAt-same, length-nodeAt}
+use Rattle.model.proofs.Tree.Keys.{keyOf, keyOf-zero, keyOf-up, keyOf-down, branchAt-same, keyOf-height, lt-treeCapacity}
+use Rattle.model.proofs.Tree.Ghost.{Tree, slotAt, entryTo, nodeIn, nodeAt, Linked, Owned, Ghost, some-inj, nodeAt-height, nodeAt-below, nodeAt-same, nodeIn-same, length-nodeAt}
 use Rattle.model.proofs.Tree.Nodes.{entryAt-linkedNode-same, entryAt-linkedNode-other}
 
--- the tree with a number's path in a slot, up to a level
-abbrev pub planted : Geometry → Tree → (number slot top : ℕ) → Tree
-planted g tree number slot top level key =
-    cond (leb level top && eqb key (keyOf g level number)) (some slot) (tree level key)
-
--- a slot's hidden blocks are as they were on another disk
-abbrev pub Apart : Geometry → (disk after : Bytes) → (slot : ℕ) → Type 0
-Apart g disk after slot =
-    (other place : ℕ) → other < g .slots → other ≢ slot → 1 ≤ place → place ≤ g .height →
-    blockAt (g .blockSize) after (slotStart g other + place) ≡ blockAt (g .blockSize) disk (slotStart g other + place)
-
--- a number's path stands in a slot up to a level, on a disk that was another one before
-pub record Planted (g : Geometry) (disk after : Bytes) (tree : Tree) (number slot top : ℕ) : Type 0 where
-  pub top-lt : top < g .height
-  -- the slot is used for nothing but this path
-  pub ours :
-      (other level : ℕ) → other < treeCapacity g → level < g .height → slotAt g tree level other ≡ some slot →
-      keyOf g level other ≡ keyOf g level number
-  -- the path's nodes below the level
-  pub nodes :
-      (level : ℕ) → level < top →
-      blockAt (g .blockSize) after (levelAddress g slot (suc level)) ≡
-      linkedNode g number slot level (nodeAt g disk tree (suc level) number)
-  -- the slot's nodes above it, if they are current
-  pub above :
-      (level : ℕ) → top < level → level < g .height → slotAt g tree level number ≡ some slot →
-      blockAt (g .blockSize) after (levelAddress g slot level) ≡ blockAt (g .blockSize) disk (levelAddress g slot level)
-  pub apart : Apart g disk after slot
-  pub owner : ownerOf g after slot ≡ number
-  -- the whole path with the root, or a path that was in this slot before
-  pub joined :
-      ((suc top ≡ g .height) ×
-      (blockAt (g .blockSize) after (rootAddress g) ≡ linkedNode g number slot top (nodeAt g disk tree (g .height) number))) ⊎
-      ((blockAt (g .blockSize) after (rootAddress g) ≡ blockAt (g .blockSize) disk (rootAddress g)) ×
-      (slotAt g tree top number ≡ some slot) × (slotAt g tree 0 number ≡ some slot))
-
--- ---- the planted tree ----
-
-module _ (g : Geometry) (tree : Tree) (number slot top : ℕ) where
-  pub planted-same :
-      (level other : ℕ) → level ≤ top → keyOf g level other ≡ keyOf g level number →
-      slotAt g (planted g tree number slot top) level other ≡ some slot
-  planted-same level other h e =
-      cond-true (some slot) (slotAt g tree level other)
-      (and-both (le-leb level top h) (eq-eqb (keyOf g level other) (keyOf g level number) e))
-
-  pub planted-above :
-      (level other : ℕ) → top < level → slotAt g (planted g tree number slot top) level other ≡ slotAt g tree level other
-  planted-above level other h =
-      cond-false (some slot) (slotAt g tree level other)
-      (and-false-left (eqb (keyOf g level other) (keyOf g level number)) (lt-leb level top h))
-
-  pub planted-other :
-      (level other : ℕ) → keyOf g level other ≢ keyOf g level number →
-      slotAt g (planted g tree number slot top) level other ≡ slotAt g tree level other
-  planted-other level other ne =
-      cond-false (some slot) (slotAt g tree level other)
-      (and-false-right (leb level top) (ne-eqb (keyOf g level other) (keyOf g level number) ne))
-
--- ---- the new disk ----
+use Rattle.model.proofs.Tree.Planted.{planted, Planted, planted-same, planted-above, planted-other}
 
 module _ (g : Geometry) (f : Fits g) (disk after : Bytes) (tree : Tree) (whole : length disk ≡ blockCount g * g .blockSize)
   (ghost : Ghost g disk tree) (number slot top : ℕ) (low : number < g .hidden) (here : slot < g .slots)
@@ -87,32 +28,31 @@ module _ (g : Geometry) (f : Fits g) (disk after : Bytes) (tree : Tree) (whole :
   abbrev new : Tree
   new = planted g tree number slot top
 
-  low-capacity : number < treeCapacity g
-  low-capacity = omega (arith, low, f .hidden-fits)
-
   -- all numbers of the tree share the root
   root-shared : (other level : ℕ) → other < treeCapacity g → level ≡ g .height → keyOf g level other ≡ keyOf g level number
   root-shared other level h e =
-      subst (λ (l : ℕ). keyOf g l other ≡ keyOf g l number) (sym e) (keyOf-height g f other h ∙ sym (keyOf-height g f number low-capacity))
+      subst (λ (l : ℕ). keyOf g l other ≡ keyOf g l number) (sym e) (keyOf-height g f other h ∙ sym (keyOf-height g f number (lt-treeCapacity g f number low)))
 
   -- a node that was not stored, or that others use, is as it was
   nodeIn-kept : (other level : ℕ) → other < treeCapacity g → suc level < g .height →
-      (top < suc level) ⊎ (keyOf g (suc level) other ≢ keyOf g (suc level) number) → (held : Option ℕ) →
-      slotAt g tree (suc level) other ≡ held → nodeIn g after (suc level) held ≡ nodeIn g disk (suc level) held
-  nodeIn-kept other level h k c none e = refl
-  nodeIn-kept other level h k c (some held) e = by (eq-cases held slot)
+      (top < suc level) ⊎ (keyOf g (suc level) other ≢ keyOf g (suc level) number) →
+      nodeIn g after (suc level) (slotAt g tree (suc level) other) ≡ nodeIn g disk (suc level) (slotAt g tree (suc level) other)
+  nodeIn-kept other level h k unstored =
+      nodeIn-same g disk after (suc level) (slotAt g tree (suc level) other) (λ held e. by held e (eq-cases held slot))
     where
-      by : (held ≡ slot) ⊎ (held ≢ slot) → nodeIn g after (suc level) (some held) ≡ nodeIn g disk (suc level) (some held)
-      by (inr ne) = path .apart held (suc level) (ghost .links .inside other (suc level) held h k e) ne (omega arith) (omega arith)
-      by (inl q) =
+      by : (held : ℕ) → slotAt g tree (suc level) other ≡ some held → (held ≡ slot) ⊎ (held ≢ slot) →
+          nodeIn g after (suc level) (some held) ≡ nodeIn g disk (suc level) (some held)
+      by held e (inr ne) =
+          path .apart held (suc level) (ghost .links .inside other (suc level) held h k e) ne (omega arith) (omega arith)
+      by held e (inl q) =
           let mine : slotAt g tree (suc level) other ≡ some slot = e ∙ ap {B = Option ℕ} some q in
           let shared = path .ours other (suc level) h k mine in
           ⊎-elim
-          (λ a.
+          (λ l.
           ap (λ (n : ℕ). blockAt (g .blockSize) after (levelAddress g n (suc level))) q
-          ∙ path .above (suc level) a k (ap (tree (suc level)) (sym shared) ∙ mine)
+          ∙ path .above (suc level) l k (ap (tree (suc level)) (sym shared) ∙ mine)
           ∙ ap (λ (n : ℕ). blockAt (g .blockSize) disk (levelAddress g n (suc level))) (sym q))
-          (λ a. absurd (a shared)) c
+          (λ ne. absurd (ne shared)) unstored
 
   -- ---- links ----
 
@@ -130,7 +70,7 @@ module _ (g : Geometry) (f : Fits g) (disk after : Bytes) (tree : Tree) (whole :
       old = nodeAt g disk tree (suc level) number
 
       sized : length old ≡ g .blockSize
-      sized = length-nodeAt g disk tree whole (ghost .links) (suc level) number (omega arith) low-capacity
+      sized = length-nodeAt g disk tree whole (ghost .links) (suc level) number (omega arith) (lt-treeCapacity g f number low)
 
       by : (keyOf g level other ≡ keyOf g level number) ⊎ (keyOf g level other ≢ keyOf g level number) → LinkedAt other level
       by (inl e) =
@@ -158,7 +98,7 @@ module _ (g : Geometry) (f : Fits g) (disk after : Bytes) (tree : Tree) (whole :
       let l : suc level < g .height = ⊎-elim (λ e. absurd (ne (root-shared other (suc level) h e))) (λ e. omega arith) (eq-cases (suc level) (g .height)) in
       nodeAt-below g after new (suc level) other l
       ∙ ap (nodeIn g after (suc level)) (planted-other g tree number slot top (suc level) other ne)
-      ∙ nodeIn-kept other level h l (inr ne) (slotAt g tree (suc level) other) refl
+      ∙ nodeIn-kept other level h l (inr ne)
       ∙ sym (nodeAt-below g disk tree (suc level) other l)
 
   -- a node above what was stored, the root as it was
@@ -173,7 +113,7 @@ module _ (g : Geometry) (f : Fits g) (disk after : Bytes) (tree : Tree) (whole :
       let i : suc level < g .height = omega arith in
       nodeAt-below g after new (suc level) other i
       ∙ ap (nodeIn g after (suc level)) (planted-above g tree number slot top (suc level) other l)
-      ∙ nodeIn-kept other level h i (inl l) (slotAt g tree (suc level) other) refl
+      ∙ nodeIn-kept other level h i (inl l)
       ∙ sym (nodeAt-below g disk tree (suc level) other i))
       (eq-cases (suc level) (g .height))
 
@@ -250,29 +190,33 @@ module _ (g : Geometry) (f : Fits g) (disk after : Bytes) (tree : Tree) (whole :
             (λ c. let l = high (sym (old .below) ∙ ap (keyOf g level) z) in omega (arith, c .0))
             (λ c. ne (some-inj held slot (sym (old .holds) ∙ ap (tree 0) q ∙ c .2))) (path .joined)
 
-    owned-planted : slotAt g new level other ≡ some held → Owned g after new other level held
-    owned-planted e = by (eq-cases (keyOf g level other) (keyOf g level number)) (lt-cases top level)
-      where
-        by : (keyOf g level other ≡ keyOf g level number) ⊎ (keyOf g level other ≢ keyOf g level number) →
-            (top < level) ⊎ (level ≤ top) → Owned g after new other level held
-        by (inl q) (inr l) = owned-mine q (some-inj slot held (sym (planted-same g tree number slot top level other l q) ∙ e))
-        by (inl q) (inl l) =
-            ⊎-elim (λ z. owned-mine q (sym z))
-            (λ z. owned-theirs (sym (planted-above g tree number slot top level other l) ∙ e) z (λ y. l)) (eq-cases held slot)
-        by (inr q) l =
-            let old : slotAt g tree level other ≡ some held = sym (planted-other g tree number slot top level other q) ∙ e in
-            owned-theirs old (λ z. q (path .ours other level h k (old ∙ ap {B = Option ℕ} some z))) (λ y. absurd (q y))
-
-  inside-planted : (other level held : ℕ) → other < treeCapacity g → level < g .height → slotAt g new level other ≡ some held → held < g .slots
-  inside-planted other level held h k e = by (eq-cases (keyOf g level other) (keyOf g level number)) (lt-cases top level)
+  -- a slot of the new tree is the path's, or it was there before and the path did not reach it
+  held-cases : (other level held : ℕ) → other < treeCapacity g → level < g .height → slotAt g new level other ≡ some held →
+      ((keyOf g level other ≡ keyOf g level number) × (slot ≡ held)) ⊎
+      ((slotAt g tree level other ≡ some held) × (held ≢ slot) × (keyOf g level other ≡ keyOf g level number → top < level))
+  held-cases other level held h k e = by (eq-cases (keyOf g level other) (keyOf g level number)) (lt-cases top level)
     where
       by : (keyOf g level other ≡ keyOf g level number) ⊎ (keyOf g level other ≢ keyOf g level number) →
-          (top < level) ⊎ (level ≤ top) → held < g .slots
-      by (inl q) (inr l) =
-          subst (λ (n : ℕ). n < g .slots) (some-inj slot held (sym (planted-same g tree number slot top level other l q) ∙ e)) here
+          (top < level) ⊎ (level ≤ top) →
+          ((keyOf g level other ≡ keyOf g level number) × (slot ≡ held)) ⊎
+          ((slotAt g tree level other ≡ some held) × (held ≢ slot) × (keyOf g level other ≡ keyOf g level number → top < level))
+      by (inl q) (inr l) = inl (q, some-inj slot held (sym (planted-same g tree number slot top level other l q) ∙ e))
       by (inl q) (inl l) =
-          ghost .links .inside other level held h k (sym (planted-above g tree number slot top level other l) ∙ e)
-      by (inr q) l = ghost .links .inside other level held h k (sym (planted-other g tree number slot top level other q) ∙ e)
+          ⊎-elim (λ z. inl (q, sym z)) (λ z. inr (sym (planted-above g tree number slot top level other l) ∙ e, z, (λ y. l)))
+          (eq-cases held slot)
+      by (inr q) l =
+          let old : slotAt g tree level other ≡ some held = sym (planted-other g tree number slot top level other q) ∙ e in
+          inr (old, (λ z. q (path .ours other level h k (old ∙ ap {B = Option ℕ} some z))), (λ y. absurd (q y)))
 
   pub ghost-planted : Ghost g after (planted g tree number slot top)
-  ghost-planted = record { links = record { linked = linked-planted; inside = inside-planted }; owned = owned-planted }
+  ghost-planted =
+      record {
+        links =
+        record {
+          linked = linked-planted;
+          inside = λ other level held h k e. ⊎-elim (λ c. subst (λ (n : ℕ). n < g .slots) (c .1) here)
+          (λ c. ghost .links .inside other level held h k (c .0)) (held-cases other level held h k e);
+        };
+        owned = λ other level held h k e. ⊎-elim (λ c. owned-mine other level held h k (c .0) (c .1))
+        (λ c. owned-theirs other level held h k (c .0) (c .1) (c .2)) (held-cases other level held h k e);
+      }

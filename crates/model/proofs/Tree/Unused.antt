@@ -11,8 +11,8 @@ use Rattle.model.specs.HiddenTree.{branchAt}
 use Rattle.model.specs.HiddenHalf.{ownerOf}
 use Rattle.model.proofs.Laws.Slots.{levelPlace-le, levelPlace-ge}
 use Rattle.model.proofs.Tree.Keys.{keyOf}
-use Rattle.model.proofs.Tree.Ghost.{Tree, slotAt, nodeIn, nodeAt, Linked, Owned, Ghost, blockIn, valueOf, nodeAt-height, nodeAt-below, nodeAt-cases}
-use Rattle.model.proofs.Tree.Planting.{Apart}
+use Rattle.model.proofs.Tree.Ghost.{Tree, slotAt, nodeAt, Owned, Ghost, valueOf, nodeIn-same, blockIn-same, nodeAt-height, nodeAt-below, nodeAt-cases}
+use Rattle.model.proofs.Tree.Planted.{Apart}
 
 module _ (g : Geometry) (f : Fits g) (disk after : Bytes) (tree : Tree) (ghost : Ghost g disk tree) (slot : ℕ)
   (unused : (number level : ℕ) → number < treeCapacity g → level < g .height → slotAt g tree level number ≢ some slot)
@@ -33,11 +33,10 @@ module _ (g : Geometry) (f : Fits g) (disk after : Bytes) (tree : Tree) (ghost :
   nodeAt-kept number level h k =
       nodeAt-cases g disk tree (λ (l : ℕ) (node : Bytes). nodeAt g after tree l number ≡ node) level number k
       (nodeAt-height g after tree number ∙ root)
-      (λ l. nodeAt-below g after tree level number l ∙ below l (slotAt g tree level number) refl)
-    where
-      below : level < g .height → (held : Option ℕ) → slotAt g tree level number ≡ held → nodeIn g after level held ≡ nodeIn g disk level held
-      below l none e = refl
-      below l (some held) e = block-kept number level held h l e (levelPlace g level) (levelPlace-ge g level positive) (levelPlace-le g level l)
+      (λ l.
+      nodeAt-below g after tree level number l
+      ∙ nodeIn-same g disk after level (slotAt g tree level number)
+      (λ held e. block-kept number level held h l e (levelPlace g level) (levelPlace-ge g level positive) (levelPlace-le g level l)))
 
   owned-kept : (number level held : ℕ) → number < treeCapacity g → level < g .height → slotAt g tree level number ≡ some held →
       Owned g after tree number level held
@@ -65,9 +64,6 @@ module _ (g : Geometry) (f : Fits g) (disk after : Bytes) (tree : Tree) (ghost :
       }
 
   pub valueOf-unused : (number : ℕ) → number < treeCapacity g → valueOf g after tree number ≡ valueOf g disk tree number
-  valueOf-unused number h = by (slotAt g tree 0 number) refl
-    where
-      by : (held : Option ℕ) → slotAt g tree 0 number ≡ held → blockIn g after held ≡ blockIn g disk held
-      by none e = refl
-      by (some held) e =
-          ap {B = Option Bytes} some (block-kept number 0 held h positive e (g .height) (omega (arith, f .height-low)) (omega arith))
+  valueOf-unused number h =
+      blockIn-same g disk after (slotAt g tree 0 number)
+      (λ held e. block-kept number 0 held h positive e (g .height) (omega (arith, f .height-low)) (omega arith))

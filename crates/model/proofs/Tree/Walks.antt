@@ -19,6 +19,7 @@ use Rattle.model.specs.HiddenHalf.{HiddenWrite, ownerOf, isLive, isOwner
 use Rattle.model.proofs.Laws.Entries.{entryAt-replicate}
 use Rattle.model.proofs.Laws.Slots.{isWellFormed-levelAddress, slotOf-levelAddress}
 use Rattle.model.proofs.Laws.Stores.{All}
+use Rattle.model.proofs.Tree.Keys.{lt-treeCapacity}
 use Rattle.model.proofs.Tree.Ghost.{Tree, slotAt, entryTo, nodeIn, nodeAt, nodesFrom, Linked, Ghost, nodeAt-height, nodeAt-below, nodesFrom-suc}
 
 -- where a walk ends that comes to a slot
@@ -124,10 +125,10 @@ module _ (g : Geometry) (disk : Bytes) (tree : Tree) (links : Linked g disk tree
       ∙ walkFrom-nodeAt (g .height - 1) (omega (arith, f .height-low)) ∙ ap walkBy e
 
   pub walk-end : Fits g → walk g disk number .end ≡ endIn g (slotAt g tree 0 number)
-  walk-end f = ap (λ (w : Walk). w .end) (walk-is f)
+  walk-end f = ap (λ (walked : Walk). walked .end) (walk-is f)
 
   pub walk-nodes : Fits g → walk g disk number .nodes ≡ nodesFrom g disk tree number (g .height)
-  walk-nodes f = ap (λ (w : Walk). w .nodes) (walk-is f)
+  walk-nodes f = ap (λ (walked : Walk). walked .nodes) (walk-is f)
 
   pub isDamaged-walk : Fits g → isDamaged (walk g disk number .end) ≡ false
   isDamaged-walk f = ap isDamaged (walk-end f) ∙ sound (slotAt g tree 0 number)
@@ -150,9 +151,6 @@ some-of-endIn g slot (some other) h e =
 -- ---- a slot's owner ----
 
 module _ (g : Geometry) (f : Fits g) (disk : Bytes) (tree : Tree) (ghost : Ghost g disk tree) where
-  lt-capacity : (number : ℕ) → number < g .hidden → number < treeCapacity g
-  lt-capacity number h = omega (arith, f .hidden-fits)
-
   -- a slot that the tree uses is live
   pub isLive-of-used :
       (number level slot : ℕ) → number < treeCapacity g → level < g .height → slotAt g tree level number ≡ some slot →
@@ -162,7 +160,7 @@ module _ (g : Geometry) (f : Fits g) (disk : Bytes) (tree : Tree) (ghost : Ghost
       let own = ghost .owned number level slot h k e in
       and-both (lt-ltb (ownerOf g disk slot) (g .hidden) (own .owner-lt))
       (ap (isFoundAt (levelAddress g slot 0))
-      (walk-end g disk tree (ghost .links) (ownerOf g disk slot) (lt-capacity (ownerOf g disk slot) (own .owner-lt)) f
+      (walk-end g disk tree (ghost .links) (ownerOf g disk slot) (lt-treeCapacity g f (ownerOf g disk slot) (own .owner-lt)) f
       ∙ ap (endIn g) (own .holds))
       ∙ eq-eqb (levelAddress g slot 0) (levelAddress g slot 0) refl)
 
@@ -176,7 +174,7 @@ module _ (g : Geometry) (f : Fits g) (disk : Bytes) (tree : Tree) (ghost : Ghost
       let h : ownerOf g disk slot < g .hidden = ltb-true (ownerOf g disk slot) (g .hidden) (and-left _ _ e) in
       some-of-endIn g slot (slotAt g tree 0 (ownerOf g disk slot)) (omega (arith, f .height-low))
       (sym (ap (isFoundAt (levelAddress g slot 0))
-      (walk-end g disk tree (ghost .links) (ownerOf g disk slot) (lt-capacity (ownerOf g disk slot) h) f))
+      (walk-end g disk tree (ghost .links) (ownerOf g disk slot) (lt-treeCapacity g f (ownerOf g disk slot) h) f))
       ∙ and-right (ltb (ownerOf g disk slot) (g .hidden)) (isFoundAt (levelAddress g slot 0) (walk g disk (ownerOf g disk slot) .end)) e)
 
   pub unused-of-not-isLive :
@@ -195,7 +193,7 @@ module _ (g : Geometry) (f : Fits g) (disk : Bytes) (tree : Tree) (ghost : Ghost
       owned e =
           and-false-right (ltb (ownerOf g disk slot) (g .hidden))
           (isDamaged-walk g disk tree (ghost .links) (ownerOf g disk slot)
-          (lt-capacity (ownerOf g disk slot) (ltb-true (ownerOf g disk slot) (g .hidden) e)) f)
+          (lt-treeCapacity g f (ownerOf g disk slot) (ltb-true (ownerOf g disk slot) (g .hidden) e)) f)
 
       free : ltb (ownerOf g disk slot) (g .hidden) ≡ false →
           (ltb (ownerOf g disk slot) (g .hidden) && isDamaged (walk g disk (ownerOf g disk slot) .end)) ≡ false
@@ -207,7 +205,7 @@ module _ (g : Geometry) (f : Fits g) (disk : Bytes) (tree : Tree) (ghost : Ghost
   unfolding isNextDamaged
   isNextDamaged-false [] h = refl
   isNextDamaged-false (next ∷ later) h =
-      isDamaged-walk g disk tree (ghost .links) (next .number) (lt-capacity (next .number) (h .0)) f
+      isDamaged-walk g disk tree (ghost .links) (next .number) (lt-treeCapacity g f (next .number) (h .0)) f
 
   pub isBlocked-false :
       (slot : ℕ) (waiting : List HiddenWrite) → All (λ (write : HiddenWrite). write .number < g .hidden) waiting →

@@ -6,3 +6,4 @@ pub mod Fresh
 pub mod Lists
 pub mod Progress
 pub mod Hidden
+pub mod Writes

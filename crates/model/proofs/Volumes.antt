@@ -3,7 +3,9 @@ pub mod Public
 pub mod Bitmap
 pub mod Reads
 pub mod Fresh
-pub mod Lists
 pub mod Progress
 pub mod Hidden
 pub mod Writes
+pub mod Kept
+pub mod Lists
+pub mod Shown

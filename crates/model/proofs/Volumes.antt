@@ -9,3 +9,4 @@ pub mod Writes
 pub mod Kept
 pub mod Lists
 pub mod Shown
+pub mod Calls

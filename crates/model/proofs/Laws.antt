@@ -8,8 +8,6 @@ pub mod PublicMap
 pub mod Stores
 pub mod Table
 pub mod Refusals
-pub mod Formatting
-pub mod Calls
 pub mod Paths
 pub mod HiddenHalf
 pub mod BitmapBits
@@ -21,3 +19,5 @@ pub mod Wrote
 pub mod RoundCounts
 pub mod Runs
 pub mod WriteRuns
+pub mod Formatting
+pub mod Calls

@@ -4,6 +4,7 @@ pub mod Bitmap
 pub mod Reads
 pub mod Fresh
 pub mod Progress
+pub mod Growth
 pub mod Hidden
 pub mod Writes
 pub mod Kept

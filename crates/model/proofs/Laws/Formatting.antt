@@ -20,13 +20,14 @@ use Rattle.laws.proofs.Numbers.{numberOf-littleEndian}
 use Rattle.model.specs.Geometry.{Geometry, Fits, fanout, mapBlocks, bitmapBlocks, rootAddress}
 use Rattle.model.specs.Geometry.{areaStart, blockCount, driveSize, isGeometry}
 use Rattle.model.specs.Blocks.{Bytes, DiskAddress, blockAt, entryAt, packed, zeroBlock}
-use Rattle.model.specs.Layout.{geometryIn, headIn, mapAddress, mapEntry}
+use Rattle.model.specs.Layout.{geometryIn, headIn, areaPlace, isAllocated, mapAddress, mapEntry}
 use Rattle.model.specs.Invariants.{bitmapBit}
 use Rattle.model.specs.Refusals.{formatRefusal, driveRefusal}
 use Rattle.model.specs.Calls.{headerBlock, freshFront, formatted}
 use Rattle.model.proofs.Laws.Geometry.{mapAddress-lt}
 use Rattle.model.proofs.Laws.Entries.{length-packed, entryAt-replicate}
 use Rattle.model.proofs.Laws.PublicMap.{mapEntry-is}
+use Rattle.model.proofs.Laws.BitmapBits.{isAllocated-bit, areaPlace-lt}
 use Rattle.model.proofs.Laws.Refusals.{Sized, sized-of-refusal, refusal-of-accepted}
 
 -- ---- zeros ----
@@ -171,6 +172,11 @@ module _ (disk : Bytes) (g : Geometry) (good : formatRefusal disk g ≡ 0) where
       ap (bitAt (place % (8 * g .blockSize)))
       (blockAt-formatted-zeros (1 + mapBlocks g + place / (8 * g .blockSize)) (omega arith) (omega arith))
       ∙ bitAt-zeros (place % (8 * g .blockSize)) (g .blockSize)
+
+  pub isAllocated-formatted : (slot : ℕ) → slot < g .slots → isAllocated g (formatted disk g) slot ≡ false
+  isAllocated-formatted slot h =
+      isAllocated-bit g (formatted disk g) slot
+      ∙ bitmapBit-formatted (areaPlace g slot) (areaPlace-lt g fits-formatted slot h)
 
   -- ---- the data area ----
 

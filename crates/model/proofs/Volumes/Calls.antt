@@ -1,14 +1,11 @@
--- One call on a sound drive: it leaves a sound drive, reads go on showing the block last placed, and a sound drive is
+-- One call on a sound drive: it leaves a sound drive, reads go on showing the block last placed, and a sound
+-- drive is
 -- read without refusal or damage. Assumes nothing.
 use mathlib.Core.Path.{_≡_}
-use mathlib.Core.List.{List}
-use mathlib.Core.Option.{Option}
-use Prim.Native.Nat.{ℕ}
 use lib.ListN.{length}
 use Rattle.model.specs.Geometry.{Geometry, Fits}
-use Rattle.model.specs.Blocks.{Bytes, DiskAddress}
+use Rattle.model.specs.Blocks.{Bytes}
 use Rattle.model.specs.Layout.{geometryIn}
-use Rattle.model.specs.HiddenHalf.{HiddenWrite}
 use Rattle.model.specs.Invariants.{PublicInvariant, BitmapInvariant, HiddenInvariant}
 use Rattle.model.specs.Refusals.{driveRefusal}
 use Rattle.model.specs.Runs.{Call, readPublic, readHidden, write, diskAfter}
@@ -18,7 +15,8 @@ use Rattle.model.proofs.Tree.FromInvariant.{treeOf, ghost-of-hiddenInva
 use Rattle.model.proofs.Tree.Walks.{walk-not-damaged}
 use Rattle.model.proofs.Volumes.Reads.{public-read-accepted, hidden-read-accepted}
 use Rattle.model.proofs.Volumes.Writes.{fits-here}
-use Rattle.model.proofs.Volumes.Kept.{write-keeps-geometry, write-keeps-accepted, write-keeps-public, write-keeps-bitmap, write-keeps-hidden}
+use Rattle.model.proofs.Volumes.Kept.{write-keeps-geometry, write-keeps-accepted, write-keeps-public}
+use Rattle.model.proofs.Volumes.Kept.{write-keeps-bitmap, write-keeps-hidden}
 use Rattle.model.proofs.Volumes.Lists.{Stepped}
 use Rattle.model.proofs.Volumes.Shown.{write-carries-public, write-carries-hidden}
 
@@ -32,7 +30,8 @@ module _ (g : Geometry) (disk : Bytes) (states : geometryIn disk ≡ g) (accepte
       write-keeps-public g disk states accepted number content random (length list) offer public
 
   pub call-keeps-bitmap :
-      (call : Call) → PublicInvariant g disk → BitmapInvariant g disk → BitmapInvariant g (diskAfter disk call)
+      (call : Call) → PublicInvariant g disk → BitmapInvariant g disk →
+          BitmapInvariant g (diskAfter disk call)
   call-keeps-bitmap (readPublic number blank) public bitmap = bitmap
   call-keeps-bitmap (readHidden number blank) public bitmap = bitmap
   call-keeps-bitmap (write number content random list offer) public bitmap =
@@ -64,23 +63,30 @@ module _ (g : Geometry) (disk : Bytes) (sound : Sound g disk) where
       record {
         sound =
             record {
-              geometry = write-keeps-geometry g disk (sound .geometry) (sound .accepted) number content random (length list) offer;
-              accepted = write-keeps-accepted g disk (sound .geometry) (sound .accepted) number content random (length list) offer;
+              geometry = write-keeps-geometry g disk (sound .geometry)
+                (sound .accepted) number content random (length list) offer;
+              accepted = write-keeps-accepted g disk (sound .geometry)
+                (sound .accepted) number content random (length list) offer;
               public-sound =
-                  write-keeps-public g disk (sound .geometry) (sound .accepted) number content random (length list) offer
+                  write-keeps-public g disk (sound .geometry) (sound .accepted) number content random
+                    (length list) offer
                   (sound .public-sound);
               bitmap-sound =
-                  write-keeps-bitmap g disk (sound .geometry) (sound .accepted) number content random (length list) offer
+                  write-keeps-bitmap g disk (sound .geometry) (sound .accepted) number content random
+                    (length list) offer
                   (sound .public-sound) (sound .bitmap-sound);
               hidden-sound =
-                  write-keeps-hidden g disk (sound .geometry) (sound .accepted) number content random (length list) offer
+                  write-keeps-hidden g disk (sound .geometry) (sound .accepted) number content random
+                    (length list) offer
                   (sound .hidden-sound);
             };
         public-step = λ other blank h sized.
-            write-carries-public g disk (sound .geometry) (sound .accepted) number content random (length list) offer other blank
+            write-carries-public g disk (sound .geometry) (sound .accepted) number content random
+              (length list) offer other blank
             sized (sound .public-sound) h;
         hidden-step = λ other blank h sized.
-            write-carries-hidden g disk (sound .geometry) (sound .accepted) number content random (length list) offer other blank
+            write-carries-hidden g disk (sound .geometry) (sound .accepted) number content random
+              (length list) offer other blank
             sized (sound .hidden-sound) h;
       }
 
@@ -94,8 +100,10 @@ module _ (g : Geometry) (disk : Bytes) (sound : Sound g disk) where
   readable-of-sound =
       record {
         public-answer = λ number blank h sized.
-            public-read-accepted g disk (sound .geometry) (sound .accepted) number blank sized (sound .public-sound) h;
+            public-read-accepted g disk (sound .geometry) (sound .accepted) number blank sized
+              (sound .public-sound) h;
         hidden-answer = λ number blank h sized.
-            hidden-read-accepted g disk (sound .geometry) (sound .accepted) number blank sized f (treeOf g disk) ghost h;
+            hidden-read-accepted g disk (sound .geometry) (sound .accepted) number blank sized f
+              (treeOf g disk) ghost h;
         no-damage = λ number h. walk-not-damaged g disk (treeOf g disk) (ghost .links) number h f;
       }

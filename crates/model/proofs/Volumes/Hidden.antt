@@ -1,235 +1,161 @@
--- The hidden volume under the rounds of a write: each round keeps the ghost tree and makes progress with the hidden
--- writes, so the whole run does. Assumes nothing.
-use mathlib.Core.Path.{_≡_, refl, sym, ap, _∙_, subst}
-use mathlib.Core.Logic.{_≢_, _⊎_, inl, inr, ⊎-elim}
+-- The hidden volume under the rounds of a write: since each round keeps the ghost tree and makes progress with the hidden
+-- writes, the whole run does. Assumes nothing.
+use mathlib.Core.Path.{_≡_, sym, ap, _∙_, subst}
 use mathlib.Core.Bool.{Bool, true, false, cond}
 use mathlib.Core.List.{List, [], _∷_, _++_, append-nil}
-use mathlib.Core.Option.{Option, none, some}
-use Prim.Native.Nat.{ℕ, zero, suc, _+_, _*_, _≤_, _<_}
-use native.Mathlib.Nat.{mul-le-mul-right}
+use Prim.Native.Nat.{ℕ, zero, suc, _*_, _≤_, _<_}
 use native.Mathlib.Omega.{arith}
-use lib.Dec.{eqb}
 use lib.ListN.{length, drop, length-drop}
-use borrow.Author.Tests.{eq-eqb, ne-eqb}
-use Rattle.laws.proofs.Cases.{eq-cases, bool-cases, cond-true, cond-false}
-use Rattle.model.specs.Geometry.{Geometry, Fits, blockCount, treeCapacity}
+use Rattle.laws.proofs.Cases.{cond-cases}
+use Rattle.model.specs.Geometry.{Geometry, Fits, blockCount}
 use Rattle.model.specs.Blocks.{Bytes}
-use Rattle.model.specs.Layout.{nextSlot, mapEntry, isAllocated}
+use Rattle.model.specs.Layout.{nextSlot, isAllocated}
 use Rattle.model.specs.Stores.{Trace, apply}
 use Rattle.model.specs.Table.{PublicChoice, keepPublic, writePublic}
-use Rattle.model.specs.HiddenHalf.{HiddenWrite, HiddenState, HiddenHalf, rowOf, hiddenHalf}
+use Rattle.model.specs.HiddenHalf.{HiddenState, HiddenHalf, rowOf, hiddenHalf}
 use Rattle.model.specs.Rounds.{Run, stopped, followedBy, goesOn, roundTrace, runFrom}
 use Rattle.model.specs.Refusals.{roundsTo}
-use Rattle.model.specs.Promises.ReadAfterWrite.{offeredUnder}
 use Rattle.model.proofs.Laws.Slots.{nextSlot-lt}
 use Rattle.model.proofs.Laws.Stores.{All, apply-append}
-use Rattle.model.proofs.Laws.Paths.{Hides}
-use Rattle.model.proofs.Laws.HiddenHalf.{WholeWrite, rowOf-public, hiddenHalf-hides}
-use Rattle.model.proofs.Laws.PublicHalf.{all-map}
+use Rattle.model.proofs.Laws.HiddenHalf.{rowOf-public}
 use Rattle.model.proofs.Laws.RoundStores.{afterRound, length-round}
-use Rattle.model.proofs.Laws.Rounds.{blockAt-round-root, blockAt-round-place}
 use Rattle.model.proofs.Laws.RoundEffects.{isAllocated-kept}
-use Rattle.model.proofs.Laws.RoundCounts.{roundsTo-zero, roundsTo-taken, OneMore, oneMore-of, roundsTo-ext}
+use Rattle.model.proofs.Laws.RoundCounts.{roundsTo-zero, roundsTo-taken, oneMore-of, roundsTo-ext}
 use Rattle.model.proofs.Laws.Wrote.{Placed, old-of-placed, placed-kept}
-use Rattle.model.proofs.Tree.Ghost.{Tree, Ghost, valueOf}
-use Rattle.model.proofs.Tree.Stored.{Follows}
-use Rattle.model.proofs.Tree.Turns.{Turn, still, places, Turned, hiddenHalf-turns}
-use Rattle.model.proofs.Volumes.Progress.{shownAfter, Progress, progress-then}
-
--- a hidden write that is not refused
-pub record GoodWrite (g : Geometry) (write : HiddenWrite) : Type 0 where
-  pub number-inside : write .number < g .hidden
-  pub whole : WholeWrite g write
+use Rattle.model.proofs.Tree.Ghost.{Tree, Ghost}
+use Rattle.model.proofs.Volumes.Growth.{GoodWrite, Grew, grew-then, round-hides, round-grew}
 
 all-rest : {A : Type 0} (P : A → Type 0) (xs ys : List A) → All P (xs ++ ys) → All P ys
 all-rest P [] ys h = h
 all-rest P (x ∷ xs) ys h = all-rest P xs ys (h .1)
 
--- the ghost tree after rounds, and the progress that they made
-pub record Grew (g : Geometry) (disk final : Bytes) (tree : Tree) (state result : HiddenState) : Type 0 where
-  pub grown : Tree
-  pub ghost : Ghost g final grown
-  pub progress : Progress g state result (valueOf g disk tree) (valueOf g final grown)
+-- random bytes of one round
+abbrev roundBytes : Geometry → ℕ
+roundBytes g = g .height * g .blockSize
 
-grew-then :
-    (g : Geometry) (disk middle final : Bytes) (tree : Tree) (state between result : HiddenState) →
-    (one : Grew g disk middle tree state between) → Grew g middle final (one .grown) between result →
-    Grew g disk final tree state result
-grew-then g disk middle final tree state between result one rest =
-    record {
-      grown = rest .grown;
-      ghost = rest .ghost;
-      progress =
-          progress-then g state between result (valueOf g disk tree) (valueOf g middle (one .grown)) (valueOf g final (rest .grown))
-          (one .progress) (rest .progress);
-    }
+-- rounds up to a free slot, with random bytes for each
+pub record Ready (g : Geometry) (number most : ℕ) (disk : Bytes) (slot : ℕ) (random : Bytes) (state : HiddenState) :
+    Type 0 where
+  pub whole : length disk ≡ blockCount g * g .blockSize
+  pub here : slot < g .slots
+  pub placed : Placed g disk number
+  pub earlier : ℕ
+  pub rounds : roundsTo most (isAllocated g disk) g slot ≡ suc earlier
+  pub enough : suc earlier * (g .height * g .blockSize) ≤ length random
+  pub good : All (GoodWrite g) (state .waiting)
 
--- one round's turn as progress
-progress-of-turn :
-    (g : Geometry) → Fits g → (state result : HiddenState) (old new : ℕ → Option Bytes) → Turn g state result old new →
-    Progress g state result old new
-unfolding shownAfter
-progress-of-turn g f state result old new (still e same) =
-    record {
-      done = [];
-      waiting-is = ap (λ (s : HiddenState). s .waiting) (sym e);
-      placed-is = rw e (omega arith);
-      damage-is = ap (λ (s : HiddenState). s .metDamage) e;
-      shows = λ number h. same number (omega (arith, f .hidden-fits));
-    }
-progress-of-turn g f state result old new (places write later e q now same) =
-    record {
-      done = write ∷ [];
-      waiting-is = e ∙ ap (λ (s : HiddenState). write ∷ s .waiting) (sym q);
-      placed-is = ap (λ (s : HiddenState). s .placed) q ∙ omega arith;
-      damage-is = ap (λ (s : HiddenState). s .metDamage) q;
-      shows = λ number h. ⊎-elim
-          (λ z. ap new (sym z) ∙ now ∙ sym (cond-true _ _ (eq-eqb (write .number) number z)))
-          (λ z. same number (omega (arith, f .hidden-fits)) (λ y. z (sym y)) ∙ sym (cond-false _ _ (ne-eqb (write .number) number z)))
-          (eq-cases (write .number) number);
-    }
+-- a run that keeps the tree and makes progress
+abbrev Grows : Geometry → (disk : Bytes) → HiddenState → Run → Type 0
+Grows g disk state run =
+    (tree : Tree) → Ghost g disk tree → Grew g disk (apply (g .blockSize) (run .trace) disk) tree state (run .state)
 
 module _ (g : Geometry) (f : Fits g) (number : ℕ) (counted : number < g .publics) (content : Bytes)
     (sized : length content ≡ g .blockSize) where
-  -- ---- one round ----
+  -- what a run of at most so many rounds does, from any slot of any disk
+  abbrev GrowsBy : (most : ℕ) → Type 0
+  GrowsBy most =
+      (disk : Bytes) (slot : ℕ) (random : Bytes) (state : HiddenState) → Ready g number most disk slot random state →
+      Grows g disk state (runFrom most g number content slot random disk state)
 
-  module _ (disk : Bytes) (whole : length disk ≡ blockCount g * g .blockSize) (slot : ℕ) (here : slot < g .slots)
-      (placed : Placed g disk number) (random : Bytes) (enough : g .height * g .blockSize ≤ length random)
-      (state : HiddenState) (good : All (GoodWrite g) (state .waiting)) where
-    abbrev part : HiddenHalf
-    part = hiddenHalf g disk slot random state
+  -- ---- one round more ----
 
-    hides : Hides g slot (part .trace)
-    hides =
-        hiddenHalf-hides g f disk whole slot here random enough state
-        (all-map (GoodWrite g) (WholeWrite g) (state .waiting) (λ write h. h .whole) good) .hides
-
-    follows : (choice : PublicChoice) → Follows g disk (afterRound choice g disk number slot content (part .trace)) (part .trace)
-    follows choice =
-        let old = old-of-placed g disk number placed in
-        record {
-          in-root = blockAt-round-root g f disk whole number counted slot here content sized old (part .trace) hides choice;
-          in-slot = λ other place h low high.
-              blockAt-round-place g f disk whole number counted slot here content sized old (part .trace) hides choice other place low high;
-        }
-
-    round-grew :
-        (choice : PublicChoice) (tree : Tree) → Ghost g disk tree →
-        Grew g disk (afterRound choice g disk number slot content (part .trace)) tree state (part .state)
-    round-grew choice tree ghost =
-        let after = afterRound choice g disk number slot content (part .trace) in
-        let turned =
-        hiddenHalf-turns g f disk tree whole ghost slot here state random
-        (all-map (GoodWrite g) (λ (write : HiddenWrite). write .number < g .hidden) (state .waiting) (λ write h. h .number-inside) good)
-        after (follows choice) in
-        record {
-          grown = turned .grown;
-          ghost = turned .ghost;
-          progress = progress-of-turn g f state (part .state) (valueOf g disk tree) (valueOf g after (turned .grown)) (turned .turn);
-        }
-
-  -- ---- the rounds of a write ----
-
-  -- rounds up to a free slot, with random bytes for each
-  pub record Ready (most : ℕ) (disk : Bytes) (slot : ℕ) (random : Bytes) (state : HiddenState) : Type 0 where
-    pub whole : length disk ≡ blockCount g * g .blockSize
-    pub here : slot < g .slots
-    pub placed : Placed g disk number
-    pub earlier : ℕ
-    pub rounds : roundsTo most (isAllocated g disk) g slot ≡ suc earlier
-    pub enough : suc earlier * (g .height * g .blockSize) ≤ length random
-    pub good : All (GoodWrite g) (state .waiting)
-
-  -- a run that keeps the tree
-  abbrev Grows : (disk : Bytes) (state : HiddenState) → Run → Type 0
-  Grows disk state run =
-      (tree : Tree) → Ghost g disk tree → Grew g disk (apply (g .blockSize) (run .trace) disk) tree state (run .state)
-
-  module _ (most : ℕ) (disk : Bytes) (slot : ℕ) (random : Bytes) (state : HiddenState) (ready : Ready (suc most) disk slot random state) where
-    enough-now : g .height * g .blockSize ≤ length random
+  module _ (most : ℕ) (more : GrowsBy most) (disk : Bytes) (slot : ℕ) (random : Bytes) (state : HiddenState)
+      (ready : Ready g number (suc most) disk slot random state) where
+    enough-now : roundBytes g ≤ length random
     enough-now = omega (arith, ready .enough)
 
     abbrev now : HiddenHalf
     now = hiddenHalf g disk slot random state
 
-    abbrev kept : Bytes
-    kept = afterRound keepPublic g disk number slot content (now .trace)
+    abbrev later : Bytes
+    later = drop (roundBytes g) random
+
+    -- the round, and the disk after it
+    abbrev round : PublicChoice → Trace
+    round choice = roundTrace choice g disk number slot content (now .trace)
+
+    abbrev after : PublicChoice → Bytes
+    after choice = afterRound choice g disk number slot content (now .trace)
+
+    one :
+        (choice : PublicChoice) (tree : Tree) → Ghost g disk tree →
+        Grew g disk (after choice) tree state (now .state)
+    one =
+        round-grew g f number counted content sized disk (ready .whole) slot (ready .here) (ready .placed) random
+        enough-now state (ready .good)
 
     ready-next :
         isAllocated g disk slot ≡ true → All (GoodWrite g) (now .state .waiting) →
-        Ready most kept (nextSlot g slot) (drop (g .height * g .blockSize) random) (now .state)
+        Ready g number most (after keepPublic) (nextSlot g slot) later (now .state)
     ready-next taken good =
         let old = old-of-placed g disk number (ready .placed) in
-        let hiding = hides disk (ready .whole) slot (ready .here) (ready .placed) random enough-now state (ready .good) in
-        let one = oneMore-of (roundsTo most (isAllocated g disk) g (nextSlot g slot)) (ready .earlier)
+        let hides =
+        round-hides g f number counted content sized disk (ready .whole) slot (ready .here) (ready .placed) random
+        enough-now state (ready .good) in
+        let rest =
+        oneMore-of (roundsTo most (isAllocated g disk) g (nextSlot g slot)) (ready .earlier)
         (sym (roundsTo-taken most (isAllocated g disk) g slot taken) ∙ ready .rounds) in
         record {
           whole =
-              length-round g f disk (ready .whole) number counted slot (ready .here) content sized old (now .trace) hiding keepPublic
+              length-round g f disk (ready .whole) number counted slot (ready .here) content sized old (now .trace) hides
+              keepPublic
               ∙ ready .whole;
           here = nextSlot-lt g slot f;
-          placed = placed-kept g f disk (ready .whole) number counted slot (ready .here) content sized (ready .placed) (now .trace) hiding;
-          earlier = one .before;
+          placed =
+              placed-kept g f disk (ready .whole) number counted slot (ready .here) content sized (ready .placed)
+              (now .trace) hides;
+          earlier = rest .before;
           rounds =
-              roundsTo-ext most (isAllocated g kept) (isAllocated g disk) g f (nextSlot g slot) (nextSlot-lt g slot f)
-              (isAllocated-kept g f disk (ready .whole) number counted slot (ready .here) content sized old (now .trace) hiding)
-              ∙ one .rounds-is;
+              roundsTo-ext most (isAllocated g (after keepPublic)) (isAllocated g disk) g f (nextSlot g slot)
+              (nextSlot-lt g slot f)
+              (isAllocated-kept g f disk (ready .whole) number counted slot (ready .here) content sized old (now .trace)
+              hides)
+              ∙ rest .rounds-is;
           enough =
-              let e : ready .earlier * (g .height * g .blockSize) ≡ suc (one .before) * (g .height * g .blockSize) =
-              ap (λ (n : ℕ). n * (g .height * g .blockSize)) (one .earlier-is) in
-              omega (arith, e, ready .enough, length-drop (g .height * g .blockSize) random);
+              let e : ready .earlier * roundBytes g ≡ suc (rest .before) * roundBytes g =
+              ap (λ (n : ℕ). n * roundBytes g) (rest .earlier-is) in
+              omega (arith, e, ready .enough, length-drop (roundBytes g) random);
           good = good;
         }
 
     -- the run from here by the public choice
     abbrev runBy : PublicChoice → Run
     runBy choice =
-        let round = roundTrace choice g disk number slot content (now .trace) in
-        followedBy round
-        (cond (goesOn choice)
-        (runFrom most g number content (nextSlot g slot) (drop (g .height * g .blockSize) random) (apply (g .blockSize) round disk) (now .state))
+        followedBy (round choice)
+        (cond (goesOn choice) (runFrom most g number content (nextSlot g slot) later (after choice) (now .state))
         (stopped (now .state)))
 
-    grows-by :
-        ((next : Bytes) (later : HiddenState) → Ready most next (nextSlot g slot) (drop (g .height * g .blockSize) random) later →
-        Grows next later (runFrom most g number content (nextSlot g slot) (drop (g .height * g .blockSize) random) next later)) →
-        (choice : PublicChoice) → choice ≡ cond (isAllocated g disk slot) keepPublic writePublic → Grows disk state (runBy choice)
-    grows-by more choice e tree ghost = by (bool-cases (isAllocated g disk slot))
-      where
-        one : (choice : PublicChoice) → Grew g disk (afterRound choice g disk number slot content (now .trace)) tree state (now .state)
-        one choice = round-grew disk (ready .whole) slot (ready .here) (ready .placed) random enough-now state (ready .good) choice tree ghost
+    grows-kept : isAllocated g disk slot ≡ true → Grows g disk state (runBy keepPublic)
+    grows-kept taken tree ghost =
+        let rest = runFrom most g number content (nextSlot g slot) later (after keepPublic) (now .state) in
+        let first = one keepPublic tree ghost in
+        let good : All (GoodWrite g) (now .state .waiting) =
+        all-rest (GoodWrite g) (first .progress .done) (now .state .waiting)
+        (subst (All (GoodWrite g)) (first .progress .waiting-is) (ready .good)) in
+        subst (λ (final : Bytes). Grew g disk final tree state (rest .state))
+        (sym (apply-append (g .blockSize) (round keepPublic) (rest .trace) disk))
+        (grew-then g disk (after keepPublic) (apply (g .blockSize) (rest .trace) (after keepPublic)) tree state
+        (now .state) (rest .state) first
+        (more (after keepPublic) (nextSlot g slot) later (now .state) (ready-next taken good) (first .grown)
+        (first .ghost)))
 
-        Done : PublicChoice → Type 0
-        Done choice = Grew g disk (apply (g .blockSize) (runBy choice .trace) disk) tree state (runBy choice .state)
+    grows-last : Grows g disk state (runBy writePublic)
+    grows-last tree ghost =
+        subst (λ (trace : Trace). Grew g disk (apply (g .blockSize) trace disk) tree state (now .state))
+        (sym (append-nil (round writePublic))) (one writePublic tree ghost)
 
-        goes : isAllocated g disk slot ≡ true → Done keepPublic
-        goes taken =
-            let rest = runFrom most g number content (nextSlot g slot) (drop (g .height * g .blockSize) random) kept (now .state) in
-            let good : All (GoodWrite g) (now .state .waiting) =
-            all-rest (GoodWrite g) (one keepPublic .progress .done) (now .state .waiting)
-            (subst (All (GoodWrite g)) (one keepPublic .progress .waiting-is) (ready .good)) in
-            subst (λ (final : Bytes). Grew g disk final tree state (rest .state))
-            (sym (apply-append (g .blockSize) (roundTrace keepPublic g disk number slot content (now .trace)) (rest .trace) disk))
-            (grew-then g disk kept (apply (g .blockSize) (rest .trace) kept) tree state (now .state) (rest .state) (one keepPublic)
-            (more kept (now .state) (ready-next taken good) (one keepPublic .grown) (one keepPublic .ghost)))
+    grows-by : Grows g disk state (runBy (rowOf g disk slot (state .waiting) .public))
+    grows-by =
+        subst (λ (choice : PublicChoice). Grows g disk state (runBy choice))
+        (sym (rowOf-public g disk slot (state .waiting)))
+        (cond-cases (λ (choice : PublicChoice). Grows g disk state (runBy choice)) (isAllocated g disk slot) grows-kept
+        (λ free. grows-last))
 
-        ends : Done writePublic
-        ends =
-            subst (λ (trace : Trace). Grew g disk (apply (g .blockSize) trace disk) tree state (now .state))
-            (sym (append-nil (roundTrace writePublic g disk number slot content (now .trace)))) (one writePublic)
+  -- ---- all rounds ----
 
-        by : (isAllocated g disk slot ≡ true) ⊎ (isAllocated g disk slot ≡ false) → Done choice
-        by (inl taken) = subst Done (sym (e ∙ cond-true keepPublic writePublic taken)) (goes taken)
-        by (inr free) = subst Done (sym (e ∙ cond-false keepPublic writePublic free)) ends
-
-  pub run-grows :
-      (most : ℕ) (disk : Bytes) (slot : ℕ) (random : Bytes) (state : HiddenState) → Ready most disk slot random state →
-      Grows disk state (runFrom most g number content slot random disk state)
+  pub runFrom-grows : (most : ℕ) → GrowsBy most
   unfolding runFrom
-  run-grows zero disk slot random state ready =
-      let z : 0 ≡ suc (ready .earlier) = sym (roundsTo-zero (isAllocated g disk) g slot) ∙ ready .rounds in
-      absurd (omega arith)
-  run-grows (suc most) disk slot random state ready =
-      grows-by most disk slot random state ready
-      (λ next later. run-grows most next (nextSlot g slot) (drop (g .height * g .blockSize) random) later)
-      (rowOf g disk slot (state .waiting) .public) (rowOf-public g disk slot (state .waiting))
+  runFrom-grows zero disk slot random state ready =
+      absurd (omega (arith, ready .rounds, roundsTo-zero (isAllocated g disk) g slot))
+  runFrom-grows (suc most) disk slot random state ready =
+      grows-by most (runFrom-grows most) disk slot random state ready

@@ -1,4 +1,5 @@
--- What a write keeps of a drive, refused or not: its geometry, that refusals 1 to 3 do not meet it, and the invariants of
+-- What a write keeps of a drive, refused or not: its geometry, that refusals 1 to 3 do not meet it, and the
+-- invariants of
 -- both volumes, each from that invariant alone or with the public one. Assumes nothing.
 use mathlib.Core.Path.{_≡_, sym, subst}
 use mathlib.Core.Logic.{_≢_, ⊎-elim}
@@ -20,7 +21,8 @@ use Rattle.model.proofs.Tree.Invariant.{hiddenInvariant-of-ghost}
 use Rattle.model.proofs.Tree.FromInvariant.{treeOf, ghost-of-hiddenInvariant}
 use Rattle.model.proofs.Volumes.Public.{write-preserves-public}
 use Rattle.model.proofs.Volumes.Bitmap.{write-preserves-bitmap}
-use Rattle.model.proofs.Volumes.Writes.{fits-here, counted-here, run, final, final-wrote, final-geometry, final-accepted, final-grew}
+use Rattle.model.proofs.Volumes.Writes.{fits-here, counted-here, run, final, final-wrote}
+use Rattle.model.proofs.Volumes.Writes.{final-geometry, final-accepted, final-grew}
 
 -- ---- refused or done ----
 
@@ -42,20 +44,24 @@ module _ (g : Geometry) (disk : Bytes) (states : geometryIn disk ≡ g) (accepte
   pub write-cases :
       (P : Written → Bytes → Type 0) → (refusal ≢ 0 → P (refusedWrite refusal) disk) →
       ((good : refusal ≡ 0) → P (done good) (finalOf good)) →
-      P (written disk number content random room offer) (writtenDisk (written disk number content random room offer) disk)
+      P (written disk number content random room offer)
+        (writtenDisk (written disk number content random room offer) disk)
   unfolding apply
   write-cases P refused whenDone = ⊎-elim
       (λ e.
-      subst (λ (r : Written). P r (writtenDisk r disk)) (sym (written-done g disk states accepted number content random room offer e))
-      (subst (λ (v : Geometry). P (done e) (apply (v .blockSize) (runOf e .trace) disk)) (sym states) (whenDone e)))
+      subst (λ (r : Written). P r (writtenDisk r disk))
+        (sym (written-done g disk states accepted number content random room offer e))
+      (subst (λ (v : Geometry). P (done e) (apply (v .blockSize) (runOf e .trace) disk)) (sym states)
+        (whenDone e)))
       (λ ne.
-      subst (λ (r : Written). P r (writtenDisk r disk)) (sym (written-refused g disk states accepted number content random room offer ne))
+      subst (λ (r : Written). P r (writtenDisk r disk))
+        (sym (written-refused g disk states accepted number content random room offer ne))
       (refused ne))
       (eq-cases refusal 0)
 
   -- ---- what it keeps ----
 
-  abbrev pub afterWrite : Bytes
+  abbrev afterWrite : Bytes
   afterWrite = writtenDisk (written disk number content random room offer) disk
 
   pub write-keeps-geometry : geometryIn afterWrite ≡ g
@@ -69,7 +75,8 @@ module _ (g : Geometry) (disk : Bytes) (states : geometryIn disk ≡ g) (accepte
       (λ good. final-accepted g disk states accepted number content random room offer good)
 
   pub write-keeps-public : PublicInvariant g disk → PublicInvariant g afterWrite
-  write-keeps-public public = write-cases (λ (r : Written) (after : Bytes). PublicInvariant g after) (λ ne. public) kept
+  write-keeps-public public = write-cases (λ (r : Written) (after : Bytes). PublicInvariant g after)
+    (λ ne. public) kept
     where
       kept : (good : refusal ≡ 0) → PublicInvariant g (finalOf good)
       kept good =
@@ -78,7 +85,8 @@ module _ (g : Geometry) (disk : Bytes) (states : geometryIn disk ≡ g) (accepte
           (final-wrote g disk states accepted number content random room offer good)
 
   pub write-keeps-bitmap : PublicInvariant g disk → BitmapInvariant g disk → BitmapInvariant g afterWrite
-  write-keeps-bitmap public bitmap = write-cases (λ (r : Written) (after : Bytes). BitmapInvariant g after) (λ ne. bitmap) kept
+  write-keeps-bitmap public bitmap = write-cases (λ (r : Written) (after : Bytes). BitmapInvariant g after)
+    (λ ne. bitmap) kept
     where
       kept : (good : refusal ≡ 0) → BitmapInvariant g (finalOf good)
       kept good =
@@ -87,7 +95,8 @@ module _ (g : Geometry) (disk : Bytes) (states : geometryIn disk ≡ g) (accepte
           (final-wrote g disk states accepted number content random room offer good)
 
   pub write-keeps-hidden : HiddenInvariant g disk → HiddenInvariant g afterWrite
-  write-keeps-hidden hidden = write-cases (λ (r : Written) (after : Bytes). HiddenInvariant g after) (λ ne. hidden) kept
+  write-keeps-hidden hidden = write-cases (λ (r : Written) (after : Bytes). HiddenInvariant g after)
+    (λ ne. hidden) kept
     where
       f : Fits g
       f = fits-here g disk states accepted

@@ -1,4 +1,5 @@
--- Lists of calls from a sound drive on, given what each call does: the drive stays sound, and a read shows the block last
+-- Lists of calls from a sound drive on, given what each call does: the drive stays sound, and a read shows
+-- the block last
 -- placed under its number, else what it showed before. Assumes nothing.
 use mathlib.Core.Path.{_≡_, refl}
 use mathlib.Core.List.{List, [], _∷_}
@@ -9,12 +10,14 @@ use Rattle.model.specs.Geometry.{Geometry}
 use Rattle.model.specs.Blocks.{Bytes}
 use Rattle.model.specs.Calls.{publicRead, hiddenRead}
 use Rattle.model.specs.Runs.{Call, diskAfter, diskAfterAll}
-use Rattle.model.specs.Promises.ReadAfterWrite.{publicAfter, lastPublic, hiddenAfter, lastHidden, orElse, Sound, Readable, ReadsBack}
+use Rattle.model.specs.Promises.ReadAfterWrite.{publicAfter, lastPublic, hiddenAfter, lastHidden}
+use Rattle.model.specs.Promises.ReadAfterWrite.{orElse, Sound, Readable, ReadsBack}
 
 -- what is shown goes on as the block last placed does
 abbrev pub Carries : (shown after : Bytes) → (step : Option Bytes → Option Bytes) → Type 0
 Carries shown after step =
-    (before : Option Bytes) (otherwise : Bytes) → shown ≡ orElse before otherwise → after ≡ orElse (step before) otherwise
+    (before : Option Bytes) (otherwise : Bytes) → shown ≡ orElse before otherwise →
+        after ≡ orElse (step before) otherwise
 
 -- what one call does to a sound drive
 pub record Stepped (g : Geometry) (disk : Bytes) (call : Call) : Type 0 where
@@ -58,11 +61,14 @@ module _ (g : Geometry) (stepped : (disk : Bytes) (call : Call) → Sound g disk
         (one .hidden-step number blank h sized before otherwise e)
 
   pub reads-back-of-steps :
-      ((disk : Bytes) → Sound g disk → Readable g disk) → (disk : Bytes) (calls : List Call) → Sound g disk → ReadsBack g disk calls
+      ((disk : Bytes) → Sound g disk → Readable g disk) → (disk : Bytes) (calls : List Call) → Sound g disk →
+          ReadsBack g disk calls
   reads-back-of-steps readable disk calls sound =
       record {
         sound = sound-all calls disk sound;
         readable = readable (diskAfterAll disk calls) (sound-all calls disk sound);
-        public-shown = λ number blank h sized. public-all number blank sized h calls disk sound none (publicRead disk number blank) refl;
-        hidden-shown = λ number blank h sized. hidden-all number blank sized h calls disk sound none (hiddenRead disk number blank) refl;
+        public-shown = λ number blank h sized. public-all number blank sized h calls disk sound none
+          (publicRead disk number blank) refl;
+        hidden-shown = λ number blank h sized. hidden-all number blank sized h calls disk sound none
+          (hiddenRead disk number blank) refl;
       }

@@ -1,7 +1,7 @@
 -- Reads on a drive whose volumes are sound: none is refused, and each shows its number's block, or the blank.
 -- Assumes nothing.
-use mathlib.Core.Path.{_≡_, refl, sym, ap, _∙_}
-use mathlib.Core.Logic.{_≢_, _⊎_, inl, inr, ⊎-elim}
+use mathlib.Core.Path.{_≡_, refl, ap, _∙_}
+use mathlib.Core.Logic.{inl, inr, ⊎-elim}
 use mathlib.Core.Bool.{Bool, true, false, cond}
 use mathlib.Core.Option.{Option, none, some}
 use Prim.Native.Nat.{ℕ, _<_}
@@ -11,14 +11,15 @@ use lib.ListN.{length}
 use borrow.Author.Tests.{eq-eqb}
 use Rattle.laws.proofs.Cases.{eq-cases, cond-true}
 use Rattle.model.specs.Geometry.{Geometry, Fits, treeCapacity}
-use Rattle.model.specs.Blocks.{Bytes, DiskAddress, blockAt}
+use Rattle.model.specs.Blocks.{Bytes, blockAt}
 use Rattle.model.specs.Layout.{geometryIn, mapEntry}
-use Rattle.model.specs.HiddenTree.{End, walk}
+use Rattle.model.specs.HiddenTree.{walk}
 use Rattle.model.specs.Invariants.{PublicInvariant}
 use Rattle.model.specs.Refusals.{driveRefusal, publicReadRefusal, hiddenReadRefusal}
 use Rattle.model.specs.Calls.{publicRead, hiddenRead, shownAt}
 use Rattle.model.specs.Promises.ReadAfterWrite.{orElse}
-use Rattle.model.proofs.Laws.Calls.{AcceptedNumber, publicReadRefusal-of-accepted, hiddenReadRefusal-of-accepted}
+use Rattle.model.proofs.Laws.Calls.{AcceptedNumber, publicReadRefusal-of-accepted}
+use Rattle.model.proofs.Laws.Calls.{hiddenReadRefusal-of-accepted}
 use Rattle.model.proofs.Tree.Ghost.{Tree, slotAt, Ghost, blockIn, valueOf}
 use Rattle.model.proofs.Tree.Walks.{endIn, walk-end, isDamaged-walk}
 use Rattle.model.proofs.Volumes.Public.{publicValue}
@@ -33,7 +34,8 @@ module _ (g : Geometry) (disk : Bytes) (states : geometryIn disk ≡ g) (accepte
         record {
           number-inside = counted;
           block-sized = sized;
-          in-place = ⊎-elim (λ e. inl e) (λ ne. inr (sound .in-place number counted ne)) (eq-cases (mapEntry g disk number) 0);
+          in-place = ⊎-elim (λ e. inl e) (λ ne. inr (sound .in-place number counted ne))
+            (eq-cases (mapEntry g disk number) 0);
         }
 
     pub public-read-accepted : publicReadRefusal disk number blank ≡ 0
@@ -43,10 +45,12 @@ module _ (g : Geometry) (disk : Bytes) (states : geometryIn disk ≡ g) (accepte
     unfolding publicRead
     publicRead-shows =
         cond-true _ _ (eq-eqb (publicReadRefusal disk number blank) 0 public-read-accepted)
-        ∙ ap (λ (v : Geometry). cond (eqb (mapEntry v disk number) 0) blank (blockAt (v .blockSize) disk (mapEntry v disk number))) states
+        ∙ ap (λ (v : Geometry). cond (eqb (mapEntry v disk number) 0) blank
+          (blockAt (v .blockSize) disk (mapEntry v disk number))) states
         ∙ by (eqb (mapEntry g disk number) 0) (blockAt (g .blockSize) disk (mapEntry g disk number))
       where
-        by : (isNone : Bool) (block : Bytes) → cond isNone blank block ≡ orElse (cond isNone none (some block)) blank
+        by : (isNone : Bool) (block : Bytes) → cond isNone blank block ≡
+          orElse (cond isNone none (some block)) blank
         by true block = refl
         by false block = refl
 
@@ -58,7 +62,8 @@ module _ (g : Geometry) (disk : Bytes) (states : geometryIn disk ≡ g) (accepte
 
     pub hidden-read-accepted : hiddenReadRefusal disk number blank ≡ 0
     hidden-read-accepted =
-        hiddenReadRefusal-of-accepted g disk states accepted number blank (record { number-inside = counted; block-sized = sized })
+        hiddenReadRefusal-of-accepted g disk states accepted number blank
+          (record { number-inside = counted; block-sized = sized })
         (isDamaged-walk g disk tree (ghost .links) number low f)
 
     pub hiddenRead-shows : hiddenRead disk number blank ≡ orElse (valueOf g disk tree number) blank
@@ -66,7 +71,8 @@ module _ (g : Geometry) (disk : Bytes) (states : geometryIn disk ≡ g) (accepte
     hiddenRead-shows =
         cond-true _ _ (eq-eqb (hiddenReadRefusal disk number blank) 0 hidden-read-accepted)
         ∙ ap (λ (v : Geometry). shownAt v disk blank (walk v disk number .end)) states
-        ∙ ap (shownAt g disk blank) (walk-end g disk tree (ghost .links) number low f) ∙ by (slotAt g tree 0 number)
+        ∙ ap (shownAt g disk blank) (walk-end g disk tree (ghost .links) number low f)
+          ∙ by (slotAt g tree 0 number)
       where
         by : (slot : Option ℕ) → shownAt g disk blank (endIn g slot) ≡ orElse (blockIn g disk slot) blank
         by none = refl

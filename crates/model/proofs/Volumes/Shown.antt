@@ -1,4 +1,5 @@
--- What reads show after a write, refused or done: the block that it placed under their number, else what they showed
+-- What reads show after a write, refused or done: the block that it placed under their number, else what they
+-- showed
 -- before. Assumes nothing.
 use mathlib.Core.Path.{_≡_, refl, sym, ap, _∙_}
 use mathlib.Core.Logic.{_≢_, ⊎-elim}
@@ -15,21 +16,25 @@ use Rattle.model.specs.Layout.{geometryIn}
 use Rattle.model.specs.HiddenHalf.{HiddenWrite}
 use Rattle.model.specs.Invariants.{PublicInvariant, HiddenInvariant}
 use Rattle.model.specs.Refusals.{driveRefusal, writeRefusal}
-use Rattle.model.specs.Calls.{publicRead, hiddenRead, outcomeNumber, outcomeOf, offerRefusal, Written, written, writtenDisk}
+use Rattle.model.specs.Calls.{publicRead, hiddenRead, outcomeNumber, outcomeOf, offerRefusal, Written}
+use Rattle.model.specs.Calls.{written, writtenDisk}
 use Rattle.model.specs.Promises.ReadAfterWrite.{offeredUnder, isPlaced, orElse}
 use Rattle.model.proofs.Laws.Wrote.{Wrote}
 use Rattle.model.proofs.Tree.Ghost.{Tree, Ghost, valueOf}
 use Rattle.model.proofs.Tree.FromInvariant.{treeOf, ghost-of-hiddenInvariant}
-use Rattle.model.proofs.Volumes.Public.{publicValue, write-preserves-public, publicValue-same, publicValue-other}
+use Rattle.model.proofs.Volumes.Public.{publicValue, write-preserves-public, publicValue-same}
+use Rattle.model.proofs.Volumes.Public.{publicValue-other}
 use Rattle.model.proofs.Volumes.Reads.{publicRead-shows, hiddenRead-shows}
 use Rattle.model.proofs.Volumes.Progress.{shows-of-progress}
-use Rattle.model.proofs.Volumes.Writes.{fits-here, counted-here, run, final, last, final-wrote, final-geometry, final-accepted, final-grew}
+use Rattle.model.proofs.Volumes.Writes.{fits-here, counted-here, run, final, last, final-wrote}
+use Rattle.model.proofs.Volumes.Writes.{final-geometry, final-accepted, final-grew}
 use Rattle.model.proofs.Volumes.Kept.{done, write-cases}
 use Rattle.model.proofs.Volumes.Lists.{Carries}
 
 -- what was shown, by either account, stays so under a hidden write that may have been placed
 carries-offer :
-    (isPlaced : Bool) (offer : Option HiddenWrite) (number : ℕ) (old before : Option Bytes) (blank otherwise : Bytes) →
+    (isPlaced : Bool) (offer : Option HiddenWrite) (number : ℕ) (old before : Option Bytes)
+      (blank otherwise : Bytes) →
     orElse old blank ≡ orElse before otherwise →
     orElse (cond isPlaced (offeredUnder number old offer) old) blank ≡
     orElse (cond isPlaced (offeredUnder number before offer) before) otherwise
@@ -38,7 +43,8 @@ carries-offer true none number old before blank otherwise e = e
 carries-offer true (some hidden) number old before blank otherwise e = by (eqb (hidden .number) number)
   where
     by : (isSame : Bool) →
-        orElse (cond isSame (some (hidden .content)) old) blank ≡ orElse (cond isSame (some (hidden .content)) before) otherwise
+        orElse (cond isSame (some (hidden .content)) old) blank ≡
+          orElse (cond isSame (some (hidden .content)) before) otherwise
     by true = refl
     by false = e
 
@@ -69,21 +75,25 @@ module _ (g : Geometry) (disk : Bytes) (states : geometryIn disk ≡ g) (accepte
       counted : number < g .publics
       counted = counted-here g disk states accepted number content random room offer good
 
-      wrote : Wrote g number content (last g disk states accepted number content random room offer good) disk (finalOf good)
+      wrote : Wrote g number content (last g disk states accepted number content random room offer good) disk
+        (finalOf good)
       wrote = final-wrote g disk states accepted number content random room offer good
 
       -- what is shown by the numbers' values
       public-shown :
-          publicRead (finalOf good) other blank ≡ cond (eqb number other) content (publicRead disk other blank)
+          publicRead (finalOf good) other blank ≡ cond (eqb number other) content
+            (publicRead disk other blank)
       public-shown =
-          publicRead-shows g (finalOf good) (final-geometry g disk states accepted number content random room offer good)
+          publicRead-shows g (finalOf good)
+            (final-geometry g disk states accepted number content random room offer good)
           (final-accepted g disk states accepted number content random room offer good) other blank sized
           (write-preserves-public g disk (finalOf good) number _ content counted public wrote) h
           ∙ ⊎-elim same different (eq-cases number other)
         where
           Goal : Type 0
           Goal =
-              orElse (publicValue g (finalOf good) other) blank ≡ cond (eqb number other) content (publicRead disk other blank)
+              orElse (publicValue g (finalOf good) other) blank ≡
+                cond (eqb number other) content (publicRead disk other blank)
 
           same : number ≡ other → Goal
           same e =
@@ -95,7 +105,8 @@ module _ (g : Geometry) (disk : Bytes) (states : geometryIn disk ≡ g) (accepte
           different : number ≢ other → Goal
           different ne =
               ap (λ (value : Option Bytes). orElse value blank)
-              (publicValue-other g disk (finalOf good) number _ content counted public wrote other h (λ z. ne (sym z)))
+              (publicValue-other g disk (finalOf good) number _ content counted public wrote other h
+                (λ z. ne (sym z)))
               ∙ sym (publicRead-shows g disk states accepted other blank sized public h)
               ∙ sym (cond-false content (publicRead disk other blank) (ne-eqb number other ne))
 
@@ -103,7 +114,8 @@ module _ (g : Geometry) (disk : Bytes) (states : geometryIn disk ≡ g) (accepte
       public-done before otherwise e = public-shown ∙ by (eqb number other)
         where
           by : (isSame : Bool) →
-              cond isSame content (publicRead disk other blank) ≡ orElse (cond (isSame && true) (some content) before) otherwise
+              cond isSame content (publicRead disk other blank) ≡
+                orElse (cond (isSame && true) (some content) before) otherwise
           by true = refl
           by false = e
 
@@ -137,13 +149,18 @@ module _ (g : Geometry) (disk : Bytes) (states : geometryIn disk ≡ g) (accepte
     hidden-done : (good : refusal ≡ 0) → HiddenCarried (doneOf good) (finalOf good)
     hidden-done good before otherwise e =
         let grew = final-grew g disk states accepted number content random room offer good tree ghost in
-        let outcome = outcomeOf (offerRefusal g offer) (run g disk states accepted number content random room offer good .state) in
-        hiddenRead-shows g (finalOf good) (final-geometry g disk states accepted number content random room offer good)
-        (final-accepted g disk states accepted number content random room offer good) other blank sized f (grew .grown)
+        let outcome = outcomeOf (offerRefusal g offer)
+          (run g disk states accepted number content random room offer good .state) in
+        hiddenRead-shows g (finalOf good)
+          (final-geometry g disk states accepted number content random room offer good)
+        (final-accepted g disk states accepted number content random room offer good) other blank sized f
+          (grew .grown)
         (grew .ghost) h
         ∙ ap (λ (value : Option Bytes). orElse value blank)
-        (shows-of-progress g _ (valueOf g disk tree) (valueOf g (finalOf good) (grew .grown)) other h offer (grew .progress))
-        ∙ carries-offer (eqb (outcomeNumber outcome) 1) offer other (valueOf g disk tree other) before blank otherwise
+        (shows-of-progress g _ (valueOf g disk tree) (valueOf g (finalOf good) (grew .grown)) other h offer
+          (grew .progress))
+        ∙ carries-offer (eqb (outcomeNumber outcome) 1) offer other
+          (valueOf g disk tree other) before blank otherwise
         (sym (hiddenRead-shows g disk states accepted other blank sized f tree ghost h) ∙ e)
 
     pub write-carries-hidden : HiddenCarried result (writtenDisk result disk)
@@ -152,5 +169,6 @@ module _ (g : Geometry) (disk : Bytes) (states : geometryIn disk ≡ g) (accepte
         (λ ne before otherwise e.
         e
         ∙ ap (λ (value : Option Bytes). orElse value otherwise)
-        (sym (cond-false (offeredUnder other before offer) before (and-false-left (eqb 3 1) (ne-eqb refusal 0 ne)))))
+        (sym (cond-false (offeredUnder other before offer) before
+          (and-false-left (eqb 3 1) (ne-eqb refusal 0 ne)))))
         hidden-done

@@ -1,11 +1,9 @@
--- A write that is not refused, on a drive of a geometry: the disk that it leaves is a drive of that geometry again, its
+-- A write that is not refused, on a drive of a geometry: the disk that it leaves is a drive of that geometry
+-- again, its
 -- effect on the public volume is that of a run, and it keeps the hidden one. Assumes nothing.
-use mathlib.Core.Path.{_≡_, refl, sym, ap, _∙_, subst}
-use mathlib.Core.Logic.{_≢_}
-use mathlib.Core.Bool.{Bool, true}
-use mathlib.Core.List.{List, [], _∷_}
+use mathlib.Core.Path.{_≡_, sym, ap, _∙_, subst}
 use mathlib.Core.Option.{Option, none, some}
-use Prim.Native.Nat.{ℕ, suc, _+_, _*_, _-_, _≤_, _<_}
+use Prim.Native.Nat.{ℕ, suc, _*_, _-_, _<_}
 use native.Mathlib.Nat.{mul-assoc}
 use native.Mathlib.Omega.{arith}
 use lib.Dec.{eqb}
@@ -25,10 +23,11 @@ use Rattle.model.proofs.Laws.Stores.{All}
 use Rattle.model.proofs.Laws.Refusals.{Accepted, accepted-of-refusal, refusal-of-accepted}
 use Rattle.model.proofs.Laws.Calls.{AcceptedWrite, accepted-write, accepted-hidden-write}
 use Rattle.model.proofs.Laws.Wrote.{Wrote}
-use Rattle.model.proofs.Laws.Runs.{Ran, slotAfter}
+use Rattle.model.proofs.Laws.Runs.{slotAfter}
 use Rattle.model.proofs.Laws.WriteRuns.{writeRun-ran}
 use Rattle.model.proofs.Tree.Ghost.{Tree, Ghost}
-use Rattle.model.proofs.Volumes.Hidden.{GoodWrite, Grew, Ready, run-grows}
+use Rattle.model.proofs.Volumes.Growth.{GoodWrite, Grew}
+use Rattle.model.proofs.Volumes.Hidden.{Ready, runFrom-grows}
 
 -- what a call offers to its rounds is good
 offeredWrites-good : (g : Geometry) (offer : Option HiddenWrite) → All (GoodWrite g) (offeredWrites g offer)
@@ -76,19 +75,24 @@ module _ (g : Geometry) (disk : Bytes) (states : geometryIn disk ≡ g) (accepte
 
     pub final-wrote : Wrote g number content last disk final
     final-wrote =
-        writeRun-ran g fits-here disk whole-here head-here number counted-here content (facts .accepted .block-sized)
+        writeRun-ran g fits-here disk whole-here head-here number counted-here content
+          (facts .accepted .block-sized)
         (facts .accepted .in-place) random (facts .some-rounds) (facts .enough-random) offer .wrote
 
     -- ---- the drive ----
 
     pub final-geometry : geometryIn final ≡ g
     final-geometry =
-        made (final-wrote .fields 0 (omega arith)) (final-wrote .fields 1 (omega arith)) (final-wrote .fields 2 (omega arith))
+        made (final-wrote .fields 0 (omega arith)) (final-wrote .fields 1 (omega arith))
+          (final-wrote .fields 2 (omega arith))
         (final-wrote .fields 3 (omega arith)) (final-wrote .fields 4 (omega arith)) ∙ states
       where
-        made : entryAt 0 final ≡ entryAt 0 disk → entryAt 1 final ≡ entryAt 1 disk → entryAt 2 final ≡ entryAt 2 disk →
-            entryAt 3 final ≡ entryAt 3 disk → entryAt 4 final ≡ entryAt 4 disk → geometryIn final ≡ geometryIn disk
-        made a b c d e = λ i. record { blockSize = a i; height = b i; publics = c i; hidden = d i; slots = e i }
+        made : entryAt 0 final ≡ entryAt 0 disk → entryAt 1 final ≡ entryAt 1 disk →
+            entryAt 2 final ≡ entryAt 2 disk →
+            entryAt 3 final ≡ entryAt 3 disk → entryAt 4 final ≡ entryAt 4 disk →
+            geometryIn final ≡ geometryIn disk
+        made a b c d e = λ i. record { blockSize = a i; height = b i; publics = c i; hidden = d i; slots =
+          e i }
 
     pub final-accepted : driveRefusal final ≡ 0
     final-accepted =
@@ -100,8 +104,7 @@ module _ (g : Geometry) (disk : Bytes) (states : geometryIn disk ≡ g) (accepte
 
     -- ---- the hidden volume ----
 
-    ready : Ready g fits-here number counted-here content (facts .accepted .block-sized) (g .slots) disk (headIn disk) random
-        (startState (offeredWrites g offer))
+    ready : Ready g number (g .slots) disk (headIn disk) random (startState (offeredWrites g offer))
     ready =
         let e : roundCount g disk ≡ suc (roundCount g disk - 1) = omega (arith, facts .some-rounds) in
         record {
@@ -114,8 +117,10 @@ module _ (g : Geometry) (disk : Bytes) (states : geometryIn disk ≡ g) (accepte
           good = offeredWrites-good g offer;
         }
 
-    pub final-grew : (tree : Tree) → Ghost g disk tree → Grew g disk final tree (startState (offeredWrites g offer)) (run .state)
+    pub final-grew :
+        (tree : Tree) → Ghost g disk tree →
+        Grew g disk final tree (startState (offeredWrites g offer)) (run .state)
     unfolding writeRun
-    final-grew tree ghost =
-        run-grows g fits-here number counted-here content (facts .accepted .block-sized) (g .slots) disk (headIn disk) random
-        (startState (offeredWrites g offer)) ready tree ghost
+    final-grew =
+        runFrom-grows g fits-here number counted-here content (facts .accepted .block-sized) (g .slots) disk
+        (headIn disk) random (startState (offeredWrites g offer)) ready

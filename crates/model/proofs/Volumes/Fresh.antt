@@ -27,8 +27,8 @@ module _ (disk : Bytes) (g : Geometry) (good : formatRefusal disk g ≡ 0) where
       }
 
   formatted-bitmap : BitmapInvariant g (formatted disk g)
-  formatted-bitmap = record { mapped = λ place h e. true-is-not-false e
-    (bitmapBit-formatted disk g good place h) }
+  formatted-bitmap =
+      record { mapped = λ place h e. true-is-not-false e (bitmapBit-formatted disk g good place h) }
 
   formatted-ghost : Ghost g (formatted disk g) emptyTree
   formatted-ghost = ghost-empty g (formatted disk g) (root-formatted disk g good)
@@ -40,22 +40,22 @@ module _ (disk : Bytes) (g : Geometry) (good : formatRefusal disk g ≡ 0) where
         accepted = refusal-formatted disk g good;
         public-sound = formatted-public;
         bitmap-sound = formatted-bitmap;
-        hidden-sound = hiddenInvariant-of-ghost g (fits-formatted disk g good)
-          (formatted disk g) emptyTree formatted-ghost;
+        hidden-sound =
+            hiddenInvariant-of-ghost g (fits-formatted disk g good) (formatted disk g) emptyTree formatted-ghost;
       }
 
-  module _ (number : ℕ) (blank : Bytes) (sized : length blank ≡ g .blockSize) where
-    pub publicRead-formatted : number < g .publics → publicRead (formatted disk g) number blank ≡ blank
-    publicRead-formatted h =
-        publicRead-shows g (formatted disk g) (geometry-formatted disk g good)
-          (refusal-formatted disk g good) number blank sized
-        formatted-public h
-        ∙ ap (λ (value : Option Bytes). orElse value blank)
-        (cond-true _ _ (eq-eqb (mapEntry g (formatted disk g) number) 0
-          (mapEntry-formatted disk g good number h)))
+  pub publicRead-formatted :
+      (number : ℕ) (blank : Bytes) → number < g .publics → length blank ≡ g .blockSize →
+      publicRead (formatted disk g) number blank ≡ blank
+  publicRead-formatted number blank h sized =
+      publicRead-shows g (formatted disk g) (geometry-formatted disk g good) (refusal-formatted disk g good) number blank
+      sized formatted-public h
+      ∙ ap (λ (value : Option Bytes). orElse value blank)
+      (cond-true _ _ (eq-eqb (mapEntry g (formatted disk g) number) 0 (mapEntry-formatted disk g good number h)))
 
-    pub hiddenRead-formatted : number < g .hidden → hiddenRead (formatted disk g) number blank ≡ blank
-    hiddenRead-formatted h =
-        hiddenRead-shows g (formatted disk g) (geometry-formatted disk g good)
-          (refusal-formatted disk g good) number blank sized
-        (fits-formatted disk g good) emptyTree formatted-ghost h
+  pub hiddenRead-formatted :
+      (number : ℕ) (blank : Bytes) → number < g .hidden → length blank ≡ g .blockSize →
+      hiddenRead (formatted disk g) number blank ≡ blank
+  hiddenRead-formatted number blank h sized =
+      hiddenRead-shows g (formatted disk g) (geometry-formatted disk g good) (refusal-formatted disk g good) number blank
+      sized (fits-formatted disk g good) emptyTree formatted-ghost h

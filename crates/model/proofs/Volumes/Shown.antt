@@ -1,6 +1,5 @@
--- What reads show after a write, refused or done: the block that it placed under their number, else what they
--- showed
--- before. Assumes nothing.
+-- What reads of a sound drive show after a write, refused or not: the block that it placed under their number, else what
+-- they showed before. Assumes nothing.
 use mathlib.Core.Path.{_≡_, refl, sym, ap, _∙_}
 use mathlib.Core.Logic.{_≢_, ⊎-elim}
 use mathlib.Core.Bool.{Bool, true, false, cond, _&&_}
@@ -12,163 +11,131 @@ use borrow.Author.Tests.{eq-eqb, ne-eqb}
 use Rattle.laws.proofs.Cases.{eq-cases, and-false-left, and-false-right, cond-true, cond-false}
 use Rattle.model.specs.Geometry.{Geometry, Fits}
 use Rattle.model.specs.Blocks.{Bytes}
-use Rattle.model.specs.Layout.{geometryIn}
 use Rattle.model.specs.HiddenHalf.{HiddenWrite}
-use Rattle.model.specs.Invariants.{PublicInvariant, HiddenInvariant}
-use Rattle.model.specs.Refusals.{driveRefusal, writeRefusal}
-use Rattle.model.specs.Calls.{publicRead, hiddenRead, outcomeNumber, outcomeOf, offerRefusal, Written}
-use Rattle.model.specs.Calls.{written, writtenDisk}
-use Rattle.model.specs.Promises.ReadAfterWrite.{offeredUnder, isPlaced, orElse}
-use Rattle.model.proofs.Laws.Wrote.{Wrote}
+use Rattle.model.specs.Rounds.{Run}
+use Rattle.model.specs.Refusals.{writeRefusal}
+use Rattle.model.specs.Calls.{publicRead, hiddenRead, outcomeNumber, outcomeOf, offerRefusal}
+use Rattle.model.specs.Calls.{Written, doneWrite, written, writtenDisk}
+use Rattle.model.specs.Promises.ReadAfterWrite.{offeredUnder, isPlaced, orElse, Sound}
 use Rattle.model.proofs.Tree.Ghost.{Tree, Ghost, valueOf}
 use Rattle.model.proofs.Tree.FromInvariant.{treeOf, ghost-of-hiddenInvariant}
-use Rattle.model.proofs.Volumes.Public.{publicValue, write-preserves-public, publicValue-same}
+use Rattle.model.proofs.Volumes.Public.{write-preserves-public, publicValue, publicValue-same}
 use Rattle.model.proofs.Volumes.Public.{publicValue-other}
 use Rattle.model.proofs.Volumes.Reads.{publicRead-shows, hiddenRead-shows}
 use Rattle.model.proofs.Volumes.Progress.{shows-of-progress}
-use Rattle.model.proofs.Volumes.Writes.{fits-here, counted-here, run, final, last, final-wrote}
-use Rattle.model.proofs.Volumes.Writes.{final-geometry, final-accepted, final-grew}
-use Rattle.model.proofs.Volumes.Kept.{done, write-cases}
+use Rattle.model.proofs.Volumes.Writes.{finalDisk, Leaves, fits-of-accepted, write-cases}
 use Rattle.model.proofs.Volumes.Lists.{Carries}
 
--- what was shown, by either account, stays so under a hidden write that may have been placed
+-- what is shown, told in two ways, stays so under a hidden write that may have been placed
 carries-offer :
-    (isPlaced : Bool) (offer : Option HiddenWrite) (number : ℕ) (old before : Option Bytes)
-      (blank otherwise : Bytes) →
+    (isDone : Bool) (offer : Option HiddenWrite) (number : ℕ) (old before : Option Bytes) (blank otherwise : Bytes) →
     orElse old blank ≡ orElse before otherwise →
-    orElse (cond isPlaced (offeredUnder number old offer) old) blank ≡
-    orElse (cond isPlaced (offeredUnder number before offer) before) otherwise
+    orElse (cond isDone (offeredUnder number old offer) old) blank ≡
+    orElse (cond isDone (offeredUnder number before offer) before) otherwise
 carries-offer false offer number old before blank otherwise e = e
 carries-offer true none number old before blank otherwise e = e
 carries-offer true (some hidden) number old before blank otherwise e = by (eqb (hidden .number) number)
   where
     by : (isSame : Bool) →
         orElse (cond isSame (some (hidden .content)) old) blank ≡
-          orElse (cond isSame (some (hidden .content)) before) otherwise
+        orElse (cond isSame (some (hidden .content)) before) otherwise
     by true = refl
     by false = e
 
-module _ (g : Geometry) (disk : Bytes) (states : geometryIn disk ≡ g) (accepted : driveRefusal disk ≡ 0)
-    (number : ℕ) (content random : Bytes) (room : ℕ) (offer : Option HiddenWrite)
-    (other : ℕ) (blank : Bytes) (sized : length blank ≡ g .blockSize) where
+module _ (g : Geometry) (disk : Bytes) (sound : Sound g disk) (number : ℕ) (content random : Bytes) (room : ℕ)
+    (offer : Option HiddenWrite) (other : ℕ) (blank : Bytes) (sized : length blank ≡ g .blockSize) where
   abbrev refusal : ℕ
   refusal = writeRefusal disk number content (length random) room
 
   abbrev result : Written
   result = written disk number content random room offer
 
-  abbrev doneOf : refusal ≡ 0 → Written
-  doneOf good = done g disk states accepted number content random room offer good
-
-  abbrev finalOf : refusal ≡ 0 → Bytes
-  finalOf good = final g disk states accepted number content random room offer good
-
   -- ---- public ----
 
-  module _ (public : PublicInvariant g disk) (h : other < g .publics) where
-    abbrev PublicCarried : Written → (after : Bytes) → Type 0
-    PublicCarried r after =
-        Carries (publicRead disk other blank) (publicRead after other blank)
+  module _ (h : other < g .publics) where
+    abbrev PublicCarried : Written → (final : Bytes) → Type 0
+    PublicCarried r final =
+        Carries (publicRead disk other blank) (publicRead final other blank)
         (λ before. cond (eqb number other && eqb (r .answer) 0) (some content) before)
 
-    module _ (good : refusal ≡ 0) where
-      counted : number < g .publics
-      counted = counted-here g disk states accepted number content random room offer good
+    module _ (run : Run) (leaves : Leaves g disk number content offer run) where
+      abbrev final : Bytes
+      final = finalDisk g disk run
 
-      wrote : Wrote g number content (last g disk states accepted number content random room offer good) disk
-        (finalOf good)
-      wrote = final-wrote g disk states accepted number content random room offer good
+      value-shown : orElse (publicValue g final other) blank ≡ cond (eqb number other) content (publicRead disk other blank)
+      value-shown = ⊎-elim
+          (λ e.
+          ap (λ (value : Option Bytes). orElse value blank)
+          (ap (publicValue g final) (sym e)
+          ∙ publicValue-same g disk final number (leaves .last) content (leaves .counted) (sound .public-sound)
+          (leaves .wrote))
+          ∙ sym (cond-true content (publicRead disk other blank) (eq-eqb number other e)))
+          (λ ne.
+          ap (λ (value : Option Bytes). orElse value blank)
+          (publicValue-other g disk final number (leaves .last) content (leaves .counted) (sound .public-sound)
+          (leaves .wrote) other h (λ z. ne (sym z)))
+          ∙ sym (publicRead-shows g disk (sound .geometry) (sound .accepted) other blank sized (sound .public-sound) h)
+          ∙ sym (cond-false content (publicRead disk other blank) (ne-eqb number other ne)))
+          (eq-cases number other)
 
-      -- what is shown by the numbers' values
-      public-shown :
-          publicRead (finalOf good) other blank ≡ cond (eqb number other) content
-            (publicRead disk other blank)
-      public-shown =
-          publicRead-shows g (finalOf good)
-            (final-geometry g disk states accepted number content random room offer good)
-          (final-accepted g disk states accepted number content random room offer good) other blank sized
-          (write-preserves-public g disk (finalOf good) number _ content counted public wrote) h
-          ∙ ⊎-elim same different (eq-cases number other)
-        where
-          Goal : Type 0
-          Goal =
-              orElse (publicValue g (finalOf good) other) blank ≡
-                cond (eqb number other) content (publicRead disk other blank)
-
-          same : number ≡ other → Goal
-          same e =
-              ap (λ (value : Option Bytes). orElse value blank)
-              (ap (publicValue g (finalOf good)) (sym e)
-              ∙ publicValue-same g disk (finalOf good) number _ content counted public wrote)
-              ∙ sym (cond-true content (publicRead disk other blank) (eq-eqb number other e))
-
-          different : number ≢ other → Goal
-          different ne =
-              ap (λ (value : Option Bytes). orElse value blank)
-              (publicValue-other g disk (finalOf good) number _ content counted public wrote other h
-                (λ z. ne (sym z)))
-              ∙ sym (publicRead-shows g disk states accepted other blank sized public h)
-              ∙ sym (cond-false content (publicRead disk other blank) (ne-eqb number other ne))
-
-      public-done : PublicCarried (doneOf good) (finalOf good)
-      public-done before otherwise e = public-shown ∙ by (eqb number other)
+      public-carried : PublicCarried (doneWrite (offerRefusal g offer) run) final
+      public-carried before otherwise e =
+          publicRead-shows g final (leaves .geometry) (leaves .accepted) other blank sized
+          (write-preserves-public g disk final number (leaves .last) content (leaves .counted) (sound .public-sound)
+          (leaves .wrote)) h
+          ∙ value-shown ∙ by (eqb number other)
         where
           by : (isSame : Bool) →
               cond isSame content (publicRead disk other blank) ≡
-                orElse (cond (isSame && true) (some content) before) otherwise
+              orElse (cond (isSame && true) (some content) before) otherwise
           by true = refl
           by false = e
 
     pub write-carries-public : PublicCarried result (writtenDisk result disk)
     write-carries-public =
-        write-cases g disk states accepted number content random room offer PublicCarried
+        write-cases g disk (sound .geometry) (sound .accepted) number content random room offer PublicCarried
         (λ ne before otherwise e.
         e
         ∙ ap (λ (value : Option Bytes). orElse value otherwise)
         (sym (cond-false (some content) before (and-false-right (eqb number other) (ne-eqb refusal 0 ne)))))
-        public-done
+        public-carried
 
   -- ---- hidden ----
 
-  module _ (hidden : HiddenInvariant g disk) (h : other < g .hidden) where
-    abbrev HiddenCarried : Written → (after : Bytes) → Type 0
-    HiddenCarried r after =
-        Carries (hiddenRead disk other blank) (hiddenRead after other blank)
+  module _ (h : other < g .hidden) where
+    abbrev HiddenCarried : Written → (final : Bytes) → Type 0
+    HiddenCarried r final =
+        Carries (hiddenRead disk other blank) (hiddenRead final other blank)
         (λ before. cond (isPlaced r) (offeredUnder other before offer) before)
 
     f : Fits g
-    f = fits-here g disk states accepted
+    f = fits-of-accepted g disk (sound .geometry) (sound .accepted)
 
-    tree : Tree
+    abbrev tree : Tree
     tree = treeOf g disk
 
     ghost : Ghost g disk tree
-    unfolding tree
-    ghost = ghost-of-hiddenInvariant g f disk hidden
+    ghost = ghost-of-hiddenInvariant g f disk (sound .hidden-sound)
 
-    hidden-done : (good : refusal ≡ 0) → HiddenCarried (doneOf good) (finalOf good)
-    hidden-done good before otherwise e =
-        let grew = final-grew g disk states accepted number content random room offer good tree ghost in
-        let outcome = outcomeOf (offerRefusal g offer)
-          (run g disk states accepted number content random room offer good .state) in
-        hiddenRead-shows g (finalOf good)
-          (final-geometry g disk states accepted number content random room offer good)
-        (final-accepted g disk states accepted number content random room offer good) other blank sized f
-          (grew .grown)
+    hidden-carried :
+        (run : Run) → Leaves g disk number content offer run →
+        HiddenCarried (doneWrite (offerRefusal g offer) run) (finalDisk g disk run)
+    hidden-carried run leaves before otherwise e =
+        let grew = leaves .grew tree ghost in
+        hiddenRead-shows g (finalDisk g disk run) (leaves .geometry) (leaves .accepted) other blank sized f (grew .grown)
         (grew .ghost) h
         ∙ ap (λ (value : Option Bytes). orElse value blank)
-        (shows-of-progress g _ (valueOf g disk tree) (valueOf g (finalOf good) (grew .grown)) other h offer
-          (grew .progress))
-        ∙ carries-offer (eqb (outcomeNumber outcome) 1) offer other
-          (valueOf g disk tree other) before blank otherwise
-        (sym (hiddenRead-shows g disk states accepted other blank sized f tree ghost h) ∙ e)
+        (shows-of-progress g (run .state) (valueOf g disk tree) (valueOf g (finalDisk g disk run) (grew .grown)) other h
+        offer (grew .progress))
+        ∙ carries-offer (eqb (outcomeNumber (outcomeOf (offerRefusal g offer) (run .state))) 1) offer other
+        (valueOf g disk tree other) before blank otherwise
+        (sym (hiddenRead-shows g disk (sound .geometry) (sound .accepted) other blank sized f tree ghost h) ∙ e)
 
     pub write-carries-hidden : HiddenCarried result (writtenDisk result disk)
     write-carries-hidden =
-        write-cases g disk states accepted number content random room offer HiddenCarried
+        write-cases g disk (sound .geometry) (sound .accepted) number content random room offer HiddenCarried
         (λ ne before otherwise e.
         e
         ∙ ap (λ (value : Option Bytes). orElse value otherwise)
-        (sym (cond-false (offeredUnder other before offer) before
-          (and-false-left (eqb 3 1) (ne-eqb refusal 0 ne)))))
-        hidden-done
+        (sym (cond-false (offeredUnder other before offer) before (and-false-left false (ne-eqb refusal 0 ne)))))
+        hidden-carried

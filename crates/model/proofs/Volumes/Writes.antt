@@ -1,7 +1,7 @@
--- A write that is not refused, on a drive of a geometry: the disk that it leaves is a drive of that geometry
--- again, its
--- effect on the public volume is that of a run, and it keeps the hidden one. Assumes nothing.
+-- A write on a drive of a geometry: a refused one leaves it as it was; any other leaves a drive of that geometry, with
+-- the effect of a run on the public volume and the ghost tree kept. Assumes nothing.
 use mathlib.Core.Path.{_≡_, sym, ap, _∙_, subst}
+use mathlib.Core.Logic.{_≢_, ⊎-elim}
 use mathlib.Core.Option.{Option, none, some}
 use Prim.Native.Nat.{ℕ, suc, _*_, _-_, _<_}
 use native.Mathlib.Nat.{mul-assoc}
@@ -9,7 +9,7 @@ use native.Mathlib.Omega.{arith}
 use lib.Dec.{eqb}
 use lib.ListN.{length}
 use borrow.Author.Tests.{eqb-true}
-use Rattle.laws.proofs.Cases.{cond-cases}
+use Rattle.laws.proofs.Cases.{cond-cases, eq-cases}
 use Rattle.model.specs.Geometry.{Geometry, Fits, blockCount, driveSize, isGeometry}
 use Rattle.model.specs.Blocks.{Bytes, entryAt}
 use Rattle.model.specs.Layout.{geometryIn, headIn}
@@ -17,17 +17,35 @@ use Rattle.model.specs.Stores.{apply}
 use Rattle.model.specs.HiddenHalf.{HiddenWrite}
 use Rattle.model.specs.Rounds.{Run}
 use Rattle.model.specs.Refusals.{roundCount, driveRefusal, writeRefusal, hiddenWriteRefusal}
-use Rattle.model.specs.Calls.{offeredWrites, startState, writeRun}
+use Rattle.model.specs.Calls.{offerRefusal, offeredWrites, startState, writeRun}
+use Rattle.model.specs.Calls.{Written, refusedWrite, doneWrite, written, writtenDisk}
 use Rattle.model.proofs.Laws.Slots.{nextSlot-lt}
 use Rattle.model.proofs.Laws.Stores.{All}
 use Rattle.model.proofs.Laws.Refusals.{Accepted, accepted-of-refusal, refusal-of-accepted}
 use Rattle.model.proofs.Laws.Calls.{AcceptedWrite, accepted-write, accepted-hidden-write}
+use Rattle.model.proofs.Laws.Calls.{written-done, written-refused}
 use Rattle.model.proofs.Laws.Wrote.{Wrote}
 use Rattle.model.proofs.Laws.Runs.{slotAfter}
 use Rattle.model.proofs.Laws.WriteRuns.{writeRun-ran}
 use Rattle.model.proofs.Tree.Ghost.{Tree, Ghost}
 use Rattle.model.proofs.Volumes.Growth.{GoodWrite, Grew}
 use Rattle.model.proofs.Volumes.Hidden.{Ready, runFrom-grows}
+
+-- the disk after a run
+abbrev pub finalDisk : Geometry → (disk : Bytes) → Run → Bytes
+finalDisk g disk run = apply (g .blockSize) (run .trace) disk
+
+-- what the run of a write that is not refused leaves
+pub record Leaves (g : Geometry) (disk : Bytes) (number : ℕ) (content : Bytes) (offer : Option HiddenWrite) (run : Run) :
+    Type 0 where
+  pub counted : number < g .publics
+  pub last : ℕ
+  pub wrote : Wrote g number content last disk (finalDisk g disk run)
+  pub geometry : geometryIn (finalDisk g disk run) ≡ g
+  pub accepted : driveRefusal (finalDisk g disk run) ≡ 0
+  pub grew :
+      (tree : Tree) → Ghost g disk tree →
+      Grew g disk (finalDisk g disk run) tree (startState (offeredWrites g offer)) (run .state)
 
 -- what a call offers to its rounds is good
 offeredWrites-good : (g : Geometry) (offer : Option HiddenWrite) → All (GoodWrite g) (offeredWrites g offer)
@@ -41,86 +59,117 @@ offeredWrites-good g (some write) =
     (record { number-inside = good .number-inside; whole = good .block-sized }, tt))
     (λ e. tt)
 
+geometry-of-fields :
+    (disk other : Bytes) → ((i : ℕ) → i < 5 → entryAt i disk ≡ entryAt i other) → geometryIn disk ≡ geometryIn other
+geometry-of-fields disk other same =
+    cc (
+      same 0 (omega arith),
+      same 1 (omega arith),
+      same 2 (omega arith),
+      same 3 (omega arith),
+      same 4 (omega arith),
+    )
+
 module _ (g : Geometry) (disk : Bytes) (states : geometryIn disk ≡ g) (accepted : driveRefusal disk ≡ 0) where
   drive : Accepted disk
   drive = accepted-of-refusal disk accepted
 
-  pub fits-here : Fits g
-  fits-here = subst Fits states (drive .sized .fits)
+  pub fits-of-accepted : Fits g
+  fits-of-accepted = subst Fits states (drive .sized .fits)
 
-  whole-here : length disk ≡ blockCount g * g .blockSize
-  whole-here = drive .sized .whole ∙ ap driveSize states
+  whole : length disk ≡ blockCount g * g .blockSize
+  whole = drive .sized .whole ∙ ap driveSize states
 
-  head-here : headIn disk < g .slots
-  head-here = subst (λ (v : Geometry). headIn disk < v .slots) states (drive .head-inside)
+  head-inside : headIn disk < g .slots
+  head-inside = subst (λ (v : Geometry). headIn disk < v .slots) states (drive .head-inside)
 
-  module _ (number : ℕ) (content random : Bytes) (room : ℕ) (offer : Option HiddenWrite)
-      (good : writeRefusal disk number content (length random) room ≡ 0) where
-    facts : AcceptedWrite g disk number (length content) (length random) room
-    facts = accepted-write g disk states accepted number content random room offer good
+  module _ (number : ℕ) (content random : Bytes) (room : ℕ) (offer : Option HiddenWrite) where
+    abbrev refusal : ℕ
+    refusal = writeRefusal disk number content (length random) room
 
-    pub counted-here : number < g .publics
-    counted-here = facts .accepted .number-inside
-
-    abbrev pub run : Run
+    abbrev run : Run
     run = writeRun g disk number content random offer
 
-    abbrev pub final : Bytes
-    final = apply (g .blockSize) (run .trace) disk
+    -- ---- not refused ----
 
-    abbrev pub last : ℕ
-    last = slotAfter g (headIn disk) (roundCount g disk - 1)
+    module _ (good : refusal ≡ 0) where
+      facts : AcceptedWrite g disk number (length content) (length random) room
+      facts = accepted-write g disk states accepted number content random room offer good
 
-    -- ---- the public volume ----
+      f : Fits g
+      f = fits-of-accepted
 
-    pub final-wrote : Wrote g number content last disk final
-    final-wrote =
-        writeRun-ran g fits-here disk whole-here head-here number counted-here content
-          (facts .accepted .block-sized)
-        (facts .accepted .in-place) random (facts .some-rounds) (facts .enough-random) offer .wrote
+      abbrev lastSlot : ℕ
+      lastSlot = slotAfter g (headIn disk) (roundCount g disk - 1)
 
-    -- ---- the drive ----
+      run-wrote : Wrote g number content lastSlot disk (finalDisk g disk run)
+      run-wrote =
+          writeRun-ran g f disk whole head-inside number (facts .accepted .number-inside) content
+          (facts .accepted .block-sized) (facts .accepted .in-place) random (facts .some-rounds) (facts .enough-random)
+          offer .wrote
 
-    pub final-geometry : geometryIn final ≡ g
-    final-geometry =
-        made (final-wrote .fields 0 (omega arith)) (final-wrote .fields 1 (omega arith))
-          (final-wrote .fields 2 (omega arith))
-        (final-wrote .fields 3 (omega arith)) (final-wrote .fields 4 (omega arith)) ∙ states
-      where
-        made : entryAt 0 final ≡ entryAt 0 disk → entryAt 1 final ≡ entryAt 1 disk →
-            entryAt 2 final ≡ entryAt 2 disk →
-            entryAt 3 final ≡ entryAt 3 disk → entryAt 4 final ≡ entryAt 4 disk →
-            geometryIn final ≡ geometryIn disk
-        made a b c d e = λ i. record { blockSize = a i; height = b i; publics = c i; hidden = d i; slots =
-          e i }
+      run-geometry : geometryIn (finalDisk g disk run) ≡ g
+      run-geometry = geometry-of-fields (finalDisk g disk run) disk (run-wrote .fields) ∙ states
 
-    pub final-accepted : driveRefusal final ≡ 0
-    final-accepted =
-        refusal-of-accepted final (omega (arith, drive .sized .long, whole-here, final-wrote .whole))
-        (ap isGeometry (final-geometry ∙ sym states) ∙ drive .sized .accepted)
-        (final-wrote .whole ∙ sym (ap driveSize final-geometry))
-        (subst (λ (v : Geometry). headIn final < v .slots) (sym final-geometry)
-        (rw (final-wrote .head) (nextSlot-lt g last fits-here)))
+      run-accepted : driveRefusal (finalDisk g disk run) ≡ 0
+      run-accepted =
+          refusal-of-accepted (finalDisk g disk run) (omega (arith, drive .sized .long, whole, run-wrote .whole))
+          (ap isGeometry (run-geometry ∙ sym states) ∙ drive .sized .accepted)
+          (run-wrote .whole ∙ sym (ap driveSize run-geometry))
+          (subst (λ (v : Geometry). headIn (finalDisk g disk run) < v .slots) (sym run-geometry)
+          (rw (run-wrote .head) (nextSlot-lt g lastSlot f)))
 
-    -- ---- the hidden volume ----
+      ready : Ready g number (g .slots) disk (headIn disk) random (startState (offeredWrites g offer))
+      ready =
+          let e : roundCount g disk ≡ suc (roundCount g disk - 1) = omega (arith, facts .some-rounds) in
+          record {
+            whole = whole;
+            here = head-inside;
+            placed = facts .accepted .in-place;
+            earlier = roundCount g disk - 1;
+            rounds = e;
+            enough = rw (← e) (rw (mul-assoc (roundCount g disk) (g .height) (g .blockSize)) at (facts .enough-random));
+            good = offeredWrites-good g offer;
+          }
 
-    ready : Ready g number (g .slots) disk (headIn disk) random (startState (offeredWrites g offer))
-    ready =
-        let e : roundCount g disk ≡ suc (roundCount g disk - 1) = omega (arith, facts .some-rounds) in
-        record {
-          whole = whole-here;
-          here = head-here;
-          placed = facts .accepted .in-place;
-          earlier = roundCount g disk - 1;
-          rounds = e;
-          enough = rw (← e) (rw (mul-assoc (roundCount g disk) (g .height) (g .blockSize)) at (facts .enough-random));
-          good = offeredWrites-good g offer;
-        }
+      run-grew :
+          (tree : Tree) → Ghost g disk tree →
+          Grew g disk (finalDisk g disk run) tree (startState (offeredWrites g offer)) (run .state)
+      unfolding writeRun
+      run-grew =
+          runFrom-grows g f number (facts .accepted .number-inside) content (facts .accepted .block-sized) (g .slots)
+          disk (headIn disk) random (startState (offeredWrites g offer)) ready
 
-    pub final-grew :
-        (tree : Tree) → Ghost g disk tree →
-        Grew g disk final tree (startState (offeredWrites g offer)) (run .state)
-    unfolding writeRun
-    final-grew =
-        runFrom-grows g fits-here number counted-here content (facts .accepted .block-sized) (g .slots) disk
-        (headIn disk) random (startState (offeredWrites g offer)) ready
+      run-leaves : Leaves g disk number content offer run
+      run-leaves =
+          record {
+            counted = facts .accepted .number-inside;
+            last = lastSlot;
+            wrote = run-wrote;
+            geometry = run-geometry;
+            accepted = run-accepted;
+            grew = run-grew;
+          }
+
+    -- ---- refused or not ----
+
+    abbrev result : Written
+    result = written disk number content random room offer
+
+    -- what holds of a refused write and of any that is not holds of the write
+    pub write-cases :
+        (P : Written → Bytes → Type 0) → (refusal ≢ 0 → P (refusedWrite refusal) disk) →
+        ((run : Run) → Leaves g disk number content offer run →
+        P (doneWrite (offerRefusal g offer) run) (finalDisk g disk run)) →
+        P result (writtenDisk result disk)
+    unfolding apply
+    write-cases P refused done = ⊎-elim
+        (λ e.
+        subst (λ (r : Written). P r (writtenDisk r disk))
+        (sym (written-done g disk states accepted number content random room offer e))
+        (subst (λ (v : Geometry). P (doneWrite (offerRefusal g offer) run) (finalDisk v disk run)) (sym states)
+        (done run (run-leaves e))))
+        (λ ne.
+        subst (λ (r : Written). P r (writtenDisk r disk))
+        (sym (written-refused g disk states accepted number content random room offer ne)) (refused ne))
+        (eq-cases refusal 0)

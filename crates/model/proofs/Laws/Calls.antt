@@ -1,17 +1,16 @@
 -- Laws of the calls: what a call that is not refused gives as plain facts, when a read is not refused, and
--- what a write
--- is in either case. All at a geometry that the drive states. Assumes nothing.
+-- what a write is in either case. All at a geometry that the drive states. Assumes nothing.
 use mathlib.Core.Path.{_≡_, sym, ap, _∙_}
 use mathlib.Core.Logic.{_≢_, _⊎_, inl, inr, ⊎-elim}
 use mathlib.Core.Bool.{true, false, not, _||_}
-use mathlib.Core.List.{_++_}
+use mathlib.Core.List.{List, _++_}
 use mathlib.Core.Option.{Option}
 use Prim.Native.Nat.{ℕ, _*_, _≤_, _<_}
 use native.Mathlib.Omega.{arith}
 use lib.Dec.{eqb}
 use lib.ListN.{length}
 use borrow.Author.Tests.{ltb-false, leb-false, eqb-true, eqb-false, not-false, lt-leb, eq-eqb, ne-eqb}
-use Rattle.laws.specs.Checks.{firstOf}
+use Rattle.laws.specs.Checks.{Check, firstOf}
 use Rattle.laws.proofs.Cases.{or-left, or-right, or-cases, cond-true, cond-false}
 use Rattle.laws.proofs.Checks.{Numbered, Passed, passed-of-zero, zero-of-passed, passed-front, passed-rest}
 use Rattle.model.specs.Geometry.{Geometry}
@@ -34,7 +33,7 @@ pub record AcceptedNumber (g : Geometry) (disk : Bytes) (number size : ℕ) : Ty
 
 accepted-of-passed :
     (g : Geometry) (disk : Bytes) (number size : ℕ) → Passed (placeChecks g disk number size) →
-        AcceptedNumber g disk number size
+    AcceptedNumber g disk number size
 unfolding placeChecks
 accepted-of-passed g disk number size p =
     let entry = mapEntry g disk number in
@@ -44,26 +43,20 @@ accepted-of-passed g disk number size p =
       in-place =
           ⊎-elim (λ e. inl (eqb-true entry 0 e)) (λ e. inr e)
           (or-cases (eqb entry 0) (isPlace g disk entry)
-            (not-false (eqb entry 0 || isPlace g disk entry) (p .1 .1 .0)));
+          (not-false (eqb entry 0 || isPlace g disk entry) (p .1 .1 .0)));
     }
 
 passed-of-accepted :
     (g : Geometry) (disk : Bytes) (number size : ℕ) → AcceptedNumber g disk number size →
-        Passed (placeChecks g disk number size)
+    Passed (placeChecks g disk number size)
 unfolding placeChecks
 passed-of-accepted g disk number size a =
     let entry = mapEntry g disk number in
+    let there : (eqb entry 0 || isPlace g disk entry) ≡ true =
+    ⊎-elim (λ e. or-left (isPlace g disk entry) (eq-eqb entry 0 e)) (or-right (eqb entry 0)) (a .in-place) in
     (
       lt-leb (g .publics) number (a .number-inside),
-      (
-        ap not (eq-eqb size (g .blockSize) (a .block-sized)),
-        (
-          ap not
-          (⊎-elim (λ e. or-left (isPlace g disk entry) (eq-eqb entry 0 e)) (λ e. or-right (eqb entry 0) e)
-            (a .in-place)),
-          tt,
-        ),
-      ),
+      (ap not (eq-eqb size (g .blockSize) (a .block-sized)), (ap not there, tt)),
     )
 
 -- ---- the rounds of a write, refusals 7 to 9 ----
@@ -79,8 +72,10 @@ numbered-write :
     Numbered (placeChecks g disk number size ++ roundChecks g disk number random room)
 unfolding placeChecks roundChecks
 numbered-write g disk number size random room =
-    (λ e. omega arith, ((λ e. omega arith), ((λ e. omega arith),
-      ((λ e. omega arith), ((λ e. omega arith), ((λ e. omega arith), tt))))))
+    (
+      λ e. omega arith,
+      (λ e. omega arith, (λ e. omega arith, (λ e. omega arith, (λ e. omega arith, (λ e. omega arith, tt))))),
+    )
 
 accepted-of-passed-write :
     (g : Geometry) (disk : Bytes) (number size random room : ℕ) →
@@ -107,70 +102,66 @@ pub record AcceptedHidden (g : Geometry) (number size : ℕ) : Type 0 where
 
 pub accepted-hidden-write :
     (g : Geometry) (number : ℕ) (content : Bytes) → hiddenWriteRefusal g number content ≡ 0 →
-        AcceptedHidden g number (length content)
+    AcceptedHidden g number (length content)
 unfolding hiddenWriteRefusal hiddenChecks
 accepted-hidden-write g number content e =
-    let p = passed-of-zero (hiddenChecks g number (length content))
-      (numbered-hidden g number (length content)) e in
+    let size = length content in
+    let p = passed-of-zero (hiddenChecks g number size) (numbered-hidden g number size) e in
     record {
       number-inside = leb-false (g .hidden) number (p .0);
-      block-sized = eqb-true (length content) (g .blockSize)
-        (not-false (eqb (length content) (g .blockSize)) (p .1 .0));
+      block-sized = eqb-true size (g .blockSize) (not-false (eqb size (g .blockSize)) (p .1 .0));
     }
 
 passed-of-hidden :
     (g : Geometry) (disk : Bytes) (number size : ℕ) → AcceptedHidden g number size →
-        isDamaged (walk g disk number .end) ≡ false →
-    Passed (hiddenChecks g number size ++ walkChecks g disk number)
+    isDamaged (walk g disk number .end) ≡ false → Passed (hiddenChecks g number size ++ walkChecks g disk number)
 unfolding hiddenChecks walkChecks
 passed-of-hidden g disk number size a e =
-    (lt-leb (g .hidden) number (a .number-inside), (ap not (eq-eqb size (g .blockSize) (a .block-sized)),
-      (e, tt)))
+    (lt-leb (g .hidden) number (a .number-inside), (ap not (eq-eqb size (g .blockSize) (a .block-sized)), (e, tt)))
 
 -- ---- the calls on a drive ----
 
 module _ (g : Geometry) (disk : Bytes) (states : geometryIn disk ≡ g) (accepted : driveRefusal disk ≡ 0) where
   pub publicReadRefusal-of-accepted :
       (number : ℕ) (blank : Bytes) → AcceptedNumber g disk number (length blank) →
-          publicReadRefusal disk number blank ≡ 0
+      publicReadRefusal disk number blank ≡ 0
   unfolding publicReadRefusal
   publicReadRefusal-of-accepted number blank a =
       after-drive-pass disk (placeChecks (geometryIn disk) disk number (length blank)) accepted
       ∙ ap (λ (v : Geometry). firstOf (placeChecks v disk number (length blank))) states
-      ∙ zero-of-passed (placeChecks g disk number (length blank))
-        (passed-of-accepted g disk number (length blank) a)
+      ∙ zero-of-passed (placeChecks g disk number (length blank)) (passed-of-accepted g disk number (length blank) a)
 
   pub hiddenReadRefusal-of-accepted :
       (number : ℕ) (blank : Bytes) → AcceptedHidden g number (length blank) →
-          isDamaged (walk g disk number .end) ≡ false →
-      hiddenReadRefusal disk number blank ≡ 0
+      isDamaged (walk g disk number .end) ≡ false → hiddenReadRefusal disk number blank ≡ 0
   unfolding hiddenReadRefusal
   hiddenReadRefusal-of-accepted number blank a e =
       after-drive-pass disk _ accepted
-      ∙ ap (λ (v : Geometry). firstOf (hiddenChecks v number (length blank) ++
-        walkChecks v disk number)) states
+      ∙ ap (λ (v : Geometry). firstOf (hiddenChecks v number (length blank) ++ walkChecks v disk number)) states
       ∙ zero-of-passed (hiddenChecks g number (length blank) ++ walkChecks g disk number)
-        (passed-of-hidden g disk number (length blank) a e)
+      (passed-of-hidden g disk number (length blank) a e)
 
   module _ (number : ℕ) (content random : Bytes) (room : ℕ) (offer : Option HiddenWrite) where
     abbrev refusal : ℕ
     refusal = writeRefusal disk number content (length random) room
 
+    abbrev place : Geometry → List Check
+    place v = placeChecks v disk number (length content)
+
+    abbrev rounds : Geometry → List Check
+    rounds v = roundChecks v disk number (length random) room
+
     pub accepted-write : refusal ≡ 0 → AcceptedWrite g disk number (length content) (length random) room
     unfolding writeRefusal
     accepted-write e =
-        let place = placeChecks g disk number (length content) in
-        let rounds = roundChecks g disk number (length random) room in
-        let z : firstOf (place ++ rounds) ≡ 0 =
-        ap (λ (v : Geometry). firstOf (placeChecks v disk number (length content) ++
-          roundChecks v disk number (length random) room)) (sym states)
-        ∙ sym (after-drive-pass disk (placeChecks (geometryIn disk) disk number (length content) ++
-          roundChecks (geometryIn disk) disk number (length random) room) accepted)
-        ∙ e in
-        let p = passed-of-zero (place ++ rounds) (numbered-write g disk number (length content)
-          (length random) room) z in
+        let z : firstOf (place g ++ rounds g) ≡ 0 =
+        ap (λ (v : Geometry). firstOf (place v ++ rounds v)) (sym states)
+        ∙ sym (after-drive-pass disk (place (geometryIn disk) ++ rounds (geometryIn disk)) accepted) ∙ e in
+        let p =
+        passed-of-zero (place g ++ rounds g)
+        (numbered-write g disk number (length content) (length random) room) z in
         accepted-of-passed-write g disk number (length content) (length random) room
-          (passed-front place rounds p) (passed-rest place rounds p)
+        (passed-front (place g) (rounds g) p) (passed-rest (place g) (rounds g) p)
 
     pub written-done :
         refusal ≡ 0 →
@@ -179,11 +170,8 @@ module _ (g : Geometry) (disk : Bytes) (states : geometryIn disk ≡ g) (accepte
     unfolding written
     written-done e =
         cond-true _ _ (eq-eqb refusal 0 e)
-        ∙ ap (λ (v : Geometry). doneWrite (offerRefusal v offer)
-          (writeRun v disk number content random offer)) states
+        ∙ ap (λ (v : Geometry). doneWrite (offerRefusal v offer) (writeRun v disk number content random offer)) states
 
-    pub written-refused :
-        refusal ≢ 0 →
-        written disk number content random room offer ≡ refusedWrite refusal
+    pub written-refused : refusal ≢ 0 → written disk number content random room offer ≡ refusedWrite refusal
     unfolding written
     written-refused ne = cond-false _ _ (ne-eqb refusal 0 ne)

@@ -1,6 +1,5 @@
 -- Laws of formatting (document 01, "The disk"): the front that it writes, the header that reads back, zeros
--- from the map
--- to the root, and the data area as it was. Assumes nothing.
+-- from the map to the root, and the data area as it was. Assumes nothing.
 use mathlib.Core.Path.{_≡_, sym, ap, _∙_, subst}
 use mathlib.Core.Bool.{false}
 use mathlib.Core.List.{[], _∷_}
@@ -48,25 +47,18 @@ bitAt-zeros place size = rw (getD-zeros size (place / 8), zero-div (2 ^ (place %
 pub length-headerBlock : (g : Geometry) → Fits g → length (headerBlock g) ≡ g .blockSize
 unfolding headerBlock
 length-headerBlock g f =
-    length-append (packed (g .blockSize ∷ g .height ∷ g .publics ∷ g .hidden ∷ g .slots ∷ 0 ∷ []))
-      (replicate (g .blockSize - 24) 0)
-    ∙ omega (
-      arith,
-      length-packed (g .blockSize ∷ g .height ∷ g .publics ∷ g .hidden ∷ g .slots ∷ 0 ∷ []),
-      length-replicate {A = ℕ} (g .blockSize - 24) 0,
-    )
+    let entries = g .blockSize ∷ g .height ∷ g .publics ∷ g .hidden ∷ g .slots ∷ 0 ∷ [] in
+    length-append (packed entries) (zeroBlock (g .blockSize - 24))
+    ∙ omega (arith, length-packed entries, length-replicate {A = ℕ} (g .blockSize - 24) 0)
 
 pub length-freshFront : (g : Geometry) → Fits g → length (freshFront g) ≡ areaStart g * g .blockSize
 unfolding freshFront
 length-freshFront g f =
+    let rest = (areaStart g - 1) * g .blockSize in
     let e : areaStart g - 1 + 1 ≡ areaStart g = omega arith in
-    length-append (headerBlock g) (replicate ((areaStart g - 1) * g .blockSize) 0)
-    ∙ omega (
-      arith,
-      length-headerBlock g f,
-      length-replicate {A = ℕ} ((areaStart g - 1) * g .blockSize) 0,
-      ap (λ (n : ℕ). n * g .blockSize) e,
-    )
+    let split = ap (λ (n : ℕ). n * g .blockSize) e in
+    length-append (headerBlock g) (zeroBlock rest)
+    ∙ omega (arith, length-headerBlock g f, length-replicate {A = ℕ} rest 0, split)
 
 -- ---- the disk that formatting leaves ----
 
@@ -97,11 +89,11 @@ module _ (disk : Bytes) (g : Geometry) (good : formatRefusal disk g ≡ 0) where
       (from size : ℕ) → from + size ≤ areaStart g * g .blockSize →
       part from size (formatted disk g) ≡ part from size (freshFront g)
   part-formatted from size h =
+      let fresh = over 0 (freshFront g) disk in
       let e : 0 + from ≡ from = omega arith in
-      ap (part from size) formatted-is
-      ∙ ap (λ (n : ℕ). part n size (over 0 (freshFront g) disk)) (sym e)
-      ∙ sym (part-part 0 (length (freshFront g)) from size (over 0 (freshFront g) disk)
-        (omega (arith, length-freshFront g fits-formatted)))
+      let inside : from + size ≤ length (freshFront g) = omega (arith, length-freshFront g fits-formatted) in
+      ap (part from size) formatted-is ∙ ap (λ (n : ℕ). part n size fresh) (sym e)
+      ∙ sym (part-part 0 (length (freshFront g)) from size fresh inside)
       ∙ ap (part from size) (part-over-same (freshFront g) disk 0 front-inside)
 
   -- ---- the header ----
@@ -125,10 +117,10 @@ module _ (disk : Bytes) (g : Geometry) (good : formatRefusal disk g ≡ 0) where
   pub refusal-formatted : driveRefusal (formatted disk g) ≡ 0
   refusal-formatted =
       refusal-of-accepted (formatted disk g) (rw length-formatted (sized .long))
-        (ap isGeometry geometry-formatted ∙ sized .accepted)
+      (ap isGeometry geometry-formatted ∙ sized .accepted)
       (whole-formatted ∙ sym (ap driveSize geometry-formatted))
       (subst (λ (v : Geometry). headIn (formatted disk g) < v .slots) (sym geometry-formatted)
-        (omega (arith, head-formatted, fits-formatted)))
+      (omega (arith, head-formatted, fits-formatted)))
 
   -- ---- from the map to the root ----
 
@@ -137,34 +129,32 @@ module _ (disk : Bytes) (g : Geometry) (good : formatRefusal disk g ≡ 0) where
       blockAt (g .blockSize) (formatted disk g) address ≡ zeroBlock (g .blockSize)
   unfolding blockAt part freshFront
   blockAt-formatted-zeros address low high =
+      let rest = (areaStart g - 1) * g .blockSize in
+      let before = (address - 1) * g .blockSize in
       let k : address - 1 + 1 ≡ address = omega arith in
       let le : address - 1 + 1 ≤ areaStart g - 1 = omega arith in
-      let split : address * g .blockSize ≡ length (headerBlock g) + (address - 1) * g .blockSize =
+      let split : address * g .blockSize ≡ length (headerBlock g) + before =
       omega (arith, length-headerBlock g fits-formatted, ap (λ (n : ℕ). n * g .blockSize) k) in
-      part-formatted (address * g .blockSize) (g .blockSize)
-        (omega (arith, mul-le-mul-right (g .blockSize) high))
+      part-formatted (address * g .blockSize) (g .blockSize) (omega (arith, mul-le-mul-right (g .blockSize) high))
       ∙ ap (λ (n : ℕ). take (g .blockSize) (drop n (freshFront g))) split
-      ∙ ap (take (g .blockSize)) (drop-append-add (headerBlock g)
-        (zeroBlock ((areaStart g - 1) * g .blockSize)) ((address - 1) * g .blockSize))
-      ∙ part-zeros ((address - 1) * g .blockSize) (g .blockSize) ((areaStart g - 1) * g .blockSize)
-      (omega (arith, mul-le-mul-right (g .blockSize) le))
+      ∙ ap (take (g .blockSize)) (drop-append-add (headerBlock g) (zeroBlock rest) before)
+      ∙ part-zeros before (g .blockSize) rest (omega (arith, mul-le-mul-right (g .blockSize) le))
 
-  pub root-formatted : (index : ℕ) → entryAt index
-    (blockAt (g .blockSize) (formatted disk g) (rootAddress g)) ≡ 0
+  pub root-formatted :
+      (index : ℕ) → entryAt index (blockAt (g .blockSize) (formatted disk g) (rootAddress g)) ≡ 0
   root-formatted index =
       ap (entryAt index) (blockAt-formatted-zeros (rootAddress g) (omega arith) (omega arith))
-        ∙ entryAt-replicate (g .blockSize) index
+      ∙ entryAt-replicate (g .blockSize) index
 
   pub mapEntry-formatted : (number : ℕ) → number < g .publics → mapEntry g (formatted disk g) number ≡ 0
   mapEntry-formatted number h =
+      let high : mapAddress g number < areaStart g = omega (arith, mapAddress-lt g fits-formatted number h) in
       mapEntry-is g (formatted disk g) number
-      ∙ ap (entryAt (number % fanout g))
-      (blockAt-formatted-zeros (mapAddress g number) (omega arith)
-        (omega (arith, mapAddress-lt g fits-formatted number h)))
+      ∙ ap (entryAt (number % fanout g)) (blockAt-formatted-zeros (mapAddress g number) (omega arith) high)
       ∙ entryAt-replicate (g .blockSize) (number % fanout g)
 
-  pub bitmapBit-formatted : (place : ℕ) → place < bitmapBlocks g * (8 * g .blockSize) →
-      bitmapBit g (formatted disk g) place ≡ false
+  pub bitmapBit-formatted :
+      (place : ℕ) → place < bitmapBlocks g * (8 * g .blockSize) → bitmapBit g (formatted disk g) place ≡ false
   unfolding bitmapBit
   bitmapBit-formatted place h =
       let positive : 0 < 8 * g .blockSize = omega (arith, fits-formatted) in

@@ -16,25 +16,25 @@ use Rattle.model.proofs.Volumes.Public.{place-of}
 abbrev Mapped : Geometry → (disk : Bytes) → (place : ℕ) → Type 0
 Mapped g disk place = (number : ℕ) × (number < g .publics) × (mapEntry g disk number ≡ areaStart g + place)
 
-module _ (g : Geometry) (disk after : Bytes) (number slot : ℕ) (content : Bytes)
-    (counted : number < g .publics)
+module _ (g : Geometry) (disk after : Bytes) (number slot : ℕ) (content : Bytes) (counted : number < g .publics)
     (public : PublicInvariant g disk) (sound : BitmapInvariant g disk)
-      (wrote : Wrote g number content slot disk after) where
+    (wrote : Wrote g number content slot disk after) where
   -- the slot of the number's old place
   abbrev home : ℕ
   home = slotOf g (mapEntry g disk number)
 
-  mapped-after : (place : ℕ) → place < bitmapBlocks g * (8 * g .blockSize) → bitmapBit g after place ≡ true →
+  mapped-after :
+      (place : ℕ) → place < bitmapBlocks g * (8 * g .blockSize) → bitmapBit g after place ≡ true →
       Mapped g after place
-  mapped-after place h e = ⊎-elim new (λ p. ⊎-elim (old p) (other p) (eq-cases place (areaPlace g home)))
-    (eq-cases place (areaPlace g slot))
+  mapped-after place h e =
+      ⊎-elim new (λ p. ⊎-elim (old p) (other p) (eq-cases place (areaPlace g home)))
+      (eq-cases place (areaPlace g slot))
     where
       new : place ≡ areaPlace g slot → Mapped g after place
       new p = (number, counted, wrote .map-same ∙ ap (λ (n : ℕ). areaStart g + n) (sym p))
 
       -- a set bit was set before, and it was another number's
-      kept : (mapEntry g disk number ≢ 0 → place ≢ areaPlace g home) → place ≢ areaPlace g slot →
-          Mapped g after place
+      kept : (mapEntry g disk number ≢ 0 → place ≢ areaPlace g home) → place ≢ areaPlace g slot → Mapped g after place
       kept apart p = by (sound .mapped place h (sym (wrote .bit-other place h p apart) ∙ e))
         where
           by : Mapped g disk place → Mapped g after place
@@ -42,12 +42,9 @@ module _ (g : Geometry) (disk after : Bytes) (number slot : ℕ) (content : Byte
             where
               different : owner ≢ number
               different q =
-                  let there : mapEntry g disk number ≡ areaStart g + place =
-                    ap (mapEntry g disk) (sym q) ∙ at in
-                  let ne : mapEntry g disk number ≢ 0 = λ z. let v : areaStart g + place ≡ 0 =
-                    sym there ∙ z in omega arith in
-                  let is = place-of g disk (mapEntry g disk number)
-                    (public .in-place number counted ne) .entry-is in
+                  let there : mapEntry g disk number ≡ areaStart g + place = ap (mapEntry g disk) (sym q) ∙ at in
+                  let ne : mapEntry g disk number ≢ 0 = λ z. omega (arith, there, z) in
+                  let is = place-of g disk (mapEntry g disk number) (public .in-place number counted ne) .entry-is in
                   apart ne (omega (arith, is, there))
 
       other : place ≢ areaPlace g slot → place ≢ areaPlace g home → Mapped g after place

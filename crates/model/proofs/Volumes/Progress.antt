@@ -1,6 +1,5 @@
 -- What rounds do to the hidden writes of a call and to what hidden numbers show: the progress of one round
--- after another,
--- and what a whole call's progress and its hidden outcome say of each other. Assumes nothing.
+-- after another, and what a whole call's progress and its hidden outcome say of each other. Assumes nothing.
 use mathlib.Core.Path.{_≡_, refl, sym, ap, ap₂, _∙_}
 use mathlib.Core.Logic.{_≢_, _⊎_, inl, inr, ⊎-elim}
 use mathlib.Core.Bool.{Bool, true, false, cond}
@@ -23,8 +22,7 @@ use Rattle.model.specs.Promises.ReadAfterWrite.{offeredUnder}
 -- ---- progress ----
 
 -- what a number shows once hidden writes are placed, one after another
-unfoldable pub shownAfter : (writes : List HiddenWrite) → (number : ℕ) → (before : Option Bytes) →
-    Option Bytes
+unfoldable pub shownAfter : (writes : List HiddenWrite) → (number : ℕ) → (before : Option Bytes) → Option Bytes
 shownAfter [] number before = before
 shownAfter (next ∷ later) number before = shownAfter later number (offeredUnder number before (some next))
 
@@ -46,8 +44,7 @@ shownAfter-append (next ∷ later) ys number before =
 
 pub progress-then :
     (g : Geometry) (state middle result : HiddenState) (old between new : ℕ → Option Bytes) →
-    Progress g state middle old between → Progress g middle result between new →
-    Progress g state result old new
+    Progress g state middle old between → Progress g middle result between new → Progress g state result old new
 progress-then g state middle result old between new p q =
     record {
       done = p .done ++ q .done;
@@ -63,16 +60,18 @@ progress-then g state middle result old between new p q =
 
 -- ---- the outcome ----
 
+abbrev pub saysPlaced : Outcome → Bool
+saysPlaced outcome = eqb (outcomeNumber outcome) 1
+
 -- nothing placed is not said to be placed
-outcome-unplaced : (refusal : ℕ) (state : HiddenState) → state .placed ≡ 0 →
-    eqb (outcomeNumber (outcomeOf refusal state)) 1 ≡ false
+outcome-unplaced :
+    (refusal : ℕ) (state : HiddenState) → state .placed ≡ 0 → saysPlaced (outcomeOf refusal state) ≡ false
 unfolding outcomeOf
-outcome-unplaced refusal state e = rw e (by (eqb refusal 10) (eqb refusal 11) (state .metDamage)
-    (isWaiting (state .waiting)))
+outcome-unplaced refusal state e =
+    rw e (by (eqb refusal 10) (eqb refusal 11) (state .metDamage) (isWaiting (state .waiting)))
   where
     by : (a b c d : Bool) →
-        eqb (outcomeNumber (cond a badNumber (cond b badSize
-          (cond c damagedWalk (cond d waiting noWrite))))) 1 ≡ false
+        saysPlaced (cond a badNumber (cond b badSize (cond c damagedWalk (cond d waiting noWrite)))) ≡ false
     by true b c d = refl
     by false true c d = refl
     by false false true d = refl
@@ -93,31 +92,30 @@ none-of-none (next ∷ later) rest e =
     absurd (omega arith)
 
 -- what is placed of one write
-some-of-one : (write : HiddenWrite) (done rest : List HiddenWrite) → write ∷ [] ≡ done ++ rest →
+some-of-one :
+    (write : HiddenWrite) (done rest : List HiddenWrite) → write ∷ [] ≡ done ++ rest →
     (done ≡ []) ⊎ (done ≡ write ∷ [])
 some-of-one write [] rest e = inl refl
 some-of-one write (next ∷ later) rest e =
     let tail : [] ≡ later ++ rest = ap (drop 1) e in
     let head : next ≡ write = ap (λ (xs : List HiddenWrite). getD xs 0 next) (sym e) in
     inr (ap₂ {C = List HiddenWrite} (λ (x : HiddenWrite) (xs : List HiddenWrite). x ∷ xs) head
-      (none-of-none later rest tail))
+    (none-of-none later rest tail))
 
 module _ (g : Geometry) (result : HiddenState) (old new : ℕ → Option Bytes) (number : ℕ)
     (counted : number < g .hidden) where
-  -- what is shown where the outcome of an offer that a refusal meets says placed, and where it does not
+  -- what the number shows by the outcome: the hidden write's block where it says placed, else the old one
   abbrev shownBy : (refusal : ℕ) → Option HiddenWrite → Option Bytes
   shownBy refusal offer =
-      cond (eqb (outcomeNumber (outcomeOf refusal result)) 1) (offeredUnder number (old number) offer)
-        (old number)
+      cond (saysPlaced (outcomeOf refusal result)) (offeredUnder number (old number) offer) (old number)
 
   module _ (writes : List HiddenWrite) (progress : Progress g (startState writes) result old new) where
-    shows-unplaced : progress .done ≡ [] → (refusal : ℕ) (offer : Option HiddenWrite) →
-        new number ≡ shownBy refusal offer
+    shows-unplaced :
+        progress .done ≡ [] → (refusal : ℕ) (offer : Option HiddenWrite) → new number ≡ shownBy refusal offer
     unfolding shownAfter
     shows-unplaced e refusal offer =
         let l : length (progress .done) ≡ 0 = ap length e in
-        progress .shows number counted ∙ ap (λ (done : List HiddenWrite). shownAfter done number
-          (old number)) e
+        progress .shows number counted ∙ ap (λ (done : List HiddenWrite). shownAfter done number (old number)) e
         ∙ sym (cond-false _ _ (outcome-unplaced refusal result (omega (arith, progress .placed-is))))
 
     shows-placed : (write : HiddenWrite) → progress .done ≡ write ∷ [] → new number ≡ shownBy 0 (some write)
@@ -125,17 +123,16 @@ module _ (g : Geometry) (result : HiddenState) (old new : ℕ → Option Bytes) 
     shows-placed write e =
         let l : length (progress .done) ≡ 1 = ap length e in
         let said : outcomeOf 0 result ≡ placed = outcome-placed result (omega (arith, progress .placed-is)) in
-        progress .shows number counted ∙ ap (λ (done : List HiddenWrite). shownAfter done number
-          (old number)) e
-        ∙ sym (cond-true _ _ (ap (λ (outcome : Outcome). eqb (outcomeNumber outcome) 1) said))
+        progress .shows number counted ∙ ap (λ (done : List HiddenWrite). shownAfter done number (old number)) e
+        ∙ sym (cond-true _ _ (ap saysPlaced said))
 
   -- a call's hidden write is shown just if its outcome says placed
   pub shows-of-progress :
       (offer : Option HiddenWrite) → Progress g (startState (offeredWrites g offer)) result old new →
       new number ≡ shownBy (offerRefusal g offer) offer
   unfolding offeredWrites offerRefusal
-  shows-of-progress none progress = shows-unplaced [] progress
-    (none-of-none (progress .done) _ (progress .waiting-is)) 0 none
+  shows-of-progress none progress =
+      shows-unplaced [] progress (none-of-none (progress .done) _ (progress .waiting-is)) 0 none
   shows-of-progress (some write) progress = ⊎-elim good bad (eq-cases refusal 0)
     where
       refusal : ℕ
@@ -147,8 +144,8 @@ module _ (g : Geometry) (result : HiddenState) (old new : ℕ → Option Bytes) 
       bad : refusal ≢ 0 → new number ≡ shownBy refusal (some write)
       bad ne =
           let e : offered ≡ [] = cond-false _ _ (ne-eqb refusal 0 ne) in
-          shows-unplaced offered progress (none-of-none (progress .done) _
-            (sym e ∙ progress .waiting-is)) refusal (some write)
+          let nothing : progress .done ≡ [] = none-of-none (progress .done) _ (sym e ∙ progress .waiting-is) in
+          shows-unplaced offered progress nothing refusal (some write)
 
       good : refusal ≡ 0 → new number ≡ shownBy refusal (some write)
       good z =

@@ -1,5 +1,4 @@
--- The public volume: where its blocks are, that a write keeps its invariant, and what a number shows after
--- one.
+-- The public volume: where its blocks are, that a write keeps its invariant, and what a number shows after it.
 -- Assumes nothing.
 use mathlib.Core.Path.{_≡_, sym, ap, _∙_}
 use mathlib.Core.Logic.{_≢_, _⊎_, inl, inr, ⊎-elim}
@@ -9,8 +8,8 @@ use Prim.Native.Nat.{ℕ, _<_}
 use native.Mathlib.Omega.{arith}
 use lib.Dec.{eqb}
 use borrow.Author.Tests.{eq-eqb, ne-eqb}
-use Rattle.laws.proofs.Cases.{eq-cases, and-left, and-right, and-both, true-is-not-false, cond-true}
-use Rattle.laws.proofs.Cases.{cond-false}
+use Rattle.laws.proofs.Cases.{eq-cases, true-is-not-false, and-left, and-right, and-both}
+use Rattle.laws.proofs.Cases.{cond-true, cond-false}
 use Rattle.model.specs.Geometry.{Geometry}
 use Rattle.model.specs.Blocks.{Bytes, DiskAddress, blockAt}
 use Rattle.model.specs.Layout.{slotStart, slotOf, isSlotBlock, isAllocated, mapEntry, isPlace}
@@ -26,19 +25,20 @@ pub record SlotPlace (g : Geometry) (disk : Bytes) (entry : DiskAddress) : Type 
   pub entry-is : entry ≡ slotStart g (slotOf g entry)
   pub allocated : isAllocated g disk (slotOf g entry) ≡ true
 
-pub place-of : (g : Geometry) (disk : Bytes) (entry : DiskAddress) → isPlace g disk entry ≡ true →
-    SlotPlace g disk entry
+pub place-of :
+    (g : Geometry) (disk : Bytes) (entry : DiskAddress) → isPlace g disk entry ≡ true → SlotPlace g disk entry
 unfolding isPlace
 place-of g disk entry e =
-    let block = slotBlock-of g 0 entry (and-left (isSlotBlock g 0 entry)
-      (isAllocated g disk (slotOf g entry)) e) in
+    let block =
+    slotBlock-of g 0 entry (and-left (isSlotBlock g 0 entry) (isAllocated g disk (slotOf g entry)) e) in
     record {
       slot-inside = block .slot-inside;
       entry-is = omega (arith, block .address-is);
       allocated = and-right (isSlotBlock g 0 entry) (isAllocated g disk (slotOf g entry)) e;
     }
 
-isPlace-of : (g : Geometry) (disk : Bytes) (slot : ℕ) → slot < g .slots → isAllocated g disk slot ≡ true →
+isPlace-of :
+    (g : Geometry) (disk : Bytes) (slot : ℕ) → slot < g .slots → isAllocated g disk slot ≡ true →
     isPlace g disk (slotStart g slot) ≡ true
 unfolding isPlace
 isPlace-of g disk slot h e =
@@ -51,15 +51,14 @@ publicValue g disk number =
 
 -- ---- after a write ----
 
-module _ (g : Geometry) (disk after : Bytes) (number slot : ℕ) (content : Bytes)
-    (counted : number < g .publics)
+module _ (g : Geometry) (disk after : Bytes) (number slot : ℕ) (content : Bytes) (counted : number < g .publics)
     (sound : PublicInvariant g disk) (wrote : Wrote g number content slot disk after) where
   -- the slot of a number's place
   abbrev home : (other : ℕ) → ℕ
   home other = slotOf g (mapEntry g disk other)
 
-  place-at : (other : ℕ) → other < g .publics → mapEntry g disk other ≢ 0 →
-      SlotPlace g disk (mapEntry g disk other)
+  place-at :
+      (other : ℕ) → other < g .publics → mapEntry g disk other ≢ 0 → SlotPlace g disk (mapEntry g disk other)
   place-at other h ne = place-of g disk (mapEntry g disk other) (sound .in-place other h ne)
 
   -- no place is in the slot that the write takes
@@ -68,28 +67,29 @@ module _ (g : Geometry) (disk after : Bytes) (number slot : ℕ) (content : Byte
       true-is-not-false (ap (isAllocated g disk) (sym e) ∙ place-at other h ne .allocated) (wrote .was-free)
 
   home-apart :
-      (other : ℕ) → other < g .publics → other ≢ number → mapEntry g disk other ≢ 0 →
-          mapEntry g disk number ≢ 0 → home other ≢ home number
+      (other : ℕ) → other < g .publics → other ≢ number → mapEntry g disk other ≢ 0 → mapEntry g disk number ≢ 0 →
+      home other ≢ home number
   home-apart other h ne p q e =
       ne (sound .apart other number h counted p
       (place-at other h p .entry-is ∙ ap (slotStart g) e ∙ sym (place-at number counted q .entry-is)))
 
-  mark-kept : (other : ℕ) → other < g .publics → other ≢ number → mapEntry g disk other ≢ 0 →
+  mark-kept :
+      (other : ℕ) → other < g .publics → other ≢ number → mapEntry g disk other ≢ 0 →
       isAllocated g after (home other) ≡ true
   mark-kept other h ne p =
       wrote .mark-other (home other) (place-at other h p .slot-inside) (home-not-new other h p)
-      (λ q. home-apart other h ne p q) ∙ place-at other h p .allocated
+      (home-apart other h ne p)
+      ∙ place-at other h p .allocated
 
   -- the new place is nobody's old one
-  entry-not-new : (other : ℕ) → other < g .publics → other ≢ number →
-      mapEntry g after other ≢ slotStart g slot
+  entry-not-new :
+      (other : ℕ) → other < g .publics → other ≢ number → mapEntry g after other ≢ slotStart g slot
   entry-not-new other h ne e =
       let old : mapEntry g disk other ≡ slotStart g slot = sym (wrote .map-other other h ne) ∙ e in
-      home-not-new other h (λ z. let q : slotStart g slot ≡ 0 = sym old ∙ z in omega arith)
-        (ap (slotOf g) old ∙ slotOf-slotStart g slot)
+      home-not-new other h (λ z. omega (arith, old, z)) (ap (slotOf g) old ∙ slotOf-slotStart g slot)
 
-  in-place-after : (other : ℕ) → other < g .publics → mapEntry g after other ≢ 0 →
-      isPlace g after (mapEntry g after other) ≡ true
+  in-place-after :
+      (other : ℕ) → other < g .publics → mapEntry g after other ≢ 0 → isPlace g after (mapEntry g after other) ≡ true
   in-place-after other h p = ⊎-elim same different (eq-cases other number)
     where
       same : other ≡ number → isPlace g after (mapEntry g after other) ≡ true
@@ -102,8 +102,8 @@ module _ (g : Geometry) (disk after : Bytes) (number slot : ℕ) (content : Byte
           let e = wrote .map-other other h ne in
           let q : mapEntry g disk other ≢ 0 = λ z. p (e ∙ z) in
           let place = place-at other h q in
-          ap (isPlace g after) (e ∙ place .entry-is) ∙ isPlace-of g after (home other) (place .slot-inside)
-            (mark-kept other h ne q)
+          ap (isPlace g after) (e ∙ place .entry-is)
+          ∙ isPlace-of g after (home other) (place .slot-inside) (mark-kept other h ne q)
 
   apart-after :
       (first second : ℕ) → first < g .publics → second < g .publics → mapEntry g after first ≢ 0 →
@@ -112,8 +112,7 @@ module _ (g : Geometry) (disk after : Bytes) (number slot : ℕ) (content : Byte
     where
       by : (first ≡ number) ⊎ (first ≢ number) → (second ≡ number) ⊎ (second ≢ number) → first ≡ second
       by (inl a) (inl b) = a ∙ sym b
-      by (inl a) (inr b) = absurd (entry-not-new second k b
-        (sym e ∙ ap (mapEntry g after) a ∙ wrote .map-same))
+      by (inl a) (inr b) = absurd (entry-not-new second k b (sym e ∙ ap (mapEntry g after) a ∙ wrote .map-same))
       by (inr a) (inl b) = absurd (entry-not-new first h a (e ∙ ap (mapEntry g after) b ∙ wrote .map-same))
       by (inr a) (inr b) =
           let v = wrote .map-other first h a in
@@ -126,12 +125,11 @@ module _ (g : Geometry) (disk after : Bytes) (number slot : ℕ) (content : Byte
 
   pub publicValue-same : publicValue g after number ≡ some content
   publicValue-same =
-      cond-false _ _ (ne-eqb (mapEntry g after number) 0
-        (λ z. let q : slotStart g slot ≡ 0 = sym (wrote .map-same) ∙ z in omega arith))
+      cond-false _ _ (ne-eqb (mapEntry g after number) 0 (λ z. omega (arith, wrote .map-same, z)))
       ∙ ap {B = Option Bytes} some (ap (blockAt (g .blockSize) after) (wrote .map-same) ∙ wrote .block-new)
 
-  pub publicValue-other : (other : ℕ) → other < g .publics → other ≢ number →
-      publicValue g after other ≡ publicValue g disk other
+  pub publicValue-other :
+      (other : ℕ) → other < g .publics → other ≢ number → publicValue g after other ≡ publicValue g disk other
   publicValue-other other h ne = ⊎-elim unplaced placed (eq-cases (mapEntry g disk other) 0)
     where
       e : mapEntry g after other ≡ mapEntry g disk other
@@ -140,7 +138,7 @@ module _ (g : Geometry) (disk after : Bytes) (number slot : ℕ) (content : Byte
       unplaced : mapEntry g disk other ≡ 0 → publicValue g after other ≡ publicValue g disk other
       unplaced z =
           cond-true _ _ (eq-eqb (mapEntry g after other) 0 (e ∙ z))
-            ∙ sym (cond-true _ _ (eq-eqb (mapEntry g disk other) 0 z))
+          ∙ sym (cond-true _ _ (eq-eqb (mapEntry g disk other) 0 z))
 
       placed : mapEntry g disk other ≢ 0 → publicValue g after other ≡ publicValue g disk other
       placed p =

@@ -11,7 +11,7 @@ use lib.ListN.{length}
 use borrow.Author.Tests.{eq-eqb}
 use Rattle.laws.proofs.Cases.{eq-cases, cond-true}
 use Rattle.model.specs.Geometry.{Geometry, Fits, treeCapacity}
-use Rattle.model.specs.Blocks.{Bytes, blockAt}
+use Rattle.model.specs.Blocks.{Bytes, DiskAddress, blockAt}
 use Rattle.model.specs.Layout.{geometryIn, mapEntry}
 use Rattle.model.specs.HiddenTree.{walk}
 use Rattle.model.specs.Invariants.{PublicInvariant}
@@ -34,8 +34,8 @@ module _ (g : Geometry) (disk : Bytes) (states : geometryIn disk ≡ g) (accepte
         record {
           number-inside = counted;
           block-sized = sized;
-          in-place = ⊎-elim (λ e. inl e) (λ ne. inr (sound .in-place number counted ne))
-            (eq-cases (mapEntry g disk number) 0);
+          in-place =
+              ⊎-elim (λ e. inl e) (λ ne. inr (sound .in-place number counted ne)) (eq-cases (mapEntry g disk number) 0);
         }
 
     pub public-read-accepted : publicReadRefusal disk number blank ≡ 0
@@ -45,12 +45,13 @@ module _ (g : Geometry) (disk : Bytes) (states : geometryIn disk ≡ g) (accepte
     unfolding publicRead
     publicRead-shows =
         cond-true _ _ (eq-eqb (publicReadRefusal disk number blank) 0 public-read-accepted)
-        ∙ ap (λ (v : Geometry). cond (eqb (mapEntry v disk number) 0) blank
-          (blockAt (v .blockSize) disk (mapEntry v disk number))) states
+        ∙ ap (λ (v : Geometry). shownBy v (mapEntry v disk number)) states
         ∙ by (eqb (mapEntry g disk number) 0) (blockAt (g .blockSize) disk (mapEntry g disk number))
       where
-        by : (isNone : Bool) (block : Bytes) → cond isNone blank block ≡
-          orElse (cond isNone none (some block)) blank
+        shownBy : Geometry → (entry : DiskAddress) → Bytes
+        shownBy v entry = cond (eqb entry 0) blank (blockAt (v .blockSize) disk entry)
+
+        by : (isNone : Bool) (block : Bytes) → cond isNone blank block ≡ orElse (cond isNone none (some block)) blank
         by true block = refl
         by false block = refl
 
@@ -63,7 +64,7 @@ module _ (g : Geometry) (disk : Bytes) (states : geometryIn disk ≡ g) (accepte
     pub hidden-read-accepted : hiddenReadRefusal disk number blank ≡ 0
     hidden-read-accepted =
         hiddenReadRefusal-of-accepted g disk states accepted number blank
-          (record { number-inside = counted; block-sized = sized })
+        (record { number-inside = counted; block-sized = sized })
         (isDamaged-walk g disk tree (ghost .links) number low f)
 
     pub hiddenRead-shows : hiddenRead disk number blank ≡ orElse (valueOf g disk tree number) blank

@@ -14,7 +14,7 @@ use Rattle.model.specs.Blocks.{Bytes}
 use Rattle.model.specs.HiddenHalf.{HiddenWrite}
 use Rattle.model.specs.Rounds.{Run}
 use Rattle.model.specs.Refusals.{writeRefusal}
-use Rattle.model.specs.Calls.{publicRead, hiddenRead, outcomeNumber, outcomeOf, offerRefusal}
+use Rattle.model.specs.Calls.{publicRead, hiddenRead, outcomeOf, offerRefusal}
 use Rattle.model.specs.Calls.{Written, doneWrite, written, writtenDisk}
 use Rattle.model.specs.Promises.ReadAfterWrite.{offeredUnder, isPlaced, orElse, Sound}
 use Rattle.model.proofs.Tree.Ghost.{Tree, Ghost, valueOf}
@@ -22,7 +22,7 @@ use Rattle.model.proofs.Tree.FromInvariant.{treeOf, ghost-of-hiddenInva
 use Rattle.model.proofs.Volumes.Public.{write-preserves-public, publicValue, publicValue-same}
 use Rattle.model.proofs.Volumes.Public.{publicValue-other}
 use Rattle.model.proofs.Volumes.Reads.{publicRead-shows, hiddenRead-shows}
-use Rattle.model.proofs.Volumes.Progress.{shows-of-progress}
+use Rattle.model.proofs.Volumes.Progress.{saysPlaced, shows-of-progress}
 use Rattle.model.proofs.Volumes.Writes.{finalDisk, Leaves, fits-of-accepted, write-cases}
 use Rattle.model.proofs.Volumes.Lists.{Carries}
 
@@ -127,7 +127,7 @@ module _ (g : Geometry) (disk : Bytes) (sound : Sound g disk) (number : ℕ) (co
         ∙ ap (λ (value : Option Bytes). orElse value blank)
         (shows-of-progress g (run .state) (valueOf g disk tree) (valueOf g (finalDisk g disk run) (grew .grown)) other h
         offer (grew .progress))
-        ∙ carries-offer (eqb (outcomeNumber (outcomeOf (offerRefusal g offer) (run .state))) 1) offer other
+        ∙ carries-offer (saysPlaced (outcomeOf (offerRefusal g offer) (run .state))) offer other
         (valueOf g disk tree other) before blank otherwise
         (sym (hiddenRead-shows g disk (sound .geometry) (sound .accepted) other blank sized f tree ghost h) ∙ e)
 

@@ -114,10 +114,12 @@ accepted-hidden-write g number content e =
 
 passed-of-hidden :
     (g : Geometry) (disk : Bytes) (number size : ℕ) → AcceptedHidden g number size →
-    isDamaged (walk g disk number .end) ≡ false → Passed (hiddenChecks g number size ++ walkChecks g disk number)
+    isDamaged (walk g disk number .end) ≡ false →
+    Passed (hiddenChecks g number size ++ walkChecks g disk number)
 unfolding hiddenChecks walkChecks
 passed-of-hidden g disk number size a e =
-    (lt-leb (g .hidden) number (a .number-inside), (ap not (eq-eqb size (g .blockSize) (a .block-sized)), (e, tt)))
+    (lt-leb (g .hidden) number (a .number-inside),
+    (ap not (eq-eqb size (g .blockSize) (a .block-sized)), (e, tt)))
 
 -- ---- the calls on a drive ----
 
@@ -129,7 +131,8 @@ module _ (g : Geometry) (disk : Bytes) (states : geometryIn disk ≡ g) (accepte
   publicReadRefusal-of-accepted number blank a =
       after-drive-pass disk (placeChecks (geometryIn disk) disk number (length blank)) accepted
       ∙ ap (λ (v : Geometry). firstOf (placeChecks v disk number (length blank))) states
-      ∙ zero-of-passed (placeChecks g disk number (length blank)) (passed-of-accepted g disk number (length blank) a)
+      ∙ zero-of-passed (placeChecks g disk number (length blank))
+      (passed-of-accepted g disk number (length blank) a)
 
   pub hiddenReadRefusal-of-accepted :
       (number : ℕ) (blank : Bytes) → AcceptedHidden g number (length blank) →
@@ -137,7 +140,8 @@ module _ (g : Geometry) (disk : Bytes) (states : geometryIn disk ≡ g) (accepte
   unfolding hiddenReadRefusal
   hiddenReadRefusal-of-accepted number blank a e =
       after-drive-pass disk _ accepted
-      ∙ ap (λ (v : Geometry). firstOf (hiddenChecks v number (length blank) ++ walkChecks v disk number)) states
+      ∙ ap (λ (v : Geometry). firstOf (hiddenChecks v number (length blank) ++
+      walkChecks v disk number)) states
       ∙ zero-of-passed (hiddenChecks g number (length blank) ++ walkChecks g disk number)
       (passed-of-hidden g disk number (length blank) a e)
 
@@ -170,7 +174,8 @@ module _ (g : Geometry) (disk : Bytes) (states : geometryIn disk ≡ g) (accepte
     unfolding written
     written-done e =
         cond-true _ _ (eq-eqb refusal 0 e)
-        ∙ ap (λ (v : Geometry). doneWrite (offerRefusal v offer) (writeRun v disk number content random offer)) states
+        ∙ ap (λ (v : Geometry). doneWrite (offerRefusal v offer)
+        (writeRun v disk number content random offer)) states
 
     pub written-refused : refusal ≢ 0 → written disk number content random room offer ≡ refusedWrite refusal
     unfolding written

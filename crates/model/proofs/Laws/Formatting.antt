@@ -6,7 +6,7 @@ use mathlib.Core.List.{[], _∷_}
 use Prim.Native.Nat.{ℕ, _+_, _*_, _-_, _/_, _%_, _^_, _≤_, _<_}
 use native.Mathlib.Nat.{mul-le-mul-right, zero-div, div-lt-iff-lt-mul}
 use native.Mathlib.Omega.{arith}
-use lib.ListN.{length, take, drop, replicate, length-append, length-replicate}
+use lib.ListN.{length, take, drop, length-append, length-replicate}
 use lib.Seq.{ext-getD, drop-append-add}
 use borrow.Author.Tests.{eq-eqb}
 use Rattle.laws.specs.Bits.{bitOf, bitAt}
@@ -135,7 +135,8 @@ module _ (disk : Bytes) (g : Geometry) (good : formatRefusal disk g ≡ 0) where
       let le : address - 1 + 1 ≤ areaStart g - 1 = omega arith in
       let split : address * g .blockSize ≡ length (headerBlock g) + before =
       omega (arith, length-headerBlock g fits-formatted, ap (λ (n : ℕ). n * g .blockSize) k) in
-      part-formatted (address * g .blockSize) (g .blockSize) (omega (arith, mul-le-mul-right (g .blockSize) high))
+      part-formatted (address * g .blockSize) (g .blockSize)
+      (omega (arith, mul-le-mul-right (g .blockSize) high))
       ∙ ap (λ (n : ℕ). take (g .blockSize) (drop n (freshFront g))) split
       ∙ ap (take (g .blockSize)) (drop-append-add (headerBlock g) (zeroBlock rest) before)
       ∙ part-zeros before (g .blockSize) rest (omega (arith, mul-le-mul-right (g .blockSize) le))

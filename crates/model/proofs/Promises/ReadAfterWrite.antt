@@ -1,5 +1,5 @@
--- Demand 2: every call keeps the two volumes sound, and a good read shows the block last placed under its number.
--- Assumes nothing.
+-- Demand 2: every call keeps the two volumes sound, and a good read shows the block last placed under its
+-- number. Assumes nothing.
 use Rattle.model.specs.Promises.ReadAfterWrite.{ReadAfterWrite}
 use Rattle.model.proofs.Volumes.Fresh.{formatted-sound, publicRead-formatted, hiddenRead-formatted}
 use Rattle.model.proofs.Volumes.Lists.{reads-back-of-steps}

@@ -1,5 +1,5 @@
--- One call: what it keeps, what it does to a sound drive, and that a sound drive is read without refusal or damage.
--- Assumes nothing.
+-- One call: what it keeps, what it does to a sound drive, and that a sound drive is read without refusal or
+-- damage. Assumes nothing.
 use mathlib.Core.Path.{_≡_}
 use lib.ListN.{length}
 use Rattle.model.specs.Geometry.{Geometry, Fits}
@@ -31,8 +31,8 @@ module _ (g : Geometry) (disk : Bytes) where
       write-keeps-public g disk states accepted number content random (length list) offer public
 
   pub call-keeps-bitmap :
-      (call : Call) → geometryIn disk ≡ g → driveRefusal disk ≡ 0 → PublicInvariant g disk → BitmapInvariant g disk →
-      BitmapInvariant g (diskAfter disk call)
+      (call : Call) → geometryIn disk ≡ g → driveRefusal disk ≡ 0 → PublicInvariant g disk →
+      BitmapInvariant g disk → BitmapInvariant g (diskAfter disk call)
   call-keeps-bitmap (readPublic number blank) states accepted public bitmap = bitmap
   call-keeps-bitmap (readHidden number blank) states accepted public bitmap = bitmap
   call-keeps-bitmap (write number content random list offer) states accepted public bitmap =
@@ -74,9 +74,11 @@ module _ (g : Geometry) (disk : Bytes) where
   readable-of-sound sound =
       record {
         public-answer = λ number blank h sized.
-            public-read-accepted g disk (sound .geometry) (sound .accepted) number blank sized (sound .public-sound) h;
+            public-read-accepted g disk (sound .geometry) (sound .accepted) number blank sized
+            (sound .public-sound) h;
         hidden-answer = λ number blank h sized.
-            hidden-read-accepted g disk (sound .geometry) (sound .accepted) number blank sized f (treeOf g disk) ghost h;
+            hidden-read-accepted g disk (sound .geometry) (sound .accepted) number blank sized f
+            (treeOf g disk) ghost h;
         no-damage = λ number h. walk-not-damaged g disk (treeOf g disk) (ghost .links) number h f;
       }
     where

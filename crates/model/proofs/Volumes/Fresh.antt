@@ -41,21 +41,23 @@ module _ (disk : Bytes) (g : Geometry) (good : formatRefusal disk g ≡ 0) where
         public-sound = formatted-public;
         bitmap-sound = formatted-bitmap;
         hidden-sound =
-            hiddenInvariant-of-ghost g (fits-formatted disk g good) (formatted disk g) emptyTree formatted-ghost;
+            hiddenInvariant-of-ghost g (fits-formatted disk g good) (formatted disk g) emptyTree
+            formatted-ghost;
       }
 
   pub publicRead-formatted :
       (number : ℕ) (blank : Bytes) → number < g .publics → length blank ≡ g .blockSize →
       publicRead (formatted disk g) number blank ≡ blank
   publicRead-formatted number blank h sized =
-      publicRead-shows g (formatted disk g) (geometry-formatted disk g good) (refusal-formatted disk g good) number blank
-      sized formatted-public h
+      publicRead-shows g (formatted disk g) (geometry-formatted disk g good) (refusal-formatted disk g good)
+      number blank sized formatted-public h
       ∙ ap (λ (value : Option Bytes). orElse value blank)
-      (cond-true _ _ (eq-eqb (mapEntry g (formatted disk g) number) 0 (mapEntry-formatted disk g good number h)))
+      (cond-true _ _ (eq-eqb (mapEntry g (formatted disk g) number) 0
+      (mapEntry-formatted disk g good number h)))
 
   pub hiddenRead-formatted :
       (number : ℕ) (blank : Bytes) → number < g .hidden → length blank ≡ g .blockSize →
       hiddenRead (formatted disk g) number blank ≡ blank
   hiddenRead-formatted number blank h sized =
-      hiddenRead-shows g (formatted disk g) (geometry-formatted disk g good) (refusal-formatted disk g good) number blank
-      sized (fits-formatted disk g good) emptyTree formatted-ghost h
+      hiddenRead-shows g (formatted disk g) (geometry-formatted disk g good) (refusal-formatted disk g good)
+      number blank sized (fits-formatted disk g good) emptyTree formatted-ghost h

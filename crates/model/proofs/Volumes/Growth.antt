@@ -2,7 +2,7 @@
 -- Assumes nothing.
 use mathlib.Core.Path.{_≡_, sym, ap, _∙_}
 use mathlib.Core.Logic.{⊎-elim}
-use mathlib.Core.List.{List, [], _∷_}
+use mathlib.Core.List.{[], _∷_}
 use mathlib.Core.Option.{Option}
 use Prim.Native.Nat.{ℕ, _*_, _≤_, _<_}
 use native.Mathlib.Omega.{arith}
@@ -101,10 +101,11 @@ module _ (g : Geometry) (f : Fits g) (number : ℕ) (counted : number < g .publi
       let old = old-of-placed g disk number placed in
       record {
         in-root =
-            blockAt-round-root g f disk whole number counted slot here content sized old (part .trace) round-hides choice;
+            blockAt-round-root g f disk whole number counted slot here content sized old (part .trace)
+            round-hides choice;
         in-slot = λ other place h.
-            blockAt-round-place g f disk whole number counted slot here content sized old (part .trace) round-hides
-            choice other place;
+            blockAt-round-place g f disk whole number counted slot here content sized old (part .trace)
+            round-hides choice other place;
       }
 
   pub round-grew :
@@ -115,11 +116,12 @@ module _ (g : Geometry) (f : Fits g) (number : ℕ) (counted : number < g .publi
       all-map (GoodWrite g) (λ (write : HiddenWrite). write .number < g .hidden) (state .waiting)
       (λ write h. h .number-inside) good in
       let turned =
-      hiddenHalf-turns g f disk tree whole ghost slot here state random inside (after choice) (follows choice) in
+      hiddenHalf-turns g f disk tree whole ghost slot here state random inside (after choice)
+      (follows choice) in
       record {
         grown = turned .grown;
         ghost = turned .ghost;
         progress =
-            progress-of-turn g f state (part .state) (valueOf g disk tree) (valueOf g (after choice) (turned .grown))
-            (turned .turn);
+            progress-of-turn g f state (part .state) (valueOf g disk tree)
+            (valueOf g (after choice) (turned .grown)) (turned .turn);
       }

@@ -1,7 +1,7 @@
--- The hidden volume under the rounds of a write: since each round keeps the ghost tree and makes progress with the hidden
--- writes, the whole run does. Assumes nothing.
+-- The hidden volume under the rounds of a write: since each round keeps the ghost tree and makes progress
+-- with the hidden writes, the whole run does. Assumes nothing.
 use mathlib.Core.Path.{_≡_, sym, ap, _∙_, subst}
-use mathlib.Core.Bool.{Bool, true, false, cond}
+use mathlib.Core.Bool.{true, cond}
 use mathlib.Core.List.{List, [], _∷_, _++_, append-nil}
 use Prim.Native.Nat.{ℕ, zero, suc, _*_, _≤_, _<_}
 use native.Mathlib.Omega.{arith}
@@ -34,8 +34,8 @@ abbrev roundBytes : Geometry → ℕ
 roundBytes g = g .height * g .blockSize
 
 -- rounds up to a free slot, with random bytes for each
-pub record Ready (g : Geometry) (number most : ℕ) (disk : Bytes) (slot : ℕ) (random : Bytes) (state : HiddenState) :
-    Type 0 where
+pub record Ready (g : Geometry) (number most : ℕ) (disk : Bytes) (slot : ℕ) (random : Bytes)
+    (state : HiddenState) : Type 0 where
   pub whole : length disk ≡ blockCount g * g .blockSize
   pub here : slot < g .slots
   pub placed : Placed g disk number
@@ -47,14 +47,16 @@ pub record Ready (g : Geometry) (number most : ℕ) (disk : Bytes) (slot : ℕ) 
 -- a run that keeps the tree and makes progress
 abbrev Grows : Geometry → (disk : Bytes) → HiddenState → Run → Type 0
 Grows g disk state run =
-    (tree : Tree) → Ghost g disk tree → Grew g disk (apply (g .blockSize) (run .trace) disk) tree state (run .state)
+    (tree : Tree) → Ghost g disk tree →
+    Grew g disk (apply (g .blockSize) (run .trace) disk) tree state (run .state)
 
 module _ (g : Geometry) (f : Fits g) (number : ℕ) (counted : number < g .publics) (content : Bytes)
     (sized : length content ≡ g .blockSize) where
   -- what a run of at most so many rounds does, from any slot of any disk
   abbrev GrowsBy : (most : ℕ) → Type 0
   GrowsBy most =
-      (disk : Bytes) (slot : ℕ) (random : Bytes) (state : HiddenState) → Ready g number most disk slot random state →
+      (disk : Bytes) (slot : ℕ) (random : Bytes) (state : HiddenState) →
+      Ready g number most disk slot random state →
       Grows g disk state (runFrom most g number content slot random disk state)
 
   -- ---- one round more ----
@@ -81,8 +83,8 @@ module _ (g : Geometry) (f : Fits g) (number : ℕ) (counted : number < g .publi
         (choice : PublicChoice) (tree : Tree) → Ghost g disk tree →
         Grew g disk (after choice) tree state (now .state)
     one =
-        round-grew g f number counted content sized disk (ready .whole) slot (ready .here) (ready .placed) random
-        enough-now state (ready .good)
+        round-grew g f number counted content sized disk (ready .whole) slot (ready .here) (ready .placed)
+        random enough-now state (ready .good)
 
     ready-next :
         isAllocated g disk slot ≡ true → All (GoodWrite g) (now .state .waiting) →
@@ -90,26 +92,26 @@ module _ (g : Geometry) (f : Fits g) (number : ℕ) (counted : number < g .publi
     ready-next taken good =
         let old = old-of-placed g disk number (ready .placed) in
         let hides =
-        round-hides g f number counted content sized disk (ready .whole) slot (ready .here) (ready .placed) random
-        enough-now state (ready .good) in
+        round-hides g f number counted content sized disk (ready .whole) slot (ready .here) (ready .placed)
+        random enough-now state (ready .good) in
         let rest =
         oneMore-of (roundsTo most (isAllocated g disk) g (nextSlot g slot)) (ready .earlier)
         (sym (roundsTo-taken most (isAllocated g disk) g slot taken) ∙ ready .rounds) in
         record {
           whole =
-              length-round g f disk (ready .whole) number counted slot (ready .here) content sized old (now .trace) hides
-              keepPublic
+              length-round g f disk (ready .whole) number counted slot (ready .here) content sized old
+              (now .trace) hides keepPublic
               ∙ ready .whole;
           here = nextSlot-lt g slot f;
           placed =
-              placed-kept g f disk (ready .whole) number counted slot (ready .here) content sized (ready .placed)
-              (now .trace) hides;
+              placed-kept g f disk (ready .whole) number counted slot (ready .here) content sized
+              (ready .placed) (now .trace) hides;
           earlier = rest .before;
           rounds =
               roundsTo-ext most (isAllocated g (after keepPublic)) (isAllocated g disk) g f (nextSlot g slot)
               (nextSlot-lt g slot f)
-              (isAllocated-kept g f disk (ready .whole) number counted slot (ready .here) content sized old (now .trace)
-              hides)
+              (isAllocated-kept g f disk (ready .whole) number counted slot (ready .here) content sized old
+              (now .trace) hides)
               ∙ rest .rounds-is;
           enough =
               let e : ready .earlier * roundBytes g ≡ suc (rest .before) * roundBytes g =
@@ -122,7 +124,8 @@ module _ (g : Geometry) (f : Fits g) (number : ℕ) (counted : number < g .publi
     abbrev runBy : PublicChoice → Run
     runBy choice =
         followedBy (round choice)
-        (cond (goesOn choice) (runFrom most g number content (nextSlot g slot) later (after choice) (now .state))
+        (cond (goesOn choice)
+        (runFrom most g number content (nextSlot g slot) later (after choice) (now .state))
         (stopped (now .state)))
 
     grows-kept : isAllocated g disk slot ≡ true → Grows g disk state (runBy keepPublic)
@@ -134,8 +137,8 @@ module _ (g : Geometry) (f : Fits g) (number : ℕ) (counted : number < g .publi
         (subst (All (GoodWrite g)) (first .progress .waiting-is) (ready .good)) in
         subst (λ (final : Bytes). Grew g disk final tree state (rest .state))
         (sym (apply-append (g .blockSize) (round keepPublic) (rest .trace) disk))
-        (grew-then g disk (after keepPublic) (apply (g .blockSize) (rest .trace) (after keepPublic)) tree state
-        (now .state) (rest .state) first
+        (grew-then g disk (after keepPublic) (apply (g .blockSize) (rest .trace) (after keepPublic)) tree
+        state (now .state) (rest .state) first
         (more (after keepPublic) (nextSlot g slot) later (now .state) (ready-next taken good) (first .grown)
         (first .ghost)))
 
@@ -148,8 +151,8 @@ module _ (g : Geometry) (f : Fits g) (number : ℕ) (counted : number < g .publi
     grows-by =
         subst (λ (choice : PublicChoice). Grows g disk state (runBy choice))
         (sym (rowOf-public g disk slot (state .waiting)))
-        (cond-cases (λ (choice : PublicChoice). Grows g disk state (runBy choice)) (isAllocated g disk slot) grows-kept
-        (λ free. grows-last))
+        (cond-cases (λ (choice : PublicChoice). Grows g disk state (runBy choice)) (isAllocated g disk slot)
+        grows-kept (λ free. grows-last))
 
   -- ---- all rounds ----
 

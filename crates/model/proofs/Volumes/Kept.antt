@@ -1,5 +1,5 @@
--- What a write keeps of a drive, refused or not: its geometry, that refusals 1 to 3 do not meet it, and the invariants
--- of its volumes. Assumes nothing.
+-- What a write keeps of a drive, refused or not: its geometry, that refusals 1 to 3 do not meet it, and the
+-- invariants of its volumes. Assumes nothing.
 use mathlib.Core.Path.{_≡_}
 use mathlib.Core.Option.{Option}
 use Prim.Native.Nat.{ℕ}
@@ -31,23 +31,24 @@ module _ (g : Geometry) (disk : Bytes) (states : geometryIn disk ≡ g) (accepte
   write-keeps-accepted : driveRefusal after ≡ 0
   write-keeps-accepted =
       write-cases g disk states accepted number content random room offer
-      (λ (r : Written) (final : Bytes). driveRefusal final ≡ 0) (λ ne. accepted) (λ run leaves. leaves .accepted)
+      (λ (r : Written) (final : Bytes). driveRefusal final ≡ 0) (λ ne. accepted)
+      (λ run leaves. leaves .accepted)
 
   pub write-keeps-public : PublicInvariant g disk → PublicInvariant g after
   write-keeps-public public =
       write-cases g disk states accepted number content random room offer
       (λ (r : Written) (final : Bytes). PublicInvariant g final) (λ ne. public)
       (λ run leaves.
-      write-preserves-public g disk (finalDisk g disk run) number (leaves .last) content (leaves .counted) public
-      (leaves .wrote))
+      write-preserves-public g disk (finalDisk g disk run) number (leaves .last) content (leaves .counted)
+      public (leaves .wrote))
 
   pub write-keeps-bitmap : PublicInvariant g disk → BitmapInvariant g disk → BitmapInvariant g after
   write-keeps-bitmap public bitmap =
       write-cases g disk states accepted number content random room offer
       (λ (r : Written) (final : Bytes). BitmapInvariant g final) (λ ne. bitmap)
       (λ run leaves.
-      write-preserves-bitmap g disk (finalDisk g disk run) number (leaves .last) content (leaves .counted) public bitmap
-      (leaves .wrote))
+      write-preserves-bitmap g disk (finalDisk g disk run) number (leaves .last) content (leaves .counted)
+      public bitmap (leaves .wrote))
 
   pub write-keeps-hidden : HiddenInvariant g disk → HiddenInvariant g after
   write-keeps-hidden hidden =
@@ -73,6 +74,8 @@ write-keeps-sound g disk sound number content random room offer =
       accepted = write-keeps-accepted g disk states accepted number content random room offer;
       public-sound = write-keeps-public g disk states accepted number content random room offer public;
       bitmap-sound =
-          write-keeps-bitmap g disk states accepted number content random room offer public (sound .bitmap-sound);
-      hidden-sound = write-keeps-hidden g disk states accepted number content random room offer (sound .hidden-sound);
+          write-keeps-bitmap g disk states accepted number content random room offer public
+          (sound .bitmap-sound);
+      hidden-sound =
+          write-keeps-hidden g disk states accepted number content random room offer (sound .hidden-sound);
     }

@@ -1,5 +1,5 @@
--- Lists of calls from a sound drive on, given what each call does: the drive stays sound, and a read shows the
--- block last placed under its number, else what it showed before. Assumes nothing.
+-- Lists of calls from a sound drive on, given what each call does: the drive stays sound, and a read shows
+-- the block last placed under its number, else what it showed before. Assumes nothing.
 use mathlib.Core.Path.{_≡_, refl}
 use mathlib.Core.List.{List, [], _∷_}
 use mathlib.Core.Option.{Option, none}

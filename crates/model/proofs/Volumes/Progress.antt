@@ -22,7 +22,8 @@ use Rattle.model.specs.Promises.ReadAfterWrite.{offeredUnder}
 -- ---- progress ----
 
 -- what a number shows once hidden writes are placed, one after another
-unfoldable pub shownAfter : (writes : List HiddenWrite) → (number : ℕ) → (before : Option Bytes) → Option Bytes
+unfoldable pub shownAfter :
+    (writes : List HiddenWrite) → (number : ℕ) → (before : Option Bytes) → Option Bytes
 shownAfter [] number before = before
 shownAfter (next ∷ later) number before = shownAfter later number (offeredUnder number before (some next))
 
@@ -44,7 +45,8 @@ shownAfter-append (next ∷ later) ys number before =
 
 pub progress-then :
     (g : Geometry) (state middle result : HiddenState) (old between new : ℕ → Option Bytes) →
-    Progress g state middle old between → Progress g middle result between new → Progress g state result old new
+    Progress g state middle old between → Progress g middle result between new →
+    Progress g state result old new
 progress-then g state middle result old between new p q =
     record {
       done = p .done ++ q .done;
@@ -115,7 +117,8 @@ module _ (g : Geometry) (result : HiddenState) (old new : ℕ → Option Bytes) 
     unfolding shownAfter
     shows-unplaced e refusal offer =
         let l : length (progress .done) ≡ 0 = ap length e in
-        progress .shows number counted ∙ ap (λ (done : List HiddenWrite). shownAfter done number (old number)) e
+        progress .shows number counted
+        ∙ ap (λ (done : List HiddenWrite). shownAfter done number (old number)) e
         ∙ sym (cond-false _ _ (outcome-unplaced refusal result (omega (arith, progress .placed-is))))
 
     shows-placed : (write : HiddenWrite) → progress .done ≡ write ∷ [] → new number ≡ shownBy 0 (some write)
@@ -123,7 +126,8 @@ module _ (g : Geometry) (result : HiddenState) (old new : ℕ → Option Bytes) 
     shows-placed write e =
         let l : length (progress .done) ≡ 1 = ap length e in
         let said : outcomeOf 0 result ≡ placed = outcome-placed result (omega (arith, progress .placed-is)) in
-        progress .shows number counted ∙ ap (λ (done : List HiddenWrite). shownAfter done number (old number)) e
+        progress .shows number counted
+        ∙ ap (λ (done : List HiddenWrite). shownAfter done number (old number)) e
         ∙ sym (cond-true _ _ (ap saysPlaced said))
 
   -- a call's hidden write is shown just if its outcome says placed
@@ -144,7 +148,8 @@ module _ (g : Geometry) (result : HiddenState) (old new : ℕ → Option Bytes) 
       bad : refusal ≢ 0 → new number ≡ shownBy refusal (some write)
       bad ne =
           let e : offered ≡ [] = cond-false _ _ (ne-eqb refusal 0 ne) in
-          let nothing : progress .done ≡ [] = none-of-none (progress .done) _ (sym e ∙ progress .waiting-is) in
+          let nothing : progress .done ≡ [] =
+          none-of-none (progress .done) _ (sym e ∙ progress .waiting-is) in
           shows-unplaced offered progress nothing refusal (some write)
 
       good : refusal ≡ 0 → new number ≡ shownBy refusal (some write)

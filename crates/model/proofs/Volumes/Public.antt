@@ -1,5 +1,5 @@
--- The public volume: where its blocks are, that a write keeps its invariant, and what a number shows after it.
--- Assumes nothing.
+-- The public volume: where its blocks are, that a write keeps its invariant, and what a number shows after
+-- it. Assumes nothing.
 use mathlib.Core.Path.{_≡_, sym, ap, _∙_}
 use mathlib.Core.Logic.{_≢_, _⊎_, inl, inr, ⊎-elim}
 use mathlib.Core.Bool.{true, cond}
@@ -51,8 +51,8 @@ publicValue g disk number =
 
 -- ---- after a write ----
 
-module _ (g : Geometry) (disk after : Bytes) (number slot : ℕ) (content : Bytes) (counted : number < g .publics)
-    (sound : PublicInvariant g disk) (wrote : Wrote g number content slot disk after) where
+module _ (g : Geometry) (disk after : Bytes) (number slot : ℕ) (content : Bytes)
+    (counted : number < g .publics) (sound : PublicInvariant g disk) (wrote : Wrote g number content slot disk after) where
   -- the slot of a number's place
   abbrev home : (other : ℕ) → ℕ
   home other = slotOf g (mapEntry g disk other)
@@ -67,8 +67,8 @@ module _ (g : Geometry) (disk after : Bytes) (number slot : ℕ) (content : Byte
       true-is-not-false (ap (isAllocated g disk) (sym e) ∙ place-at other h ne .allocated) (wrote .was-free)
 
   home-apart :
-      (other : ℕ) → other < g .publics → other ≢ number → mapEntry g disk other ≢ 0 → mapEntry g disk number ≢ 0 →
-      home other ≢ home number
+      (other : ℕ) → other < g .publics → other ≢ number → mapEntry g disk other ≢ 0 →
+      mapEntry g disk number ≢ 0 → home other ≢ home number
   home-apart other h ne p q e =
       ne (sound .apart other number h counted p
       (place-at other h p .entry-is ∙ ap (slotStart g) e ∙ sym (place-at number counted q .entry-is)))
@@ -89,7 +89,8 @@ module _ (g : Geometry) (disk after : Bytes) (number slot : ℕ) (content : Byte
       home-not-new other h (λ z. omega (arith, old, z)) (ap (slotOf g) old ∙ slotOf-slotStart g slot)
 
   in-place-after :
-      (other : ℕ) → other < g .publics → mapEntry g after other ≢ 0 → isPlace g after (mapEntry g after other) ≡ true
+      (other : ℕ) → other < g .publics → mapEntry g after other ≢ 0 →
+      isPlace g after (mapEntry g after other) ≡ true
   in-place-after other h p = ⊎-elim same different (eq-cases other number)
     where
       same : other ≡ number → isPlace g after (mapEntry g after other) ≡ true
@@ -112,7 +113,8 @@ module _ (g : Geometry) (disk after : Bytes) (number slot : ℕ) (content : Byte
     where
       by : (first ≡ number) ⊎ (first ≢ number) → (second ≡ number) ⊎ (second ≢ number) → first ≡ second
       by (inl a) (inl b) = a ∙ sym b
-      by (inl a) (inr b) = absurd (entry-not-new second k b (sym e ∙ ap (mapEntry g after) a ∙ wrote .map-same))
+      by (inl a) (inr b) =
+          absurd (entry-not-new second k b (sym e ∙ ap (mapEntry g after) a ∙ wrote .map-same))
       by (inr a) (inl b) = absurd (entry-not-new first h a (e ∙ ap (mapEntry g after) b ∙ wrote .map-same))
       by (inr a) (inr b) =
           let v = wrote .map-other first h a in

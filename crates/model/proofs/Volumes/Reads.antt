@@ -35,7 +35,8 @@ module _ (g : Geometry) (disk : Bytes) (states : geometryIn disk ≡ g) (accepte
           number-inside = counted;
           block-sized = sized;
           in-place =
-              ⊎-elim (λ e. inl e) (λ ne. inr (sound .in-place number counted ne)) (eq-cases (mapEntry g disk number) 0);
+              ⊎-elim (λ e. inl e) (λ ne. inr (sound .in-place number counted ne))
+              (eq-cases (mapEntry g disk number) 0);
         }
 
     pub public-read-accepted : publicReadRefusal disk number blank ≡ 0
@@ -51,7 +52,8 @@ module _ (g : Geometry) (disk : Bytes) (states : geometryIn disk ≡ g) (accepte
         shownBy : Geometry → (entry : DiskAddress) → Bytes
         shownBy v entry = cond (eqb entry 0) blank (blockAt (v .blockSize) disk entry)
 
-        by : (isNone : Bool) (block : Bytes) → cond isNone blank block ≡ orElse (cond isNone none (some block)) blank
+        by : (isNone : Bool) (block : Bytes) →
+            cond isNone blank block ≡ orElse (cond isNone none (some block)) blank
         by true block = refl
         by false block = refl
 

@@ -1,7 +1,7 @@
--- What reads of a sound drive show after a write, refused or not: the block that it placed under their number, else what
--- they showed before. Assumes nothing.
+-- What reads of a sound drive show after a write, refused or not: the block that it placed under their
+-- number, else what they showed before. Assumes nothing.
 use mathlib.Core.Path.{_≡_, refl, sym, ap, _∙_}
-use mathlib.Core.Logic.{_≢_, ⊎-elim}
+use mathlib.Core.Logic.{⊎-elim}
 use mathlib.Core.Bool.{Bool, true, false, cond, _&&_}
 use mathlib.Core.Option.{Option, none, some}
 use Prim.Native.Nat.{ℕ, _<_}
@@ -28,7 +28,8 @@ use Rattle.model.proofs.Volumes.Lists.{Carries}
 
 -- what is shown, told in two ways, stays so under a hidden write that may have been placed
 carries-offer :
-    (isDone : Bool) (offer : Option HiddenWrite) (number : ℕ) (old before : Option Bytes) (blank otherwise : Bytes) →
+    (isDone : Bool) (offer : Option HiddenWrite) (number : ℕ) (old before : Option Bytes)
+    (blank otherwise : Bytes) →
     orElse old blank ≡ orElse before otherwise →
     orElse (cond isDone (offeredUnder number old offer) old) blank ≡
     orElse (cond isDone (offeredUnder number before offer) before) otherwise
@@ -62,27 +63,30 @@ module _ (g : Geometry) (disk : Bytes) (sound : Sound g disk) (number : ℕ) (co
       abbrev final : Bytes
       final = finalDisk g disk run
 
-      value-shown : orElse (publicValue g final other) blank ≡ cond (eqb number other) content (publicRead disk other blank)
+      value-shown :
+          orElse (publicValue g final other) blank ≡
+          cond (eqb number other) content (publicRead disk other blank)
       value-shown = ⊎-elim
           (λ e.
           ap (λ (value : Option Bytes). orElse value blank)
           (ap (publicValue g final) (sym e)
-          ∙ publicValue-same g disk final number (leaves .last) content (leaves .counted) (sound .public-sound)
-          (leaves .wrote))
+          ∙ publicValue-same g disk final number (leaves .last) content (leaves .counted)
+          (sound .public-sound) (leaves .wrote))
           ∙ sym (cond-true content (publicRead disk other blank) (eq-eqb number other e)))
           (λ ne.
           ap (λ (value : Option Bytes). orElse value blank)
-          (publicValue-other g disk final number (leaves .last) content (leaves .counted) (sound .public-sound)
-          (leaves .wrote) other h (λ z. ne (sym z)))
-          ∙ sym (publicRead-shows g disk (sound .geometry) (sound .accepted) other blank sized (sound .public-sound) h)
+          (publicValue-other g disk final number (leaves .last) content (leaves .counted)
+          (sound .public-sound) (leaves .wrote) other h (λ z. ne (sym z)))
+          ∙ sym (publicRead-shows g disk (sound .geometry) (sound .accepted) other blank sized
+          (sound .public-sound) h)
           ∙ sym (cond-false content (publicRead disk other blank) (ne-eqb number other ne)))
           (eq-cases number other)
 
       public-carried : PublicCarried (doneWrite (offerRefusal g offer) run) final
       public-carried before otherwise e =
           publicRead-shows g final (leaves .geometry) (leaves .accepted) other blank sized
-          (write-preserves-public g disk final number (leaves .last) content (leaves .counted) (sound .public-sound)
-          (leaves .wrote)) h
+          (write-preserves-public g disk final number (leaves .last) content (leaves .counted)
+          (sound .public-sound) (leaves .wrote)) h
           ∙ value-shown ∙ by (eqb number other)
         where
           by : (isSame : Bool) →
@@ -122,14 +126,15 @@ module _ (g : Geometry) (disk : Bytes) (sound : Sound g disk) (number : ℕ) (co
         HiddenCarried (doneWrite (offerRefusal g offer) run) (finalDisk g disk run)
     hidden-carried run leaves before otherwise e =
         let grew = leaves .grew tree ghost in
-        hiddenRead-shows g (finalDisk g disk run) (leaves .geometry) (leaves .accepted) other blank sized f (grew .grown)
-        (grew .ghost) h
+        hiddenRead-shows g (finalDisk g disk run) (leaves .geometry) (leaves .accepted) other blank sized f
+        (grew .grown) (grew .ghost) h
         ∙ ap (λ (value : Option Bytes). orElse value blank)
-        (shows-of-progress g (run .state) (valueOf g disk tree) (valueOf g (finalDisk g disk run) (grew .grown)) other h
-        offer (grew .progress))
+        (shows-of-progress g (run .state) (valueOf g disk tree)
+        (valueOf g (finalDisk g disk run) (grew .grown)) other h offer (grew .progress))
         ∙ carries-offer (saysPlaced (outcomeOf (offerRefusal g offer) (run .state))) offer other
         (valueOf g disk tree other) before blank otherwise
-        (sym (hiddenRead-shows g disk (sound .geometry) (sound .accepted) other blank sized f tree ghost h) ∙ e)
+        (sym (hiddenRead-shows g disk (sound .geometry) (sound .accepted) other blank sized f tree ghost h)
+        ∙ e)
 
     pub write-carries-hidden : HiddenCarried result (writtenDisk result disk)
     write-carries-hidden =
@@ -137,5 +142,6 @@ module _ (g : Geometry) (disk : Bytes) (sound : Sound g disk) (number : ℕ) (co
         (λ ne before otherwise e.
         e
         ∙ ap (λ (value : Option Bytes). orElse value otherwise)
-        (sym (cond-false (offeredUnder other before offer) before (and-false-left false (ne-eqb refusal 0 ne)))))
+        (sym (cond-false (offeredUnder other before offer) before
+        (and-false-left false (ne-eqb refusal 0 ne)))))
         hidden-carried

@@ -1,5 +1,5 @@
--- A write on a drive of a geometry: a refused one leaves it as it was; any other leaves a drive of that geometry, with
--- the effect of a run on the public volume and the ghost tree kept. Assumes nothing.
+-- A write on a drive of a geometry: a refused one leaves it as it was; any other leaves a drive of that
+-- geometry, with the effect of a run on the public volume and the ghost tree kept. Assumes nothing.
 use mathlib.Core.Path.{_≡_, sym, ap, _∙_, subst}
 use mathlib.Core.Logic.{_≢_, ⊎-elim}
 use mathlib.Core.Option.{Option, none, some}
@@ -36,8 +36,8 @@ abbrev pub finalDisk : Geometry → (disk : Bytes) → Run → Bytes
 finalDisk g disk run = apply (g .blockSize) (run .trace) disk
 
 -- what the run of a write that is not refused leaves
-pub record Leaves (g : Geometry) (disk : Bytes) (number : ℕ) (content : Bytes) (offer : Option HiddenWrite) (run : Run) :
-    Type 0 where
+pub record Leaves (g : Geometry) (disk : Bytes) (number : ℕ) (content : Bytes) (offer : Option HiddenWrite)
+    (run : Run) : Type 0 where
   pub counted : number < g .publics
   pub last : ℕ
   pub wrote : Wrote g number content last disk (finalDisk g disk run)
@@ -60,7 +60,8 @@ offeredWrites-good g (some write) =
     (λ e. tt)
 
 geometry-of-fields :
-    (disk other : Bytes) → ((i : ℕ) → i < 5 → entryAt i disk ≡ entryAt i other) → geometryIn disk ≡ geometryIn other
+    (disk other : Bytes) → ((i : ℕ) → i < 5 → entryAt i disk ≡ entryAt i other) →
+    geometryIn disk ≡ geometryIn other
 geometry-of-fields disk other same =
     cc (
       same 0 (omega arith),
@@ -105,15 +106,16 @@ module _ (g : Geometry) (disk : Bytes) (states : geometryIn disk ≡ g) (accepte
       run-wrote : Wrote g number content lastSlot disk (finalDisk g disk run)
       run-wrote =
           writeRun-ran g f disk whole head-inside number (facts .accepted .number-inside) content
-          (facts .accepted .block-sized) (facts .accepted .in-place) random (facts .some-rounds) (facts .enough-random)
-          offer .wrote
+          (facts .accepted .block-sized) (facts .accepted .in-place) random (facts .some-rounds)
+          (facts .enough-random) offer .wrote
 
       run-geometry : geometryIn (finalDisk g disk run) ≡ g
       run-geometry = geometry-of-fields (finalDisk g disk run) disk (run-wrote .fields) ∙ states
 
       run-accepted : driveRefusal (finalDisk g disk run) ≡ 0
       run-accepted =
-          refusal-of-accepted (finalDisk g disk run) (omega (arith, drive .sized .long, whole, run-wrote .whole))
+          refusal-of-accepted (finalDisk g disk run)
+          (omega (arith, drive .sized .long, whole, run-wrote .whole))
           (ap isGeometry (run-geometry ∙ sym states) ∙ drive .sized .accepted)
           (run-wrote .whole ∙ sym (ap driveSize run-geometry))
           (subst (λ (v : Geometry). headIn (finalDisk g disk run) < v .slots) (sym run-geometry)
@@ -128,7 +130,9 @@ module _ (g : Geometry) (disk : Bytes) (states : geometryIn disk ≡ g) (accepte
             placed = facts .accepted .in-place;
             earlier = roundCount g disk - 1;
             rounds = e;
-            enough = rw (← e) (rw (mul-assoc (roundCount g disk) (g .height) (g .blockSize)) at (facts .enough-random));
+            enough =
+                let random = rw (mul-assoc (roundCount g disk) (g .height) (g .blockSize)) at (facts .enough-random) in
+                rw (← e) random;
             good = offeredWrites-good g offer;
           }
 
@@ -137,8 +141,8 @@ module _ (g : Geometry) (disk : Bytes) (states : geometryIn disk ≡ g) (accepte
           Grew g disk (finalDisk g disk run) tree (startState (offeredWrites g offer)) (run .state)
       unfolding writeRun
       run-grew =
-          runFrom-grows g f number (facts .accepted .number-inside) content (facts .accepted .block-sized) (g .slots)
-          disk (headIn disk) random (startState (offeredWrites g offer)) ready
+          runFrom-grows g f number (facts .accepted .number-inside) content (facts .accepted .block-sized)
+          (g .slots) disk (headIn disk) random (startState (offeredWrites g offer)) ready
 
       run-leaves : Leaves g disk number content offer run
       run-leaves =
@@ -167,8 +171,8 @@ module _ (g : Geometry) (disk : Bytes) (states : geometryIn disk ≡ g) (accepte
         (λ e.
         subst (λ (r : Written). P r (writtenDisk r disk))
         (sym (written-done g disk states accepted number content random room offer e))
-        (subst (λ (v : Geometry). P (doneWrite (offerRefusal g offer) run) (finalDisk v disk run)) (sym states)
-        (done run (run-leaves e))))
+        (subst (λ (v : Geometry). P (doneWrite (offerRefusal g offer) run) (finalDisk v disk run))
+        (sym states) (done run (run-leaves e))))
         (λ ne.
         subst (λ (r : Written). P r (writtenDisk r disk))
         (sym (written-refused g disk states accepted number content random room offer ne)) (refused ne))

@@ -54,10 +54,8 @@ passed-of-accepted g disk number size a =
     let entry = mapEntry g disk number in
     let there : (eqb entry 0 || isPlace g disk entry) ≡ true =
     ⊎-elim (λ e. or-left (isPlace g disk entry) (eq-eqb entry 0 e)) (or-right (eqb entry 0)) (a .in-place) in
-    (
-      lt-leb (g .publics) number (a .number-inside),
-      (ap not (eq-eqb size (g .blockSize) (a .block-sized)), (ap not there, tt)),
-    )
+    let whole : eqb size (g .blockSize) ≡ true = eq-eqb size (g .blockSize) (a .block-sized) in
+    (lt-leb (g .publics) number (a .number-inside), (ap not whole, (ap not there, tt)))
 
 -- ---- the rounds of a write, refusals 7 to 9 ----
 
@@ -71,11 +69,10 @@ numbered-write :
     (g : Geometry) (disk : Bytes) (number size random room : ℕ) →
     Numbered (placeChecks g disk number size ++ roundChecks g disk number random room)
 unfolding placeChecks roundChecks
-numbered-write g disk number size random room =
-    (
-      λ e. omega arith,
-      (λ e. omega arith, (λ e. omega arith, (λ e. omega arith, (λ e. omega arith, (λ e. omega arith, tt))))),
-    )
+numbered-write g disk number size random room = (
+  λ e. omega arith,
+  (λ e. omega arith, (λ e. omega arith, (λ e. omega arith, (λ e. omega arith, (λ e. omega arith, tt))))),
+)
 
 accepted-of-passed-write :
     (g : Geometry) (disk : Bytes) (number size random room : ℕ) →
@@ -117,9 +114,10 @@ passed-of-hidden :
     isDamaged (walk g disk number .end) ≡ false →
     Passed (hiddenChecks g number size ++ walkChecks g disk number)
 unfolding hiddenChecks walkChecks
-passed-of-hidden g disk number size a e =
-    (lt-leb (g .hidden) number (a .number-inside),
-    (ap not (eq-eqb size (g .blockSize) (a .block-sized)), (e, tt)))
+passed-of-hidden g disk number size a e = (
+  lt-leb (g .hidden) number (a .number-inside),
+  (ap not (eq-eqb size (g .blockSize) (a .block-sized)), (e, tt)),
+)
 
 -- ---- the calls on a drive ----
 

@@ -75,7 +75,7 @@ module _ (g : Geometry) (disk : Bytes) (states : geometryIn disk ≡ g) (accepte
         cond-true _ _ (eq-eqb (hiddenReadRefusal disk number blank) 0 hidden-read-accepted)
         ∙ ap (λ (v : Geometry). shownAt v disk blank (walk v disk number .end)) states
         ∙ ap (shownAt g disk blank) (walk-end g disk tree (ghost .links) number low f)
-          ∙ by (slotAt g tree 0 number)
+        ∙ by (slotAt g tree 0 number)
       where
         by : (slot : Option ℕ) → shownAt g disk blank (endIn g slot) ≡ orElse (blockIn g disk slot) blank
         by none = refl

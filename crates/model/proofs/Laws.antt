@@ -12,6 +12,7 @@ pub mod Paths
 pub mod HiddenHalf
 pub mod BitmapBits
 pub mod PublicHalf
+pub mod MapStores
 pub mod RoundStores
 pub mod Rounds
 pub mod RoundEffects

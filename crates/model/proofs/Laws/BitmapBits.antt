@@ -1,5 +1,5 @@
--- Laws of the bits of the whole bitmap, padding included: a bit after a slot's own bit is set or cleared and after
--- another one, and a slot's mark as such a bit. Assumes nothing.
+-- Laws of the bits of the whole bitmap, padding included: a bit after a slot's own bit is set or cleared and
+-- after another one, and a slot's mark as such a bit. Assumes nothing.
 use mathlib.Core.Path.{_≡_, refl, sym, ap, ap₂, _∙_}
 use mathlib.Core.Logic.{_≢_, ⊎-elim}
 use mathlib.Core.Bool.{Bool}
@@ -11,13 +11,15 @@ use Rattle.laws.specs.Bits.{bitAt}
 use Rattle.laws.proofs.Bits.{bitAt-setBit-other}
 use Rattle.laws.proofs.Cases.{eq-cases}
 use Rattle.laws.proofs.Division.{ceilDiv-covers}
-use Rattle.model.specs.Geometry.{Geometry, Fits, mapBlocks, areaBlocks, bitmapBlocks, rootAddress, blockCount}
+use Rattle.model.specs.Geometry.{Geometry, Fits, mapBlocks, areaBlocks, bitmapBlocks, rootAddress}
+use Rattle.model.specs.Geometry.{blockCount}
 use Rattle.model.specs.Blocks.{Bytes, DiskAddress, blockAt}
 use Rattle.model.specs.Layout.{areaPlace, bitAddress, bitPlace, isAllocated, bitmapWith}
 use Rattle.model.specs.Invariants.{bitmapBit}
 use Rattle.model.proofs.Laws.Geometry.{bitAddress-lt, slot-place-lt}
 use Rattle.model.proofs.Laws.Blocks.{length-blockAt, blockAt-setBlock-same, blockAt-setBlock-other}
-use Rattle.model.proofs.Laws.Bitmap.{bitPlace-byte-lt, length-bitmapWith, marked, isAllocated-marked-same}
+use Rattle.model.proofs.Laws.Bitmap.{bitPlace-byte-lt, length-bitmapWith, marked}
+use Rattle.model.proofs.Laws.Bitmap.{isAllocated-marked-same}
 
 -- the bitmap block that holds a bit
 abbrev pub blockOfBit : Geometry → (place : ℕ) → DiskAddress
@@ -26,7 +28,8 @@ blockOfBit g place = 1 + mapBlocks g + place / (8 * g .blockSize)
 -- ---- equations ----
 
 -- a mark is the bit of its slot's public block
-pub isAllocated-bit : (g : Geometry) (disk : Bytes) (slot : ℕ) → isAllocated g disk slot ≡ bitmapBit g disk (areaPlace g slot)
+pub isAllocated-bit :
+    (g : Geometry) (disk : Bytes) (slot : ℕ) → isAllocated g disk slot ≡ bitmapBit g disk (areaPlace g slot)
 unfolding isAllocated bitmapBit
 isAllocated-bit g disk slot = refl
 
@@ -41,7 +44,8 @@ bitmapBit-block g disk other place e = ap (bitAt (place % (8 * g .blockSize))) e
 -- ---- places ----
 
 module _ (g : Geometry) (f : Fits g) where
-  pub blockOfBit-lt : (place : ℕ) → place < bitmapBlocks g * (8 * g .blockSize) → blockOfBit g place < rootAddress g
+  pub blockOfBit-lt :
+      (place : ℕ) → place < bitmapBlocks g * (8 * g .blockSize) → blockOfBit g place < rootAddress g
   blockOfBit-lt place h =
       let p : 0 < 8 * g .blockSize = omega (arith, f .size-low) in
       omega (arith, div-lt-iff-lt-mul p .1 h)
@@ -49,7 +53,11 @@ module _ (g : Geometry) (f : Fits g) where
   pub areaPlace-lt : (slot : ℕ) → slot < g .slots → areaPlace g slot < bitmapBlocks g * (8 * g .blockSize)
   areaPlace-lt slot h =
       let p : 0 < 8 * g .blockSize = omega (arith, f .size-low) in
-      omega (arith, slot-place-lt g slot 0 h (omega arith), ceilDiv-covers (areaBlocks g) (8 * g .blockSize) p)
+      omega (
+        arith,
+        slot-place-lt g slot 0 h (omega arith),
+        ceilDiv-covers (areaBlocks g) (8 * g .blockSize) p,
+      )
 
 pub areaPlace-apart : (g : Geometry) (slot other : ℕ) → other ≢ slot → areaPlace g other ≢ areaPlace g slot
 areaPlace-apart g slot other ne e =
@@ -69,7 +77,8 @@ module _ (g : Geometry) (f : Fits g) (disk : Bytes) (whole : length disk ≡ blo
       (place : ℕ) → place ≢ areaPlace g slot →
       bitmapBit g (marked g f disk whole slot inside isSet) place ≡ bitmapBit g disk place
   unfolding bitmapBit bitmapWith
-  bitmapBit-marked-other place ne = ⊎-elim same-block other-block (eq-cases (blockOfBit g place) (bitAddress g slot))
+  bitmapBit-marked-other place ne =
+      ⊎-elim same-block other-block (eq-cases (blockOfBit g place) (bitAddress g slot))
     where
       address-inside : bitAddress g slot < blockCount g
       address-inside = omega (arith, bitAddress-lt g f slot inside)
@@ -108,4 +117,5 @@ module _ (g : Geometry) (f : Fits g) (disk : Bytes) (whole : length disk ≡ blo
       other-block e =
           ap (bitAt (place % (8 * g .blockSize)))
           (blockAt-setBlock-other (g .blockSize) disk (blockCount g) whole (bitAddress g slot) address-inside
-          (bitmapWith g disk slot isSet) (length-bitmapWith g f disk whole slot inside isSet) (blockOfBit g place) e)
+          (bitmapWith g disk slot isSet) (length-bitmapWith g f disk whole slot inside isSet)
+          (blockOfBit g place) e)

@@ -1,5 +1,6 @@
--- Laws of a round's hidden half: whatever the disk, the hidden writes and the random bytes, it stores the slot's
--- hidden blocks in order and then the root, each whole; and the table's row of a slot by the rule. Assumes nothing.
+-- Laws of a round's hidden half: the table's row of a slot by the rule, and that whatever the disk, the
+-- hidden writes and the random bytes, the slot's hidden blocks are stored in order and then the root, each
+-- whole. Assumes nothing.
 use mathlib.Core.Path.{_≡_, ap}
 use mathlib.Core.Bool.{cond}
 use mathlib.Core.List.{List, [], _∷_}
@@ -49,7 +50,8 @@ pub record HidesHalf (g : Geometry) (slot : ℕ) (part : HiddenHalf) : Type 0 wh
   pub waiting : All (WholeWrite g) (part .state .waiting)
 
 module _ (g : Geometry) (f : Fits g) (disk : Bytes) (whole : length disk ≡ blockCount g * g .blockSize)
-    (slot : ℕ) (inside : slot < g .slots) (random : Bytes) (enough : g .height * g .blockSize ≤ length random) where
+    (slot : ℕ) (inside : slot < g .slots) (random : Bytes)
+    (enough : g .height * g .blockSize ≤ length random) where
   hiddenBy-hides :
       (choice : HiddenChoice) (state : HiddenState) (waiting : List HiddenWrite) →
       All (WholeWrite g) (state .waiting) → All (WholeWrite g) waiting →

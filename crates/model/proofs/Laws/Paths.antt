@@ -1,5 +1,5 @@
 -- Laws of the stores of a hidden half: a walk's nodes are whole and as many as the tree is high, and a path,
--- the blocks written back and random blocks each store the slot's hidden blocks in order and then the root, each
+-- blocks written back and random blocks each store the slot's hidden blocks in order and then the root, each
 -- whole. Assumes nothing.
 use mathlib.Core.Path.{_≡_, refl, sym, ap, ap₂, _∙_}
 use mathlib.Core.List.{List, [], _∷_, _++_, append-assoc}
@@ -101,12 +101,14 @@ module _ (g : Geometry) (f : Fits g) where
       omega (arith, mod-lt (leafOf g number / fanout g ^ level) p, f .size-entries)
 
   pub length-linkedNode :
-      (number slot level : ℕ) (node : Bytes) → WholeBlock g node → WholeBlock g (linkedNode g number slot level node)
+      (number slot level : ℕ) (node : Bytes) → WholeBlock g node →
+      WholeBlock g (linkedNode g number slot level node)
   unfolding linkedNode
   length-linkedNode number slot zero node h =
       let linked = setEntry (branchAt g number 0) (levelAddress g slot 0) node in
       let e : length linked ≡ g .blockSize =
-      length-setEntry (branchAt g number 0) (levelAddress g slot 0) node (omega (arith, branchAt-fits number 0)) ∙ h in
+      length-setEntry (branchAt g number 0) (levelAddress g slot 0) node
+      (omega (arith, branchAt-fits number 0)) ∙ h in
       length-setEntry (fanout g - 1) number linked (omega (arith, f .size-entries, fanout-low g f)) ∙ e
   length-linkedNode number slot (suc level) node h =
       length-setEntry (branchAt g number (suc level)) (levelAddress g slot (suc level)) node
@@ -144,7 +146,8 @@ module _ (g : Geometry) (f : Fits g) where
     root-whole = blockAt-whole (rootAddress g) (rootAddress-lt g)
 
     keptBlocks-whole :
-        (address count : ℕ) → address + count ≤ blockCount g → All (WholeStore g) (keptBlocks g disk address count)
+        (address count : ℕ) → address + count ≤ blockCount g →
+        All (WholeStore g) (keptBlocks g disk address count)
     unfolding keptBlocks
     keptBlocks-whole address zero h = tt
     keptBlocks-whole address (suc count) h =
@@ -186,14 +189,15 @@ module _ (g : Geometry) (f : Fits g) where
     pub walk-nodes : (number : ℕ) → Nodes g (g .height) (walk g disk number .nodes)
     walk-nodes number =
         let e : suc (g .height - 1) ≡ g .height = omega (arith, f .height-low) in
-        rw e at (walkFrom-nodes number (g .height - 1) (blockAt (g .blockSize) disk (rootAddress g)) root-whole)
+        rw e at (walkFrom-nodes number (g .height - 1)
+        (blockAt (g .blockSize) disk (rootAddress g)) root-whole)
 
     module _ (slot : ℕ) (inside : slot < g .slots) where
       -- ---- the three kinds of trace ----
 
       slot-then-root :
-          (xs : Trace) → addresses xs ≡ addressesFrom (slotStart g slot + 1) (g .height) → All (WholeStore g) xs →
-          Hides g slot (xs ++ (keptBlock g disk (rootAddress g) ∷ []))
+          (xs : Trace) → addresses xs ≡ addressesFrom (slotStart g slot + 1) (g .height) →
+          All (WholeStore g) xs → Hides g slot (xs ++ (keptBlock g disk (rootAddress g) ∷ []))
       unfolding addresses
       slot-then-root xs e h =
           record {
@@ -209,7 +213,8 @@ module _ (g : Geometry) (f : Fits g) where
           (omega (arith, slot-block-lt g slot (g .height) inside (omega arith))))
 
       pub dummyStores-hides :
-          (random : Bytes) → g .height * g .blockSize ≤ length random → Hides g slot (dummyStores g disk slot random)
+          (random : Bytes) → g .height * g .blockSize ≤ length random →
+          Hides g slot (dummyStores g disk slot random)
       dummyStores-hides random h =
           slot-then-root (randomBlocks g (slotStart g slot + 1) (g .height) random)
           (addresses-randomBlocks g (slotStart g slot + 1) (g .height) random)
@@ -239,6 +244,7 @@ module _ (g : Geometry) (f : Fits g) where
           }
 
       pub currentPath-hides :
-          (number : ℕ) (content : Bytes) → WholeBlock g content → Hides g slot (currentPath g disk number slot content)
+          (number : ℕ) (content : Bytes) → WholeBlock g content →
+          Hides g slot (currentPath g disk number slot content)
       currentPath-hides number content sized =
           pathStores-hides number content (walk g disk number .nodes) sized (walk-nodes number)

@@ -1,28 +1,28 @@
--- Laws of a round's public half: the stores of a round that takes the call's data, where they go, that they are whole,
--- and the bits of the bitmap after them. Assumes nothing.
+-- Laws of the bitmap's stores of a round that takes the call's data: where they go, that they are whole, and
+-- the bits after them; and the addresses of all stores of map and bitmap. Assumes nothing.
 use mathlib.Core.Path.{_≡_, refl, sym, ap, _∙_}
 use mathlib.Core.Logic.{_≢_, _⊎_, inl, inr}
 use mathlib.Core.Bool.{Bool, true, false, cond}
 use mathlib.Core.List.{List, [], _∷_, _++_}
-use Prim.Native.Nat.{ℕ, _+_, _*_, _≤_, _<_}
+use Prim.Native.Nat.{ℕ, _*_, _<_}
 use native.Mathlib.Omega.{arith}
 use lib.Dec.{eqb}
 use lib.ListN.{length}
 use borrow.Author.Tests.{eq-eqb, ne-eqb}
-use Rattle.model.specs.Geometry.{Geometry, Fits, mapBlocks, rootAddress, blockCount}
-use Rattle.model.specs.Blocks.{Bytes, DiskAddress, blockAt}
-use Rattle.model.specs.Layout.{slotStart, slotOf, areaPlace, bitAddress, mapAddress, mapEntry}
+use Rattle.model.specs.Geometry.{Geometry, Fits, blockCount}
+use Rattle.model.specs.Blocks.{Bytes, DiskAddress}
+use Rattle.model.specs.Layout.{slotOf, areaPlace, bitAddress, mapAddress, mapEntry}
 use Rattle.model.specs.Stores.{Trace, apply, addresses}
-use Rattle.model.specs.Rounds.{bitStore, bitStores, mapStore, mapStores}
-use Rattle.model.specs.Table.{PublicChoice, keepPublic, writePublic}
+use Rattle.model.specs.Rounds.{bitStore, bitStores, mapStores}
+use Rattle.model.specs.Table.{writePublic}
 use Rattle.model.specs.Invariants.{bitmapBit}
-use Rattle.model.proofs.Laws.Geometry.{mapAddress-lt, bitAddress-lt, bitAddress-ge}
+use Rattle.model.proofs.Laws.Geometry.{bitAddress-lt}
 use Rattle.model.proofs.Laws.Blocks.{length-setBlock}
 use Rattle.model.proofs.Laws.Slots.{SlotBlock}
-use Rattle.model.proofs.Laws.Stores.{All, Stored, lastAt, lastAt-append, lastAt-other, lastAt-outside, blockAt-apply}
+use Rattle.model.proofs.Laws.Stores.{All, Stored}
 use Rattle.model.proofs.Laws.Bitmap.{length-bitmapWith, marked}
-use Rattle.model.proofs.Laws.BitmapBits.{areaPlace-apart, bitmapBit-marked-same, bitmapBit-marked-other}
-use Rattle.model.proofs.Laws.PublicMap.{length-mapBlockWith, mapped}
+use Rattle.model.proofs.Laws.BitmapBits.{areaPlace-apart, bitmapBit-marked-same}
+use Rattle.model.proofs.Laws.BitmapBits.{bitmapBit-marked-other}
 
 pub all-map :
     {A : Type 0} (P Q : A → Type 0) (xs : List A) → ((x : A) → P x → Q x) → All P xs → All Q xs
@@ -46,10 +46,12 @@ module _ (g : Geometry) (f : Fits g) (disk : Bytes) (whole : length disk ≡ blo
 
   whole-new : length withNew ≡ blockCount g * g .blockSize
   whole-new =
-      length-setBlock (g .blockSize) disk (blockCount g) whole _ (omega (arith, bitAddress-lt g f slot inside)) _
+      length-setBlock (g .blockSize) disk (blockCount g) whole _
+      (omega (arith, bitAddress-lt g f slot inside)) _
       (length-bitmapWith g f disk whole slot inside true) ∙ whole
 
-  bitStores-none : (entry : DiskAddress) → entry ≡ 0 → bitStores g disk entry slot ≡ bitStore g disk slot true ∷ []
+  bitStores-none :
+      (entry : DiskAddress) → entry ≡ 0 → bitStores g disk entry slot ≡ bitStore g disk slot true ∷ []
   unfolding bitStores
   bitStores-none entry e = rw (eq-eqb entry 0 e)
 
@@ -69,16 +71,19 @@ module _ (g : Geometry) (f : Fits g) (disk : Bytes) (whole : length disk ≡ blo
     withBits-none e = ap (λ (xs : Trace). apply (g .blockSize) xs disk) (bitStores-none entry e)
 
     withBits-some :
-        (block : SlotBlock g 0 entry) → withBits ≡ marked g f withNew whole-new (slotOf g entry) (block .slot-inside) false
+        (block : SlotBlock g 0 entry) →
+        withBits ≡ marked g f withNew whole-new (slotOf g entry) (block .slot-inside) false
     unfolding apply
     withBits-some block =
-        ap (λ (xs : Trace). apply (g .blockSize) xs disk) (bitStores-some entry (entry-not-zero g entry block))
+        ap (λ (xs : Trace). apply (g .blockSize) xs disk)
+        (bitStores-some entry (entry-not-zero g entry block))
 
     pub bitStores-stored : All (Stored (g .blockSize) (blockCount g)) (bitStores g disk entry slot)
     bitStores-stored = by old
       where
         first : Stored (g .blockSize) (blockCount g) (bitStore g disk slot true)
-        first = (omega (arith, bitAddress-lt g f slot inside), length-bitmapWith g f disk whole slot inside true)
+        first =
+            (omega (arith, bitAddress-lt g f slot inside), length-bitmapWith g f disk whole slot inside true)
 
         by : OldPlace g entry → All (Stored (g .blockSize) (blockCount g)) (bitStores g disk entry slot)
         by (inl e) = rw (bitStores-none entry e) (first, tt)
@@ -106,7 +111,8 @@ module _ (g : Geometry) (f : Fits g) (disk : Bytes) (whole : length disk ≡ blo
             ∙ bitmapBit-marked-same g f disk whole slot inside true
         by (inr block) =
             ap (λ (d : Bytes). bitmapBit g d (areaPlace g slot)) (withBits-some block)
-            ∙ bitmapBit-marked-other g f withNew whole-new (slotOf g entry) (block .slot-inside) false (areaPlace g slot)
+            ∙ bitmapBit-marked-other g f withNew whole-new (slotOf g entry) (block .slot-inside) false
+            (areaPlace g slot)
             (areaPlace-apart g (slotOf g entry) slot (λ e. apart (entry-not-zero g entry block) (sym e)))
             ∙ bitmapBit-marked-same g f disk whole slot inside true
 
@@ -136,7 +142,7 @@ module _ (g : Geometry) (f : Fits g) (disk : Bytes) (whole : length disk ≡ blo
 
 -- ---- where the stores go ----
 
-addresses-bitStores :
+pub addresses-bitStores :
     (g : Geometry) (disk : Bytes) (entry : DiskAddress) (slot : ℕ) →
     addresses (bitStores g disk entry slot) ≡
     bitAddress g slot ∷ cond (eqb entry 0) [] (bitAddress g (slotOf g entry) ∷ [])
@@ -160,7 +166,8 @@ pub addresses-mapStores :
     cond (eqb (mapEntry g disk number) 0) (0 ∷ []) (bitAddress g (slotOf g (mapEntry g disk number)) ∷ 0 ∷ [])
 unfolding addresses mapStores
 addresses-mapStores g disk number slot =
-    ap (λ (xs : List ℕ). mapAddress g number ∷ (xs ++ (0 ∷ []))) (addresses-bitStores g disk (mapEntry g disk number) slot)
+    ap (λ (xs : List ℕ). mapAddress g number ∷ (xs ++ (0 ∷ [])))
+    (addresses-bitStores g disk (mapEntry g disk number) slot)
     ∙ by (eqb (mapEntry g disk number) 0)
   where
     old : DiskAddress
@@ -171,81 +178,3 @@ addresses-mapStores g disk number slot =
         mapAddress g number ∷ bitAddress g slot ∷ cond b (0 ∷ []) (old ∷ 0 ∷ [])
     by true = refl
     by false = refl
-
--- ---- map and bitmap ----
-
--- an address of the bitmap
-abbrev InBitmap : Geometry → DiskAddress → Type 0
-InBitmap g address = (1 + mapBlocks g ≤ address) × (address < rootAddress g)
-
--- an address of map or bitmap
-abbrev pub InFront : Geometry → DiskAddress → Type 0
-InFront g address = (1 ≤ address) × (address < rootAddress g)
-
-module _ (g : Geometry) (f : Fits g) (disk : Bytes) (whole : length disk ≡ blockCount g * g .blockSize)
-    (slot : ℕ) (inside : slot < g .slots) (number : ℕ) (counted : number < g .publics)
-    (old : OldPlace g (mapEntry g disk number)) where
-  abbrev bits : Trace
-  bits = bitStores g disk (mapEntry g disk number) slot
-
-  bits-inBitmap : All (InBitmap g) (addresses bits)
-  bits-inBitmap =
-      rw (addresses-bitStores g disk (mapEntry g disk number) slot)
-      ((bitAddress-ge g slot, bitAddress-lt g f slot inside), by old)
-    where
-      by : OldPlace g (mapEntry g disk number) →
-          All (InBitmap g) (cond (eqb (mapEntry g disk number) 0) [] (bitAddress g (slotOf g (mapEntry g disk number)) ∷ []))
-      by (inl e) = rw (eq-eqb (mapEntry g disk number) 0 e) tt
-      by (inr block) =
-          rw (ne-eqb (mapEntry g disk number) 0 (entry-not-zero g (mapEntry g disk number) block)) (
-            (
-              bitAddress-ge g (slotOf g (mapEntry g disk number)),
-              bitAddress-lt g f (slotOf g (mapEntry g disk number)) (block .slot-inside),
-            ),
-            tt,
-          )
-
-  -- they go to map and bitmap
-  pub mapStores-inFront : (choice : PublicChoice) → All (InFront g) (addresses (mapStores choice g disk number slot))
-  unfolding addresses mapStores
-  mapStores-inFront keepPublic = tt
-  mapStores-inFront writePublic = (
-    (omega arith, omega (arith, mapAddress-lt g f number counted)),
-    all-map (InBitmap g) (InFront g) (addresses bits) (λ a h. (omega arith, h .1)) bits-inBitmap,
-  )
-
-  mapStore-stored : Stored (g .blockSize) (blockCount g) (mapStore g disk number slot)
-  mapStore-stored =
-      (omega (arith, mapAddress-lt g f number counted), length-mapBlockWith g f disk whole number counted (slotStart g slot))
-
-  pub mapStores-stored :
-      (choice : PublicChoice) → All (Stored (g .blockSize) (blockCount g)) (mapStores choice g disk number slot)
-  unfolding mapStores
-  mapStores-stored keepPublic = tt
-  mapStores-stored writePublic = (mapStore-stored, bitStores-stored g f disk whole slot inside (mapEntry g disk number) old)
-
-  -- what they leave in a map block
-  pub lastAt-mapStores-map :
-      (other : ℕ) → other < g .publics →
-      lastAt (mapStores writePublic g disk number slot) (mapAddress g other)
-      (blockAt (g .blockSize) disk (mapAddress g other)) ≡
-      blockAt (g .blockSize) (mapped g f disk whole number counted (slotStart g slot)) (mapAddress g other)
-  unfolding mapStores apply
-  lastAt-mapStores-map other h =
-      lastAt-append (mapStore g disk number slot ∷ []) bits (mapAddress g other) _
-      ∙ lastAt-outside bits (mapAddress g other) _
-      (all-map (InBitmap g) (λ (a : ℕ). mapAddress g other ≢ a) (addresses bits)
-      (λ a l e. omega (arith, mapAddress-lt g f other h)) bits-inBitmap)
-      ∙ sym (blockAt-apply (g .blockSize) (blockCount g) (mapStore g disk number slot ∷ []) disk (mapAddress g other) whole
-      (mapStore-stored, tt))
-
-  -- what they leave in a bitmap block
-  pub lastAt-mapStores-bit :
-      (address : DiskAddress) → 1 + mapBlocks g ≤ address →
-      lastAt (mapStores writePublic g disk number slot) address (blockAt (g .blockSize) disk address) ≡
-      blockAt (g .blockSize) (withBits g f disk whole slot inside (mapEntry g disk number) old) address
-  unfolding mapStores
-  lastAt-mapStores-bit address h =
-      lastAt-other (mapStore g disk number slot) bits address _ (λ e. omega (arith, mapAddress-lt g f number counted))
-      ∙ sym (blockAt-apply (g .blockSize) (blockCount g) bits disk address whole
-      (bitStores-stored g f disk whole slot inside (mapEntry g disk number) old))

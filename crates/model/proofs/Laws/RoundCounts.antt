@@ -1,8 +1,8 @@
 -- Laws of the number of rounds that a write takes, and of how many stores these have. Assumes nothing.
-use mathlib.Core.Path.{_≡_, refl, sym, ap, ap₂, _∙_}
+use mathlib.Core.Path.{_≡_, refl, ap, ap₂, _∙_}
 use mathlib.Core.Bool.{Bool, true, false, cond}
 use mathlib.Core.List.{List, [], _∷_, _++_}
-use Prim.Native.Nat.{ℕ, zero, suc, _+_, _*_, _-_, _%_, _≤_, _<_}
+use Prim.Native.Nat.{ℕ, zero, suc, _+_, _*_, _<_}
 use native.Mathlib.Omega.{arith}
 use lib.Dec.{eqb}
 use lib.ListN.{length, length-append}
@@ -21,7 +21,8 @@ unfolding roundsTo
 roundsTo-zero isTaken g slot = refl
 
 pub roundsTo-free :
-    (most : ℕ) (isTaken : ℕ → Bool) (g : Geometry) (slot : ℕ) → isTaken slot ≡ false → roundsTo (suc most) isTaken g slot ≡ 1
+    (most : ℕ) (isTaken : ℕ → Bool) (g : Geometry) (slot : ℕ) → isTaken slot ≡ false →
+    roundsTo (suc most) isTaken g slot ≡ 1
 unfolding roundsTo
 roundsTo-free most isTaken g slot e = cond-false _ _ e
 
@@ -64,7 +65,8 @@ length-slotAddresses g slot =
     length-append (addressesFrom (slotStart g slot) (suc (g .height))) (rootAddress g ∷ [])
     ∙ omega (arith, length-addressesFrom (slotStart g slot) (suc (g .height)))
 
-pub length-keptRounds : (count : ℕ) (g : Geometry) (slot : ℕ) → length (keptRounds count g slot) ≡ count * (g .height + 3)
+pub length-keptRounds :
+    (count : ℕ) (g : Geometry) (slot : ℕ) → length (keptRounds count g slot) ≡ count * (g .height + 3)
 unfolding keptRounds
 length-keptRounds zero g slot = omega arith
 length-keptRounds (suc count) g slot =
@@ -77,7 +79,8 @@ pub length-lastRound :
 length-lastRound g number entry slot = by (eqb entry 0)
   where
     tail : Bool → List ℕ
-    tail b = mapAddress g number ∷ bitAddress g slot ∷ cond b (0 ∷ []) (bitAddress g (slotOf g entry) ∷ 0 ∷ [])
+    tail b =
+        mapAddress g number ∷ bitAddress g slot ∷ cond b (0 ∷ []) (bitAddress g (slotOf g entry) ∷ 0 ∷ [])
 
     by : (b : Bool) → length (slotAddresses g slot ++ tail b) ≡ g .height + 3 + cond b 2 3
     by true = length-append (slotAddresses g slot) (tail true) ∙ omega (arith, length-slotAddresses g slot)

@@ -1,5 +1,5 @@
--- What one round leaves in map, bitmap and public blocks: a kept round leaves them as they were, a last round enters
--- the new place, sets its bit, clears the old one's and stores the call's data. Assumes nothing.
+-- What one round leaves in map, bitmap and public blocks: a kept round leaves them as they were, a last round
+-- enters the new place, sets its bit, clears the old one's and stores the call's data. Assumes nothing.
 use mathlib.Core.Path.{_≡_, sym, _∙_}
 use mathlib.Core.Logic.{_≢_, inl, inr, ⊎-elim}
 use mathlib.Core.Bool.{true, false}
@@ -16,12 +16,17 @@ use Rattle.model.specs.Rounds.{publicStore, mapStores}
 use Rattle.model.specs.Invariants.{bitmapBit}
 use Rattle.model.proofs.Laws.Geometry.{mapAddress-lt, slot-block-lt}
 use Rattle.model.proofs.Laws.Stores.{lastAt-nil}
-use Rattle.model.proofs.Laws.PublicMap.{mapEntry-block, mapped, mapEntry-mapped-same, mapEntry-mapped-other}
-use Rattle.model.proofs.Laws.BitmapBits.{blockOfBit, isAllocated-bit, bitmapBit-block, blockOfBit-lt, areaPlace-lt, areaPlace-apart}
+use Rattle.model.proofs.Laws.PublicMap.{mapEntry-block, mapped, mapEntry-mapped-same}
+use Rattle.model.proofs.Laws.PublicMap.{mapEntry-mapped-other}
+use Rattle.model.proofs.Laws.BitmapBits.{blockOfBit, isAllocated-bit, bitmapBit-block, blockOfBit-lt}
+use Rattle.model.proofs.Laws.BitmapBits.{areaPlace-lt, areaPlace-apart}
 use Rattle.model.proofs.Laws.Paths.{Hides}
-use Rattle.model.proofs.Laws.PublicHalf.{OldPlace, InFront, withBits, bitmapBit-withBits-new, bitmapBit-withBits-old, bitmapBit-withBits-other, lastAt-mapStores-map, lastAt-mapStores-bit}
+use Rattle.model.proofs.Laws.PublicHalf.{OldPlace, withBits, bitmapBit-withBits-new}
+use Rattle.model.proofs.Laws.MapStores.{InFront, lastAt-mapStores-map, lastAt-mapStores-bit}
+use Rattle.model.proofs.Laws.PublicHalf.{bitmapBit-withBits-old, bitmapBit-withBits-other}
 use Rattle.model.proofs.Laws.RoundStores.{afterRound}
-use Rattle.model.proofs.Laws.Rounds.{blockAt-round-front, blockAt-round-start-same, blockAt-round-start-other}
+use Rattle.model.proofs.Laws.Rounds.{blockAt-round-front, blockAt-round-start-same}
+use Rattle.model.proofs.Laws.Rounds.{blockAt-round-start-other}
 
 module _ (g : Geometry) (f : Fits g) (disk : Bytes) (whole : length disk ≡ blockCount g * g .blockSize)
     (number : ℕ) (counted : number < g .publics) (slot : ℕ) (inside : slot < g .slots) (content : Bytes)
@@ -33,22 +38,28 @@ module _ (g : Geometry) (f : Fits g) (disk : Bytes) (whole : length disk ≡ blo
   kept = afterRound keepPublic g disk number slot content hidden
 
   -- every block of map and bitmap stays
-  pub blockAt-kept : (address : DiskAddress) → InFront g address → blockAt (g .blockSize) kept address ≡ blockAt (g .blockSize) disk address
+  pub blockAt-kept :
+      (address : DiskAddress) → InFront g address →
+      blockAt (g .blockSize) kept address ≡ blockAt (g .blockSize) disk address
   unfolding mapStores
   blockAt-kept address h =
-      blockAt-round-front g f disk whole number counted slot inside content sized old hidden hides keepPublic address h
+      blockAt-round-front g f disk whole number counted slot inside content sized
+      old hidden hides keepPublic address h
       ∙ lastAt-nil address (blockAt (g .blockSize) disk address)
 
   map-front : (other : ℕ) → other < g .publics → InFront g (mapAddress g other)
   map-front other h = (omega arith, omega (arith, mapAddress-lt g f other h))
 
   pub mapEntry-kept : (other : ℕ) → other < g .publics → mapEntry g kept other ≡ mapEntry g disk other
-  mapEntry-kept other h = mapEntry-block g kept disk other (blockAt-kept (mapAddress g other) (map-front other h))
+  mapEntry-kept other h =
+      mapEntry-block g kept disk other (blockAt-kept (mapAddress g other) (map-front other h))
 
   pub bitmapBit-kept :
-      (place : ℕ) → place < bitmapBlocks g * (8 * g .blockSize) → bitmapBit g kept place ≡ bitmapBit g disk place
+      (place : ℕ) → place < bitmapBlocks g * (8 * g .blockSize) →
+      bitmapBit g kept place ≡ bitmapBit g disk place
   bitmapBit-kept place h =
-      bitmapBit-block g kept disk place (blockAt-kept (blockOfBit g place) (omega arith, blockOfBit-lt g f place h))
+      bitmapBit-block g kept disk place
+      (blockAt-kept (blockOfBit g place) (omega arith, blockOfBit-lt g f place h))
 
   pub isAllocated-kept : (other : ℕ) → other < g .slots → isAllocated g kept other ≡ isAllocated g disk other
   isAllocated-kept other h =
@@ -56,15 +67,25 @@ module _ (g : Geometry) (f : Fits g) (disk : Bytes) (whole : length disk ≡ blo
       ∙ sym (isAllocated-bit g disk other)
 
   -- every public block stays
-  pub blockAt-kept-start : (other : ℕ) → blockAt (g .blockSize) kept (slotStart g other) ≡ blockAt (g .blockSize) disk (slotStart g other)
+  pub blockAt-kept-start :
+      (other : ℕ) →
+      blockAt (g .blockSize) kept (slotStart g other) ≡ blockAt (g .blockSize) disk (slotStart g other)
   unfolding publicStore
   blockAt-kept-start other = ⊎-elim same apart (eq-cases other slot)
     where
-      same : other ≡ slot → blockAt (g .blockSize) kept (slotStart g other) ≡ blockAt (g .blockSize) disk (slotStart g other)
-      same e = rw e (blockAt-round-start-same g f disk whole number counted slot inside content sized old hidden hides keepPublic)
+      same :
+          other ≡ slot →
+          blockAt (g .blockSize) kept (slotStart g other) ≡ blockAt (g .blockSize) disk (slotStart g other)
+      same e =
+          rw e (blockAt-round-start-same g f disk whole number counted slot inside content sized
+          old hidden hides keepPublic)
 
-      apart : other ≢ slot → blockAt (g .blockSize) kept (slotStart g other) ≡ blockAt (g .blockSize) disk (slotStart g other)
-      apart = blockAt-round-start-other g f disk whole number counted slot inside content sized old hidden hides keepPublic other
+      apart :
+          other ≢ slot →
+          blockAt (g .blockSize) kept (slotStart g other) ≡ blockAt (g .blockSize) disk (slotStart g other)
+      apart =
+          blockAt-round-start-other g f disk whole number counted slot inside content sized
+          old hidden hides keepPublic other
 
   -- ---- a last round ----
 
@@ -74,14 +95,15 @@ module _ (g : Geometry) (f : Fits g) (disk : Bytes) (whole : length disk ≡ blo
   pub blockAt-last-start : blockAt (g .blockSize) last (slotStart g slot) ≡ content
   unfolding publicStore
   blockAt-last-start =
-      blockAt-round-start-same g f disk whole number counted slot inside content sized old hidden hides writePublic
+      blockAt-round-start-same g f disk whole number counted slot inside content sized
+      old hidden hides writePublic
 
   mapEntry-last : (other : ℕ) → other < g .publics →
       mapEntry g last other ≡ mapEntry g (mapped g f disk whole number counted (slotStart g slot)) other
   mapEntry-last other h =
       mapEntry-block g last (mapped g f disk whole number counted (slotStart g slot)) other
-      (blockAt-round-front g f disk whole number counted slot inside content sized old hidden hides writePublic
-      (mapAddress g other) (map-front other h)
+      (blockAt-round-front g f disk whole number counted slot inside content sized
+      old hidden hides writePublic (mapAddress g other) (map-front other h)
       ∙ lastAt-mapStores-map g f disk whole slot inside number counted old other h)
 
   pub mapEntry-last-same : mapEntry g last number ≡ slotStart g slot
@@ -90,7 +112,8 @@ module _ (g : Geometry) (f : Fits g) (disk : Bytes) (whole : length disk ≡ blo
       ∙ mapEntry-mapped-same g f disk whole number counted (slotStart g slot)
       (omega (arith, slot-block-lt g slot 0 inside (omega arith), f .blocks-high))
 
-  pub mapEntry-last-other : (other : ℕ) → other < g .publics → other ≢ number → mapEntry g last other ≡ mapEntry g disk other
+  pub mapEntry-last-other :
+      (other : ℕ) → other < g .publics → other ≢ number → mapEntry g last other ≡ mapEntry g disk other
   mapEntry-last-other other h ne =
       mapEntry-last other h ∙ mapEntry-mapped-other g f disk whole number counted (slotStart g slot) other ne
 
@@ -98,15 +121,18 @@ module _ (g : Geometry) (f : Fits g) (disk : Bytes) (whole : length disk ≡ blo
   abbrev bits : Bytes
   bits = withBits g f disk whole slot inside (mapEntry g disk number) old
 
-  bitmapBit-last : (place : ℕ) → place < bitmapBlocks g * (8 * g .blockSize) → bitmapBit g last place ≡ bitmapBit g bits place
+  bitmapBit-last :
+      (place : ℕ) → place < bitmapBlocks g * (8 * g .blockSize) →
+      bitmapBit g last place ≡ bitmapBit g bits place
   bitmapBit-last place h =
       bitmapBit-block g last bits place
-      (blockAt-round-front g f disk whole number counted slot inside content sized old hidden hides writePublic
-      (blockOfBit g place) (omega arith, blockOfBit-lt g f place h)
+      (blockAt-round-front g f disk whole number counted slot inside content sized
+      old hidden hides writePublic (blockOfBit g place) (omega arith, blockOfBit-lt g f place h)
       ∙ lastAt-mapStores-bit g f disk whole slot inside number counted old (blockOfBit g place) (omega arith))
 
   pub bitmapBit-last-new :
-      (mapEntry g disk number ≢ 0 → slotOf g (mapEntry g disk number) ≢ slot) → bitmapBit g last (areaPlace g slot) ≡ true
+      (mapEntry g disk number ≢ 0 → slotOf g (mapEntry g disk number) ≢ slot) →
+      bitmapBit g last (areaPlace g slot) ≡ true
   bitmapBit-last-new apart =
       bitmapBit-last (areaPlace g slot) (areaPlace-lt g f slot inside)
       ∙ bitmapBit-withBits-new g f disk whole slot inside (mapEntry g disk number) old apart
@@ -115,7 +141,9 @@ module _ (g : Geometry) (f : Fits g) (disk : Bytes) (whole : length disk ≡ blo
       mapEntry g disk number ≢ 0 → bitmapBit g last (areaPlace g (slotOf g (mapEntry g disk number))) ≡ false
   bitmapBit-last-old ne = by old
     where
-      by : OldPlace g (mapEntry g disk number) → bitmapBit g last (areaPlace g (slotOf g (mapEntry g disk number))) ≡ false
+      by :
+          OldPlace g (mapEntry g disk number) →
+          bitmapBit g last (areaPlace g (slotOf g (mapEntry g disk number))) ≡ false
       by (inl e) = absurd (ne e)
       by (inr block) =
           bitmapBit-last (areaPlace g (slotOf g (mapEntry g disk number)))

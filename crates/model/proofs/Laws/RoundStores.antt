@@ -1,5 +1,5 @@
--- Laws of the stores of one round, for any hidden half that stores the slot's hidden blocks and the root: their
--- addresses, and that they are whole and inside the disk. Assumes nothing.
+-- Laws of the stores of one round, for any hidden half that stores the slot's hidden blocks and the root:
+-- their addresses, and that they are whole and inside the disk. Assumes nothing.
 use mathlib.Core.Path.{_≡_, refl, ap, _∙_, subst}
 use mathlib.Core.Logic.{_⊎_, inl, inr}
 use mathlib.Core.List.{List, [], _∷_, _++_}
@@ -18,28 +18,33 @@ use Rattle.model.proofs.Laws.Geometry.{slot-block-lt, rootAddress-lt}
 use Rattle.model.proofs.Laws.Entries.{length-setEntry}
 use Rattle.model.proofs.Laws.Stores.{All, all-append, Stored, addresses-append, length-apply}
 use Rattle.model.proofs.Laws.Paths.{WholeStore, Hides, addressesFrom-suc, blockAt-whole}
-use Rattle.model.proofs.Laws.PublicHalf.{all-map, OldPlace, addresses-mapStores, mapStores-stored}
+use Rattle.model.proofs.Laws.PublicHalf.{all-map, OldPlace, addresses-mapStores}
+use Rattle.model.proofs.Laws.MapStores.{mapStores-stored}
 
 -- ---- addresses ----
 
 all-addressesFrom :
-    (P : ℕ → Type 0) (address : DiskAddress) (count : ℕ) → ((i : ℕ) → i < count → P (address + i)) → All P (addressesFrom address count)
+    (P : ℕ → Type 0) (address : DiskAddress) (count : ℕ) → ((i : ℕ) → i < count → P (address + i)) →
+    All P (addressesFrom address count)
 unfolding addressesFrom
 all-addressesFrom P address zero h = tt
 all-addressesFrom P address (suc count) h =
     let e : address + 0 ≡ address = omega arith in (
       subst P e (h 0 (omega arith)),
       all-addressesFrom P (suc address) count
-          (λ i l. let q : address + suc i ≡ suc address + i = omega arith in subst P q (h (suc i) (omega arith))),
+          (λ i l. let q : address + suc i ≡ suc address + i = omega arith in
+          subst P q (h (suc i) (omega arith))),
     )
 
 -- an address of a slot's hidden blocks, or the root
 abbrev pub HiddenAddress : Geometry → (slot : ℕ) → DiskAddress → Type 0
 HiddenAddress g slot address =
-    (address ≡ rootAddress g) ⊎ ((place : ℕ) × (1 ≤ place) × (place ≤ g .height) × (address ≡ slotStart g slot + place))
+    (address ≡ rootAddress g) ⊎
+    ((place : ℕ) × (1 ≤ place) × (place ≤ g .height) × (address ≡ slotStart g slot + place))
 
 pub hides-addresses :
-    (g : Geometry) (slot : ℕ) (hidden : Trace) → Hides g slot hidden → All (HiddenAddress g slot) (addresses hidden)
+    (g : Geometry) (slot : ℕ) (hidden : Trace) → Hides g slot hidden →
+    All (HiddenAddress g slot) (addresses hidden)
 hides-addresses g slot hidden hides =
     rw (hides .runs)
     (all-append (HiddenAddress g slot) (addressesFrom (slotStart g slot + 1) (g .height)) _
@@ -64,8 +69,8 @@ publicStore-address keepPublic g disk slot content = refl
 publicStore-address writePublic g disk slot content = refl
 
 addresses-round :
-    (choice : PublicChoice) (g : Geometry) (disk : Bytes) (number slot : ℕ) (content : Bytes) (hidden : Trace) →
-    Hides g slot hidden →
+    (choice : PublicChoice) (g : Geometry) (disk : Bytes) (number slot : ℕ) (content : Bytes)
+    (hidden : Trace) → Hides g slot hidden →
     addresses (roundTrace choice g disk number slot content hidden) ≡
     slotAddresses g slot ++ (addresses (mapStores choice g disk number slot) ++ (0 ∷ []))
 unfolding addresses roundTrace
@@ -88,7 +93,8 @@ addresses-kept g disk number slot content hidden hides =
 
 pub addresses-last :
     (g : Geometry) (disk : Bytes) (number slot : ℕ) (content : Bytes) (hidden : Trace) → Hides g slot hidden →
-    addresses (roundTrace writePublic g disk number slot content hidden) ≡ lastRound g number (mapEntry g disk number) slot
+    addresses (roundTrace writePublic g disk number slot content hidden) ≡
+    lastRound g number (mapEntry g disk number) slot
 addresses-last g disk number slot content hidden hides =
     addresses-round writePublic g disk number slot content hidden hides
     ∙ ap (λ (xs : List ℕ). slotAddresses g slot ++ xs) (addresses-mapStores g disk number slot)
@@ -101,7 +107,8 @@ header-fits g f disk whole = omega (arith, blockAt-whole g f disk whole 0 (omega
 
 -- the disk after a round
 abbrev pub afterRound :
-    PublicChoice → Geometry → (disk : Bytes) → (number slot : ℕ) → (content : Bytes) → (hidden : Trace) → Bytes
+    PublicChoice → Geometry → (disk : Bytes) → (number slot : ℕ) → (content : Bytes) →
+    (hidden : Trace) → Bytes
 afterRound choice g disk number slot content hidden =
     apply (g .blockSize) (roundTrace choice g disk number slot content hidden) disk
 
@@ -138,7 +145,8 @@ module _ (g : Geometry) (f : Fits g) (disk : Bytes) (whole : length disk ≡ blo
       below a (inr (place, low, high, e)) = omega (arith, slot-block-lt g slot place inside high)
 
   -- every store is of a whole block and inside the disk
-  pub round-stored : All (Stored (g .blockSize) (blockCount g)) (roundTrace choice g disk number slot content hidden)
+  pub round-stored :
+      All (Stored (g .blockSize) (blockCount g)) (roundTrace choice g disk number slot content hidden)
   unfolding roundTrace
   round-stored = (
     publicStore-stored,
@@ -149,4 +157,5 @@ module _ (g : Geometry) (f : Fits g) (disk : Bytes) (whole : length disk ≡ blo
 
   pub length-round : length (afterRound choice g disk number slot content hidden) ≡ length disk
   length-round =
-      length-apply (g .blockSize) (blockCount g) (roundTrace choice g disk number slot content hidden) disk whole round-stored
+      length-apply (g .blockSize) (blockCount g)
+      (roundTrace choice g disk number slot content hidden) disk whole round-stored

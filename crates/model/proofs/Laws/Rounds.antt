@@ -1,5 +1,6 @@
--- Laws of one round, for any hidden half that stores the slot's hidden blocks and the root: what it leaves in each
--- kind of block, in the order map and bitmap, hidden blocks and root, public blocks, header. Assumes nothing.
+-- Laws of one round, for any hidden half that stores the slot's hidden blocks and the root: what it leaves in
+-- each kind of block, in the order map and bitmap, hidden blocks and root, public blocks, header. Assumes
+-- nothing.
 use mathlib.Core.Path.{_≡_, refl, sym, ap, _∙_}
 use mathlib.Core.Logic.{_≢_, inl, inr}
 use mathlib.Core.List.{[], _∷_, _++_}
@@ -13,11 +14,15 @@ use Rattle.model.specs.Stores.{Store, Trace, addresses}
 use Rattle.model.specs.Table.{PublicChoice}
 use Rattle.model.specs.Rounds.{publicStore, headerStore, mapStores, roundTrace}
 use Rattle.model.proofs.Laws.Entries.{entryAt-setEntry-same, entryAt-setEntry-other, entryAt-header}
-use Rattle.model.proofs.Laws.Slots.{place-of-slot-block, slotOf-slot-block, slotOf-slotStart, nextSlot-lt}
-use Rattle.model.proofs.Laws.Stores.{lastAt, lastAt-nil, lastAt-append, lastAt-same, lastAt-other, lastAt-outside, blockAt-apply}
+use Rattle.model.proofs.Laws.Slots.{place-of-slot-block, slotOf-slot-block, slotOf-slotStart}
+use Rattle.model.proofs.Laws.Slots.{nextSlot-lt}
+use Rattle.model.proofs.Laws.Stores.{lastAt, lastAt-nil, lastAt-append, lastAt-same, lastAt-other}
+use Rattle.model.proofs.Laws.Stores.{lastAt-outside, blockAt-apply}
 use Rattle.model.proofs.Laws.Paths.{Hides}
-use Rattle.model.proofs.Laws.PublicHalf.{all-map, OldPlace, InFront, mapStores-inFront}
-use Rattle.model.proofs.Laws.RoundStores.{HiddenAddress, hides-addresses, publicStore-address, afterRound, header-fits, round-stored}
+use Rattle.model.proofs.Laws.PublicHalf.{all-map, OldPlace}
+use Rattle.model.proofs.Laws.MapStores.{InFront, mapStores-inFront}
+use Rattle.model.proofs.Laws.RoundStores.{HiddenAddress, hides-addresses, publicStore-address}
+use Rattle.model.proofs.Laws.RoundStores.{afterRound, header-fits, round-stored}
 
 -- ---- addresses and stores apart ----
 
@@ -45,10 +50,14 @@ lastAt-parts x y xs ys address old =
     ∙ lastAt-append xs (ys ++ (y ∷ [])) address (lastAt (x ∷ []) address old)
     ∙ lastAt-append ys (y ∷ []) address (lastAt xs address (lastAt (x ∷ []) address old))
 
-lastAt-one-other : (x : Store) (address : DiskAddress) (old : Bytes) → address ≢ x .address → lastAt (x ∷ []) address old ≡ old
+lastAt-one-other :
+    (x : Store) (address : DiskAddress) (old : Bytes) → address ≢ x .address →
+    lastAt (x ∷ []) address old ≡ old
 lastAt-one-other x address old ne = lastAt-other x [] address old ne ∙ lastAt-nil address old
 
-lastAt-one-same : (x : Store) (address : DiskAddress) (old : Bytes) → address ≡ x .address → lastAt (x ∷ []) address old ≡ x .content
+lastAt-one-same :
+    (x : Store) (address : DiskAddress) (old : Bytes) → address ≡ x .address →
+    lastAt (x ∷ []) address old ≡ x .content
 lastAt-one-same x address old e = lastAt-same x [] address old e ∙ lastAt-nil address (x .content)
 
 module _ (g : Geometry) (f : Fits g) (disk : Bytes) (whole : length disk ≡ blockCount g * g .blockSize)
@@ -70,7 +79,8 @@ module _ (g : Geometry) (f : Fits g) (disk : Bytes) (whole : length disk ≡ blo
       (lastAt (publicStore choice g disk slot content ∷ []) address (blockAt (g .blockSize) disk address))))
   unfolding roundTrace
   blockAt-parts address =
-      blockAt-apply (g .blockSize) (blockCount g) (roundTrace choice g disk number slot content hidden) disk address whole
+      blockAt-apply (g .blockSize) (blockCount g)
+      (roundTrace choice g disk number slot content hidden) disk address whole
       (round-stored g f disk whole number counted slot inside content sized old hidden hides choice)
       ∙ lastAt-parts (publicStore choice g disk slot content) (headerStore g disk slot) hidden
       (mapStores choice g disk number slot) address (blockAt (g .blockSize) disk address)
@@ -88,7 +98,8 @@ module _ (g : Geometry) (f : Fits g) (disk : Bytes) (whole : length disk ≡ blo
       lastAt hidden address block ≡ block
   hidden-apart address h block =
       lastAt-outside hidden address block
-      (all-map (HiddenAddress g slot) (λ (a : ℕ). address ≢ a) (addresses hidden) h (hides-addresses g slot hidden hides))
+      (all-map (HiddenAddress g slot) (λ (a : ℕ). address ≢ a) (addresses hidden) h
+      (hides-addresses g slot hidden hides))
 
   public-apart :
       (address : DiskAddress) → address ≢ slotStart g slot → (block : Bytes) →
@@ -98,7 +109,8 @@ module _ (g : Geometry) (f : Fits g) (disk : Bytes) (whole : length disk ≡ blo
       (λ e. h (e ∙ publicStore-address choice g disk slot content))
 
   header-apart :
-      (address : DiskAddress) → 1 ≤ address → (block : Bytes) → lastAt (headerStore g disk slot ∷ []) address block ≡ block
+      (address : DiskAddress) → 1 ≤ address → (block : Bytes) →
+      lastAt (headerStore g disk slot ∷ []) address block ≡ block
   header-apart address h block = lastAt-one-other (headerStore g disk slot) address block (λ e. omega arith)
 
   -- map and bitmap are the public half's alone
@@ -124,7 +136,8 @@ module _ (g : Geometry) (f : Fits g) (disk : Bytes) (whole : length disk ≡ blo
       ∙ ap (lastAt hidden address) (public-apart address ne _)
 
   pub blockAt-round-root :
-      blockAt (g .blockSize) after (rootAddress g) ≡ lastAt hidden (rootAddress g) (blockAt (g .blockSize) disk (rootAddress g))
+      blockAt (g .blockSize) after (rootAddress g) ≡
+      lastAt hidden (rootAddress g) (blockAt (g .blockSize) disk (rootAddress g))
   blockAt-round-root = blockAt-round-hidden (rootAddress g) (omega arith) (λ e. omega arith)
 
   module _ (other place : ℕ) (low : 1 ≤ place) (high : place ≤ g .height) where
@@ -139,7 +152,8 @@ module _ (g : Geometry) (f : Fits g) (disk : Bytes) (whole : length disk ≡ blo
 
     pub blockAt-round-place-other :
         other ≢ slot →
-        blockAt (g .blockSize) after (slotStart g other + place) ≡ blockAt (g .blockSize) disk (slotStart g other + place)
+        blockAt (g .blockSize) after (slotStart g other + place) ≡
+        blockAt (g .blockSize) disk (slotStart g other + place)
     blockAt-round-place-other ne = blockAt-round-place ∙ hidden-apart (slotStart g other + place) apart _
       where
         apart : (a : DiskAddress) → HiddenAddress g slot a → slotStart g other + place ≢ a
@@ -151,7 +165,8 @@ module _ (g : Geometry) (f : Fits g) (disk : Bytes) (whole : length disk ≡ blo
   blockAt-round-start :
       (other : ℕ) →
       blockAt (g .blockSize) after (slotStart g other) ≡
-      lastAt (publicStore choice g disk slot content ∷ []) (slotStart g other) (blockAt (g .blockSize) disk (slotStart g other))
+      lastAt (publicStore choice g disk slot content ∷ []) (slotStart g other)
+      (blockAt (g .blockSize) disk (slotStart g other))
   blockAt-round-start other =
       blockAt-parts (slotStart g other) ∙ header-apart (slotStart g other) (omega arith) _
       ∙ map-apart (slotStart g other) (omega arith) _ ∙ hidden-apart (slotStart g other) apart _
@@ -186,12 +201,19 @@ module _ (g : Geometry) (f : Fits g) (disk : Bytes) (whole : length disk ≡ blo
   pub entryAt-round : (i : ℕ) → i < 5 → entryAt i after ≡ entryAt i disk
   entryAt-round i h =
       entryAt-header (g .blockSize) after i (omega (arith, f .size-low)) ∙ ap (entryAt i) blockAt-round-header
-      ∙ entryAt-setEntry-other 5 (nextSlot g slot) (blockAt (g .blockSize) disk 0) (header-fits g f disk whole) i (omega arith)
+      ∙ entryAt-setEntry-other 5 (nextSlot g slot) (blockAt (g .blockSize) disk 0)
+      (header-fits g f disk whole) i (omega arith)
       ∙ sym (entryAt-header (g .blockSize) disk i (omega (arith, f .size-low)))
 
   pub geometryIn-round : geometryIn after ≡ geometryIn disk
   geometryIn-round =
-      cc (entryAt-round 0 (omega arith), entryAt-round 1 (omega arith), entryAt-round 2 (omega arith), entryAt-round 3 (omega arith), entryAt-round 4 (omega arith))
+      cc (
+        entryAt-round 0 (omega arith),
+        entryAt-round 1 (omega arith),
+        entryAt-round 2 (omega arith),
+        entryAt-round 3 (omega arith),
+        entryAt-round 4 (omega arith),
+      )
 
   pub headIn-round : headIn after ≡ nextSlot g slot
   headIn-round =

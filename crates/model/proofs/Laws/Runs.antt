@@ -1,40 +1,45 @@
--- Laws of the rounds of a write, whatever its hidden writes and random bytes: how many there are, the addresses of all
--- stores in order, that these are whole and inside the disk, and the whole effect on header, map, bitmap and public
--- blocks; then the same for the run of a write on an accepted drive. Assumes nothing.
+-- Laws of the rounds of a write, whatever its hidden writes and random bytes: how many there are, the
+-- addresses of all stores in order, that these are whole and inside the disk, and the whole effect on header,
+-- map, bitmap and public blocks. Assumes nothing.
 use mathlib.Core.Path.{_≡_, refl, sym, ap, ap₂, _∙_, subst}
-use mathlib.Core.Logic.{_≢_, _⊎_, inl, inr}
-use mathlib.Core.Bool.{Bool, true, false, cond}
+use mathlib.Core.Logic.{_≢_}
+use mathlib.Core.Bool.{true, false, cond}
 use mathlib.Core.List.{List, [], _∷_, _++_, append-assoc, append-nil}
 use Prim.Native.Nat.{ℕ, zero, suc, _+_, _*_, _-_, _%_, _≤_, _<_}
-use native.Mathlib.Nat.{add-zero, mod-add-mod, mod-eq-of-lt, mul-assoc}
+use native.Mathlib.Nat.{add-zero, mod-add-mod, mod-eq-of-lt}
 use native.Mathlib.Omega.{arith}
 use lib.ListN.{length, drop, length-drop}
 use lib.Seq.{append-snoc}
-use Rattle.laws.proofs.Cases.{cond-cases, cond-true, cond-false}
+use Rattle.laws.proofs.Cases.{cond-cases}
 use Rattle.model.specs.Geometry.{Geometry, Fits, blockCount}
 use Rattle.model.specs.Blocks.{Bytes}
-use Rattle.model.specs.Layout.{slotStart, nextSlot, mapEntry, isAllocated}
+use Rattle.model.specs.Layout.{nextSlot, mapEntry, isAllocated}
 use Rattle.model.specs.Stores.{Trace, apply, addresses}
 use Rattle.model.specs.Table.{PublicChoice, keepPublic, writePublic}
-use Rattle.model.specs.HiddenHalf.{HiddenState, HiddenHalf, rowOf, hiddenHalf}
+use Rattle.model.specs.HiddenHalf.{HiddenState, HiddenHalf, hiddenHalf}
 use Rattle.model.specs.Rounds.{Run, stopped, followedBy, goesOn, roundTrace, runFrom}
 use Rattle.model.specs.Refusals.{roundsTo, storeCount}
 use Rattle.model.specs.Simulator.{slotAddresses, keptRounds, lastRound}
 use Rattle.model.proofs.Laws.Slots.{nextSlot-lt}
-use Rattle.model.proofs.Laws.Stores.{All, all-append, Stored, apply-append, addresses-append, length-addresses}
+use Rattle.model.proofs.Laws.Stores.{All, all-append, Stored, apply-append, addresses-append}
+use Rattle.model.proofs.Laws.Stores.{length-addresses}
 use Rattle.model.proofs.Laws.Paths.{Hides}
 use Rattle.model.proofs.Laws.HiddenHalf.{WholeWrite, HidesHalf, rowOf-public, hiddenHalf-hides}
-use Rattle.model.proofs.Laws.RoundStores.{afterRound, addresses-kept, addresses-last, round-stored, length-round}
+use Rattle.model.proofs.Laws.RoundStores.{afterRound, addresses-kept, addresses-last, round-stored}
+use Rattle.model.proofs.Laws.RoundStores.{length-round}
 use Rattle.model.proofs.Laws.RoundEffects.{isAllocated-kept}
-use Rattle.model.proofs.Laws.RoundCounts.{roundsTo-zero, roundsTo-free, roundsTo-taken, OneMore, oneMore-of, roundsTo-ext, length-rounds}
-use Rattle.model.proofs.Laws.Wrote.{Placed, old-of-placed, Wrote, last-wrote, entry-kept, placed-kept, kept-wrote}
+use Rattle.model.proofs.Laws.RoundCounts.{roundsTo-zero, roundsTo-free, roundsTo-taken, oneMore-of}
+use Rattle.model.proofs.Laws.RoundCounts.{roundsTo-ext, length-rounds}
+use Rattle.model.proofs.Laws.Wrote.{Placed, old-of-placed, Wrote, last-wrote, entry-kept, placed-kept}
+use Rattle.model.proofs.Laws.Wrote.{kept-wrote}
 
 -- the slot of the round after so many earlier ones from a slot on
 abbrev pub slotAfter : Geometry → (slot earlier : ℕ) → ℕ
 slotAfter g slot earlier = (slot + earlier) % g .slots
 
 -- a run of so many kept rounds and a last one
-pub record Ran (g : Geometry) (number : ℕ) (content : Bytes) (slot earlier : ℕ) (disk : Bytes) (run : Run) : Type 0 where
+pub record Ran (g : Geometry) (number : ℕ) (content : Bytes) (slot earlier : ℕ) (disk : Bytes)
+    (run : Run) : Type 0 where
   pub counted : run .rounds ≡ suc earlier
   pub listed :
       addresses (run .trace) ≡
@@ -42,44 +47,52 @@ pub record Ran (g : Geometry) (number : ℕ) (content : Bytes) (slot earlier : �
   pub stored : All (Stored (g .blockSize) (blockCount g)) (run .trace)
   pub wrote : Wrote g number content (slotAfter g slot earlier) disk (apply (g .blockSize) (run .trace) disk)
 
-append-between : (xs : List ℕ) (n : ℕ) (ys zs : List ℕ) → (xs ++ (n ∷ [])) ++ (ys ++ zs) ≡ (xs ++ (n ∷ ys)) ++ zs
+append-between :
+    (xs : List ℕ) (n : ℕ) (ys zs : List ℕ) → (xs ++ (n ∷ [])) ++ (ys ++ zs) ≡ (xs ++ (n ∷ ys)) ++ zs
 append-between xs n ys zs = append-snoc xs n (ys ++ zs) ∙ sym (append-assoc xs (n ∷ ys) zs)
 
 module _ (g : Geometry) (f : Fits g) (number : ℕ) (inside : number < g .publics) (content : Bytes)
     (sized : length content ≡ g .blockSize) where
   -- ---- one round ----
 
-  module _ (disk : Bytes) (whole : length disk ≡ blockCount g * g .blockSize) (slot : ℕ) (here : slot < g .slots)
-      (placed : Placed g disk number) (hidden : Trace) (hides : Hides g slot hidden) where
+  module _ (disk : Bytes) (whole : length disk ≡ blockCount g * g .blockSize) (slot : ℕ)
+      (here : slot < g .slots) (placed : Placed g disk number) (hidden : Trace)
+      (hides : Hides g slot hidden) where
     stored-round :
         (choice : PublicChoice) →
         All (Stored (g .blockSize) (blockCount g)) (roundTrace choice g disk number slot content hidden)
     stored-round =
-        round-stored g f disk whole number inside slot here content sized (old-of-placed g disk number placed) hidden hides
+        round-stored g f disk whole number inside slot here content sized
+        (old-of-placed g disk number placed) hidden hides
 
     -- the last round
     last-ran :
         isAllocated g disk slot ≡ false → (state : HiddenState) →
-        Ran g number content slot 0 disk (followedBy (roundTrace writePublic g disk number slot content hidden) (stopped state))
+        Ran g number content slot 0 disk
+        (followedBy (roundTrace writePublic g disk number slot content hidden) (stopped state))
     unfolding keptRounds
     last-ran free state =
-        let e : slotAfter g slot 0 ≡ slot = ap (λ (n : ℕ). n % g .slots) (add-zero slot) ∙ mod-eq-of-lt here in
+        let e : slotAfter g slot 0 ≡ slot =
+        ap (λ (n : ℕ). n % g .slots) (add-zero slot) ∙ mod-eq-of-lt here in
         let round = roundTrace writePublic g disk number slot content hidden in
         record {
           counted = refl;
           listed =
-            ap addresses (append-nil round) ∙ addresses-last g disk number slot content hidden hides
-            ∙ ap (lastRound g number (mapEntry g disk number)) (sym e);
+              ap addresses (append-nil round) ∙ addresses-last g disk number slot content hidden hides
+              ∙ ap (lastRound g number (mapEntry g disk number)) (sym e);
           stored = rw append-nil (stored-round writePublic);
           wrote =
-            rw (e, append-nil) (last-wrote g f disk whole number inside slot here content sized placed hidden hides free);
+              rw (e, append-nil)
+              (last-wrote g f disk whole number inside slot here content sized placed hidden hides free);
         }
 
     -- a kept round and then a run
     kept-ran :
         (earlier : ℕ) (run : Run) →
-        Ran g number content (nextSlot g slot) earlier (afterRound keepPublic g disk number slot content hidden) run →
-        Ran g number content slot (suc earlier) disk (followedBy (roundTrace keepPublic g disk number slot content hidden) run)
+        Ran g number content (nextSlot g slot) earlier
+        (afterRound keepPublic g disk number slot content hidden) run →
+        Ran g number content slot (suc earlier) disk
+        (followedBy (roundTrace keepPublic g disk number slot content hidden) run)
     unfolding keptRounds
     kept-ran earlier run ran =
         let kept = afterRound keepPublic g disk number slot content hidden in
@@ -90,26 +103,30 @@ module _ (g : Geometry) (f : Fits g) (number : ℕ) (inside : number < g .public
         record {
           counted = ap suc (ran .counted);
           listed =
-            addresses-append round (run .trace)
-            ∙ ap₂ (λ (xs ys : List ℕ). xs ++ ys) (addresses-kept g disk number slot content hidden hides) (ran .listed)
-            ∙ rw (entry, same)
-            (append-between (slotAddresses g slot) 0 (keptRounds earlier g (nextSlot g slot))
-            (lastRound g number (mapEntry g disk number) (slotAfter g slot (suc earlier))));
+              addresses-append round (run .trace)
+              ∙ ap₂ (λ (xs ys : List ℕ). xs ++ ys) (addresses-kept g disk number slot content hidden hides)
+              (ran .listed)
+              ∙ rw (entry, same)
+              (append-between (slotAddresses g slot) 0 (keptRounds earlier g (nextSlot g slot))
+              (lastRound g number (mapEntry g disk number) (slotAfter g slot (suc earlier))));
           stored =
-            all-append (Stored (g .blockSize) (blockCount g)) round (run .trace) (stored-round keepPublic) (ran .stored);
+              all-append (Stored (g .blockSize) (blockCount g)) round (run .trace) (stored-round keepPublic)
+              (ran .stored);
           wrote =
-            kept-wrote g f disk whole number inside slot here content sized placed hidden hides (slotAfter g slot (suc earlier))
-            (apply (g .blockSize) (round ++ run .trace) disk)
-            (rw (← same, apply-append) (ran .wrote));
+              kept-wrote g f disk whole number inside slot here content sized placed hidden hides
+              (slotAfter g slot (suc earlier))
+              (apply (g .blockSize) (round ++ run .trace) disk)
+              (rw (← same, apply-append) (ran .wrote));
         }
 
   -- ---- all rounds ----
 
   -- what a run of at most so many rounds does, from any slot of any disk
-  abbrev RanBy : (most : ℕ) → Type 0
+  abbrev pub RanBy : (most : ℕ) → Type 0
   RanBy most =
-      (disk : Bytes) → length disk ≡ blockCount g * g .blockSize → (slot : ℕ) → slot < g .slots → Placed g disk number →
-      (random : Bytes) (state : HiddenState) (earlier : ℕ) → roundsTo most (isAllocated g disk) g slot ≡ suc earlier →
+      (disk : Bytes) → length disk ≡ blockCount g * g .blockSize → (slot : ℕ) → slot < g .slots →
+      Placed g disk number → (random : Bytes) (state : HiddenState) (earlier : ℕ) →
+      roundsTo most (isAllocated g disk) g slot ≡ suc earlier →
       suc earlier * (g .height * g .blockSize) ≤ length random → All (WholeWrite g) (state .waiting) →
       Ran g number content slot earlier disk (runFrom most g number content slot random disk state)
 
@@ -139,19 +156,24 @@ module _ (g : Geometry) (f : Fits g) (number : ℕ) (inside : number < g .public
         let old = old-of-placed g disk number placed in
         let kept = afterRound keepPublic g disk number slot content (part .trace) in
         let more = oneMore-of (roundsTo most (isAllocated g disk) g (nextSlot g slot)) earlier
-          (sym (roundsTo-taken most (isAllocated g disk) g slot taken) ∙ rounds) in
-        let same = roundsTo-ext most (isAllocated g kept) (isAllocated g disk) g f (nextSlot g slot) (nextSlot-lt g slot f)
-          (isAllocated-kept g f disk whole number inside slot here content sized old (part .trace) (hides .hides)) in
+        (sym (roundsTo-taken most (isAllocated g disk) g slot taken) ∙ rounds) in
+        let same = roundsTo-ext most (isAllocated g kept) (isAllocated g disk) g f (nextSlot g slot)
+        (nextSlot-lt g slot f)
+        (isAllocated-kept g f disk whole number inside slot here content sized old (part .trace)
+        (hides .hides)) in
         let e : suc (more .before) ≡ earlier = sym (more .earlier-is) in
-        let rest : suc (more .before) * (g .height * g .blockSize) ≤ length (drop (g .height * g .blockSize) random) =
+        let rest : suc (more .before) * (g .height * g .blockSize) ≤
+        length (drop (g .height * g .blockSize) random) =
         simp length-drop (omega (arith, rw (more .earlier-is) at enough)) in
         subst (λ (n : ℕ). Ran g number content slot n disk (runBy keepPublic)) e
         (kept-ran disk whole slot here placed (part .trace) (hides .hides) (more .before) _
         (later kept
-        (length-round g f disk whole number inside slot here content sized old (part .trace) (hides .hides) keepPublic ∙ whole)
+        (length-round g f disk whole number inside slot here content sized old (part .trace)
+        (hides .hides) keepPublic ∙ whole)
         (nextSlot g slot) (nextSlot-lt g slot f)
         (placed-kept g f disk whole number inside slot here content sized placed (part .trace) (hides .hides))
-        (drop (g .height * g .blockSize) random) (part .state) (more .before) (same ∙ more .rounds-is) rest (hides .waiting)))
+        (drop (g .height * g .blockSize) random) (part .state) (more .before) (same ∙ more .rounds-is) rest
+        (hides .waiting)))
 
   one-more : (most : ℕ) → RanBy most → RanBy (suc most)
   unfolding runFrom
@@ -192,7 +214,8 @@ module _ (g : Geometry) (number : ℕ) (content : Bytes) (slot rounds : ℕ) (so
 
 -- the slot of the last of so many rounds
 pub slotAfter-rounds :
-    (g : Geometry) (slot rounds : ℕ) → rounds ≢ 0 → slotAfter g slot (rounds - 1) ≡ (slot + rounds - 1) % g .slots
+    (g : Geometry) (slot rounds : ℕ) → rounds ≢ 0 →
+    slotAfter g slot (rounds - 1) ≡ (slot + rounds - 1) % g .slots
 slotAfter-rounds g slot rounds some =
     let e : slot + (rounds - 1) ≡ slot + rounds - 1 = omega arith in
     ap (λ (n : ℕ). n % g .slots) e

@@ -1,22 +1,19 @@
--- Laws of the run of a write that is not refused: its rounds are those that the bitmap says, its stores those of so
--- many rounds from the head on, and its effect is that of a run. Assumes nothing.
-use mathlib.Core.Path.{_≡_, refl, sym, ap, _∙_}
+-- Laws of the run of a write: its hidden writes are whole, its rounds are those that the bitmap says, and its
+-- stores and its effect those of so many rounds from the head on. Assumes nothing.
+use mathlib.Core.Path.{_≡_}
 use mathlib.Core.Logic.{_≢_}
-use mathlib.Core.Bool.{Bool, true, false, not}
 use mathlib.Core.Option.{Option, none, some}
-use mathlib.Core.List.{List, [], _∷_}
-use Prim.Native.Nat.{ℕ, suc, _+_, _*_, _-_, _%_, _≤_, _<_}
+use Prim.Native.Nat.{ℕ, suc, _*_, _-_, _≤_, _<_}
 use native.Mathlib.Nat.{mul-assoc}
 use native.Mathlib.Omega.{arith}
-use lib.Dec.{leb, eqb}
+use lib.Dec.{eqb}
 use lib.ListN.{length}
 use borrow.Author.Tests.{eqb-true, not-false}
-use Rattle.laws.specs.Checks.{check, firstOf}
 use Rattle.laws.proofs.Cases.{cond-cases}
-use Rattle.laws.proofs.Checks.{Passed, passed-of-zero}
+use Rattle.laws.proofs.Checks.{passed-of-zero}
 use Rattle.model.specs.Geometry.{Geometry, Fits, blockCount}
 use Rattle.model.specs.Blocks.{Bytes}
-use Rattle.model.specs.Layout.{geometryIn, headIn, mapEntry}
+use Rattle.model.specs.Layout.{geometryIn, headIn}
 use Rattle.model.specs.HiddenHalf.{HiddenWrite}
 use Rattle.model.specs.Refusals.{roundCount, hiddenChecks, hiddenWriteRefusal}
 use Rattle.model.specs.Calls.{offeredWrites, startState, writeRun}
@@ -30,30 +27,37 @@ use Rattle.model.proofs.Laws.Runs.{Ran, runFrom-ran}
 
 -- a hidden write that is not refused is whole
 pub whole-of-hiddenWriteRefusal :
-    (g : Geometry) (number : ℕ) (content : Bytes) → hiddenWriteRefusal g number content ≡ 0 → length content ≡ g .blockSize
+    (g : Geometry) (number : ℕ) (content : Bytes) → hiddenWriteRefusal g number content ≡ 0 →
+    length content ≡ g .blockSize
 unfolding hiddenWriteRefusal hiddenChecks
 whole-of-hiddenWriteRefusal g number content e =
-    let passed = passed-of-zero (hiddenChecks g number (length content)) ((λ z. omega arith), ((λ z. omega arith), tt)) e in
+    let passed = passed-of-zero (hiddenChecks g number (length content))
+    ((λ z. omega arith), ((λ z. omega arith), tt)) e in
     eqb-true (length content) (g .blockSize) (not-false (eqb (length content) (g .blockSize)) (passed .1 .0))
 
 -- what a call brings to its rounds is whole
-pub offeredWrites-whole : (g : Geometry) (offer : Option HiddenWrite) → All (WholeWrite g) (offeredWrites g offer)
+pub offeredWrites-whole :
+    (g : Geometry) (offer : Option HiddenWrite) → All (WholeWrite g) (offeredWrites g offer)
 unfolding offeredWrites
 offeredWrites-whole g none = tt
 offeredWrites-whole g (some write) =
     cond-cases (All (WholeWrite g)) (eqb (hiddenWriteRefusal g (write .number) (write .content)) 0)
-    (λ e. (whole-of-hiddenWriteRefusal g (write .number) (write .content)
-    (eqb-true (hiddenWriteRefusal g (write .number) (write .content)) 0 e), tt))
+    (λ e. (
+      whole-of-hiddenWriteRefusal g (write .number) (write .content)
+          (eqb-true (hiddenWriteRefusal g (write .number) (write .content)) 0 e),
+      tt,
+    ))
     (λ e. tt)
 
 -- ---- the run ----
 
 pub writeRun-ran :
-    (g : Geometry) → Fits g → (disk : Bytes) → length disk ≡ blockCount g * g .blockSize → headIn disk < g .slots →
-    (number : ℕ) → number < g .publics → (content : Bytes) → length content ≡ g .blockSize → Placed g disk number →
-    (random : Bytes) → roundCount g disk ≢ 0 → roundCount g disk * g .height * g .blockSize ≤ length random →
-    (offer : Option HiddenWrite) →
-    Ran g number content (headIn disk) (roundCount g disk - 1) disk (writeRun g disk number content random offer)
+    (g : Geometry) → Fits g → (disk : Bytes) → length disk ≡ blockCount g * g .blockSize →
+    headIn disk < g .slots → (number : ℕ) → number < g .publics → (content : Bytes) →
+    length content ≡ g .blockSize → Placed g disk number → (random : Bytes) → roundCount g disk ≢ 0 →
+    roundCount g disk * g .height * g .blockSize ≤ length random → (offer : Option HiddenWrite) →
+    Ran g number content (headIn disk) (roundCount g disk - 1) disk
+    (writeRun g disk number content random offer)
 unfolding writeRun
 writeRun-ran g f disk whole head number inside content sized placed random rounds enough offer =
     let e : roundCount g disk ≡ suc (roundCount g disk - 1) = omega arith in
@@ -72,4 +76,5 @@ pub writeRun-accepted :
     Ran (geometryIn disk) number content (headIn disk) (roundCount (geometryIn disk) disk - 1) disk
     (writeRun (geometryIn disk) disk number content random offer)
 writeRun-accepted disk accepted =
-    writeRun-ran (geometryIn disk) (accepted .sized .fits) disk (accepted .sized .whole) (accepted .head-inside)
+    writeRun-ran (geometryIn disk) (accepted .sized .fits) disk (accepted .sized .whole)
+    (accepted .head-inside)

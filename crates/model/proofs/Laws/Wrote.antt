@@ -1,14 +1,15 @@
--- What a run of rounds leaves in header, map, bitmap and public blocks: after its last round, and with one more kept
--- round before. Assumes nothing.
+-- What a run of rounds leaves in header, map, bitmap and public blocks: after its last round, and with one
+-- more kept round before. Assumes nothing.
 use mathlib.Core.Path.{_≡_, sym, ap, _∙_}
 use mathlib.Core.Logic.{_≢_, _⊎_, inl, inr}
-use mathlib.Core.Bool.{Bool, true, false}
+use mathlib.Core.Bool.{true, false}
 use Prim.Native.Nat.{ℕ, _*_, _<_}
 use lib.ListN.{length}
 use Rattle.laws.proofs.Cases.{and-left, and-right, and-both, true-is-not-false}
 use Rattle.model.specs.Geometry.{Geometry, Fits, bitmapBlocks, blockCount}
 use Rattle.model.specs.Blocks.{Bytes, blockAt, entryAt}
-use Rattle.model.specs.Layout.{headIn, slotStart, slotOf, nextSlot, areaPlace, mapEntry, isSlotBlock, isAllocated, isPlace}
+use Rattle.model.specs.Layout.{headIn, slotStart, slotOf, nextSlot, areaPlace, mapEntry, isSlotBlock}
+use Rattle.model.specs.Layout.{isAllocated, isPlace}
 use Rattle.model.specs.Stores.{Trace}
 use Rattle.model.specs.Table.{keepPublic, writePublic}
 use Rattle.model.specs.Invariants.{bitmapBit}
@@ -17,7 +18,11 @@ use Rattle.model.proofs.Laws.Paths.{Hides}
 use Rattle.model.proofs.Laws.PublicHalf.{OldPlace}
 use Rattle.model.proofs.Laws.RoundStores.{afterRound, length-round}
 use Rattle.model.proofs.Laws.Rounds.{entryAt-round, headIn-round, blockAt-round-start-other}
-use Rattle.model.proofs.Laws.RoundEffects.{mapEntry-kept, bitmapBit-kept, isAllocated-kept, blockAt-kept-start, blockAt-last-start, mapEntry-last-same, mapEntry-last-other, bitmapBit-last-new, bitmapBit-last-old, bitmapBit-last-other, isAllocated-last-new, isAllocated-last-old, isAllocated-last-other}
+use Rattle.model.proofs.Laws.RoundEffects.{mapEntry-kept, bitmapBit-kept, isAllocated-kept}
+use Rattle.model.proofs.Laws.RoundEffects.{blockAt-kept-start, blockAt-last-start, mapEntry-last-same}
+use Rattle.model.proofs.Laws.RoundEffects.{mapEntry-last-other, bitmapBit-last-new, bitmapBit-last-old}
+use Rattle.model.proofs.Laws.RoundEffects.{bitmapBit-last-other, isAllocated-last-new}
+use Rattle.model.proofs.Laws.RoundEffects.{isAllocated-last-old, isAllocated-last-other}
 
 -- ---- a number's place ----
 
@@ -25,7 +30,8 @@ use Rattle.model.proofs.Laws.RoundEffects.{mapEntry-kept, bitmapBit-kep
 abbrev pub Placed : Geometry → (disk : Bytes) → (number : ℕ) → Type 0
 Placed g disk number = (mapEntry g disk number ≡ 0) ⊎ (isPlace g disk (mapEntry g disk number) ≡ true)
 
-pub old-of-placed : (g : Geometry) (disk : Bytes) (number : ℕ) → Placed g disk number → OldPlace g (mapEntry g disk number)
+pub old-of-placed :
+    (g : Geometry) (disk : Bytes) (number : ℕ) → Placed g disk number → OldPlace g (mapEntry g disk number)
 unfolding isPlace
 old-of-placed g disk number (inl e) = inl e
 old-of-placed g disk number (inr e) =
@@ -87,22 +93,36 @@ module _ (g : Geometry) (f : Fits g) (disk : Bytes) (whole : length disk ≡ blo
   last-wrote free =
       let apart = placed-apart g disk number slot placed free in
       record {
-        whole = length-round g f disk whole number counted slot inside content sized old hidden hides writePublic ∙ whole;
+        whole = length-round g f disk whole number counted slot inside content sized
+            old hidden hides writePublic ∙ whole;
         inside = inside;
         was-free = free;
-        fields = entryAt-round g f disk whole number counted slot inside content sized old hidden hides writePublic;
-        head = headIn-round g f disk whole number counted slot inside content sized old hidden hides writePublic;
-        map-same = mapEntry-last-same g f disk whole number counted slot inside content sized old hidden hides;
-        map-other = mapEntry-last-other g f disk whole number counted slot inside content sized old hidden hides;
-        mark-new = isAllocated-last-new g f disk whole number counted slot inside content sized old hidden hides apart;
-        mark-old = isAllocated-last-old g f disk whole number counted slot inside content sized old hidden hides;
-        mark-other = isAllocated-last-other g f disk whole number counted slot inside content sized old hidden hides;
-        bit-new = bitmapBit-last-new g f disk whole number counted slot inside content sized old hidden hides apart;
+        fields =
+            entryAt-round g f disk whole number counted slot inside content sized
+            old hidden hides writePublic;
+        head = headIn-round g f disk whole number counted slot inside content sized
+            old hidden hides writePublic;
+        map-same =
+            mapEntry-last-same g f disk whole number counted slot inside content sized old hidden hides;
+        map-other =
+            mapEntry-last-other g f disk whole number counted slot inside content sized old hidden hides;
+        mark-new =
+            isAllocated-last-new g f disk whole number counted slot inside content sized
+            old hidden hides apart;
+        mark-old =
+            isAllocated-last-old g f disk whole number counted slot inside content sized old hidden hides;
+        mark-other =
+            isAllocated-last-other g f disk whole number counted slot inside content sized old hidden hides;
+        bit-new =
+            bitmapBit-last-new g f disk whole number counted slot inside content sized old hidden hides apart;
         bit-old = bitmapBit-last-old g f disk whole number counted slot inside content sized old hidden hides;
-        bit-other = bitmapBit-last-other g f disk whole number counted slot inside content sized old hidden hides;
-        block-new = blockAt-last-start g f disk whole number counted slot inside content sized old hidden hides;
+        bit-other =
+            bitmapBit-last-other g f disk whole number counted slot inside content sized old hidden hides;
+        block-new =
+            blockAt-last-start g f disk whole number counted slot inside content sized old hidden hides;
         block-other =
-          blockAt-round-start-other g f disk whole number counted slot inside content sized old hidden hides writePublic;
+            blockAt-round-start-other g f disk whole number counted slot inside content sized
+            old hidden hides writePublic;
       }
 
   abbrev kept : Bytes
@@ -112,7 +132,8 @@ module _ (g : Geometry) (f : Fits g) (disk : Bytes) (whole : length disk ≡ blo
   mark-kept = isAllocated-kept g f disk whole number counted slot inside content sized old hidden hides
 
   pub entry-kept : mapEntry g kept number ≡ mapEntry g disk number
-  entry-kept = mapEntry-kept g f disk whole number counted slot inside content sized old hidden hides number counted
+  entry-kept =
+      mapEntry-kept g f disk whole number counted slot inside content sized old hidden hides number counted
 
   pub placed-kept : Placed g kept number
   unfolding isPlace
@@ -123,35 +144,41 @@ module _ (g : Geometry) (f : Fits g) (disk : Bytes) (whole : length disk ≡ blo
       by (inr e) (inl z) = inl (entry-kept ∙ z)
       by (inr e) (inr block) =
           inr (rw entry-kept (and-both
-          (and-left (isSlotBlock g 0 (mapEntry g disk number)) (isAllocated g disk (slotOf g (mapEntry g disk number))) e)
+          (and-left (isSlotBlock g 0 (mapEntry g disk number))
+          (isAllocated g disk (slotOf g (mapEntry g disk number))) e)
           (mark-kept (slotOf g (mapEntry g disk number)) (block .slot-inside)
-          ∙ and-right (isSlotBlock g 0 (mapEntry g disk number)) (isAllocated g disk (slotOf g (mapEntry g disk number))) e)))
+          ∙ and-right (isSlotBlock g 0 (mapEntry g disk number))
+          (isAllocated g disk (slotOf g (mapEntry g disk number))) e)))
 
   -- a kept round before
-  pub kept-wrote : (last : ℕ) (final : Bytes) → Wrote g number content last kept final → Wrote g number content last disk final
+  pub kept-wrote :
+      (last : ℕ) (final : Bytes) → Wrote g number content last kept final →
+      Wrote g number content last disk final
   kept-wrote last final w =
       record {
         whole = w .whole;
         inside = w .inside;
         was-free = sym (mark-kept last (w .inside)) ∙ w .was-free;
         fields = λ i h.
-          w .fields i h
-          ∙ entryAt-round g f disk whole number counted slot inside content sized old hidden hides keepPublic i h;
+            w .fields i h
+            ∙ entryAt-round g f disk whole number counted slot inside content sized
+            old hidden hides keepPublic i h;
         head = w .head;
         map-same = w .map-same;
         map-other = λ other h ne.
-          w .map-other other h ne
-          ∙ mapEntry-kept g f disk whole number counted slot inside content sized old hidden hides other h;
+            w .map-other other h ne
+            ∙ mapEntry-kept g f disk whole number counted slot inside content sized old hidden hides other h;
         mark-new = w .mark-new;
         mark-old = rw entry-kept at (w .mark-old);
         mark-other = λ other h ne apart. w .mark-other other h ne (rw entry-kept apart) ∙ mark-kept other h;
         bit-new = w .bit-new;
         bit-old = rw entry-kept at (w .bit-old);
         bit-other = λ place h ne apart.
-          w .bit-other place h ne (rw entry-kept apart)
-          ∙ bitmapBit-kept g f disk whole number counted slot inside content sized old hidden hides place h;
+            w .bit-other place h ne (rw entry-kept apart)
+            ∙ bitmapBit-kept g f disk whole number counted slot inside content sized old hidden hides place h;
         block-new = w .block-new;
         block-other = λ other ne.
-          w .block-other other ne
-          ∙ blockAt-kept-start g f disk whole number counted slot inside content sized old hidden hides other;
+            w .block-other other ne
+            ∙ blockAt-kept-start g f disk whole number counted slot inside content sized
+            old hidden hides other;
       }

@@ -2,12 +2,15 @@
 pub mod Keys
 pub mod Ghost
 pub mod Walks
+pub mod Live
 pub mod Invariant
 pub mod FromInvariant
 pub mod Nodes
 pub mod Planted
+pub mod Linking
 pub mod Planting
 pub mod Stored
 pub mod Unused
 pub mod Placing
 pub mod Turns
+pub mod Shown

@@ -1,8 +1,8 @@
--- The hidden tree as a ghost: for each level and key the slot whose block of that level is current. The current nodes by
--- it, what it says of a disk, and how long its nodes are. Assumes nothing.
-use mathlib.Core.Path.{_≡_, refl, sym, ap, _∙_, subst}
+-- The hidden tree as a ghost: for each level and key the slot whose block of that level is current. The nodes
+-- by it, what it says of a disk, laws of nodes, and the empty tree. Assumes nothing.
+use mathlib.Core.Path.{_≡_, refl, sym, ap, subst}
 use mathlib.Core.Logic.{⊎-elim}
-use mathlib.Core.Bool.{Bool, cond}
+use mathlib.Core.Bool.{cond}
 use mathlib.Core.List.{List, [], _∷_}
 use mathlib.Core.Option.{Option, none, some}
 use Prim.Native.Nat.{ℕ, zero, suc, _*_, _≤_, _<_}
@@ -11,7 +11,7 @@ use lib.Dec.{eqb}
 use lib.ListN.{length, length-replicate}
 use borrow.Author.Tests.{eq-eqb, ne-eqb}
 use Rattle.laws.proofs.Cases.{cond-true, cond-false, eq-cases}
-use Rattle.model.specs.Geometry.{Geometry, Fits, rootAddress, blockCount, treeCapacity}
+use Rattle.model.specs.Geometry.{Geometry, rootAddress, blockCount, treeCapacity}
 use Rattle.model.specs.Blocks.{Bytes, DiskAddress, blockAt, entryAt, zeroBlock}
 use Rattle.model.specs.Layout.{levelAddress}
 use Rattle.model.specs.HiddenTree.{branchAt}
@@ -66,7 +66,7 @@ pub record Linked (g : Geometry) (disk : Bytes) (tree : Tree) : Type 0 where
       (number level slot : ℕ) → number < treeCapacity g → level < g .height →
       slotAt g tree level number ≡ some slot → slot < g .slots
 
--- the owner of a slot that is a number's at a level: it holds the slot, and it shares the number's entry there
+-- of a slot that is a number's at a level: its owner holds it, and shares the number's entry there
 pub record Owned (g : Geometry) (disk : Bytes) (tree : Tree) (number level slot : ℕ) : Type 0 where
   pub owner-lt : ownerOf g disk slot < g .hidden
   pub holds : slotAt g tree 0 (ownerOf g disk slot) ≡ some slot
@@ -89,6 +89,9 @@ valueOf g disk tree number = blockIn g disk (slotAt g tree 0 number)
 
 -- ---- nodes ----
 
+pub none-is-not-some : {A : Type 0} (slot : ℕ) → none ≡ some slot → A
+none-is-not-some slot e = absurd (let z : _≡_ {A = ℕ} 0 1 = cc in omega arith)
+
 pub some-inj : (n m : ℕ) → some n ≡ some m → n ≡ m
 some-inj n m e = cc
 
@@ -96,7 +99,8 @@ some-inj n m e = cc
 pub nodeIn-same :
     (g : Geometry) (disk after : Bytes) (level : ℕ) (held : Option ℕ) →
     ((slot : ℕ) → held ≡ some slot →
-    blockAt (g .blockSize) after (levelAddress g slot level) ≡ blockAt (g .blockSize) disk (levelAddress g slot level)) →
+    blockAt (g .blockSize) after (levelAddress g slot level) ≡
+    blockAt (g .blockSize) disk (levelAddress g slot level)) →
     nodeIn g after level held ≡ nodeIn g disk level held
 nodeIn-same g disk after level none same = refl
 nodeIn-same g disk after level (some slot) same = same slot refl
@@ -104,31 +108,32 @@ nodeIn-same g disk after level (some slot) same = same slot refl
 pub blockIn-same :
     (g : Geometry) (disk after : Bytes) (held : Option ℕ) →
     ((slot : ℕ) → held ≡ some slot →
-    blockAt (g .blockSize) after (levelAddress g slot 0) ≡ blockAt (g .blockSize) disk (levelAddress g slot 0)) →
+    blockAt (g .blockSize) after (levelAddress g slot 0) ≡
+    blockAt (g .blockSize) disk (levelAddress g slot 0)) →
     blockIn g after held ≡ blockIn g disk held
 blockIn-same g disk after none same = refl
 blockIn-same g disk after (some slot) same = ap {B = Option Bytes} some (same slot refl)
 
 module _ (g : Geometry) (disk : Bytes) (tree : Tree) where
-  pub nodeAt-height : (number : ℕ) → nodeAt g disk tree (g .height) number ≡ blockAt (g .blockSize) disk (rootAddress g)
+  pub nodeAt-height :
+      (number : ℕ) → nodeAt g disk tree (g .height) number ≡ blockAt (g .blockSize) disk (rootAddress g)
   unfolding nodeAt
   nodeAt-height number = cond-true _ _ (eq-eqb (g .height) (g .height) refl)
 
   pub nodeAt-below :
-      (level number : ℕ) → level < g .height → nodeAt g disk tree level number ≡ nodeIn g disk level (slotAt g tree level number)
+      (level number : ℕ) → level < g .height →
+      nodeAt g disk tree level number ≡ nodeIn g disk level (slotAt g tree level number)
   unfolding nodeAt
   nodeAt-below level number h = cond-false _ _ (ne-eqb level (g .height) (λ e. omega arith))
 
   -- a node is the same for all who share its key
-  pub nodeAt-same : (level n m : ℕ) → keyOf g level n ≡ keyOf g level m → nodeAt g disk tree level n ≡ nodeAt g disk tree level m
+  pub nodeAt-same : (level n m : ℕ) → keyOf g level n ≡ keyOf g level m →
+      nodeAt g disk tree level n ≡ nodeAt g disk tree level m
   unfolding nodeAt
   nodeAt-same level n m e =
-      ap (λ (key : ℕ). cond (eqb level (g .height)) (blockAt (g .blockSize) disk (rootAddress g)) (nodeIn g disk level (tree level key))) e
-
-  pub nodesFrom-suc :
-      (number level : ℕ) → nodesFrom g disk tree number (suc level) ≡ nodeAt g disk tree (suc level) number ∷ nodesFrom g disk tree number level
-  unfolding nodesFrom
-  nodesFrom-suc number level = refl
+      ap (λ (key : ℕ).
+      cond (eqb level (g .height)) (blockAt (g .blockSize) disk (rootAddress g))
+      (nodeIn g disk level (tree level key))) e
 
   pub length-nodesFrom : (number level : ℕ) → length (nodesFrom g disk tree number level) ≡ level
   unfolding nodesFrom
@@ -137,24 +142,31 @@ module _ (g : Geometry) (disk : Bytes) (tree : Tree) where
 
   -- what holds of the root and of every node below it holds of every node
   pub nodeAt-cases :
-      (P : ℕ → Bytes → Type 0) (level number : ℕ) → level ≤ g .height → P (g .height) (blockAt (g .blockSize) disk (rootAddress g)) →
-      (level < g .height → P level (nodeIn g disk level (slotAt g tree level number))) → P level (nodeAt g disk tree level number)
+      (P : ℕ → Bytes → Type 0) (level number : ℕ) → level ≤ g .height →
+      P (g .height) (blockAt (g .blockSize) disk (rootAddress g)) →
+      (level < g .height → P level (nodeIn g disk level (slotAt g tree level number))) →
+      P level (nodeAt g disk tree level number)
   nodeAt-cases P level number h p q =
       ⊎-elim
-      (λ e. subst (λ (l : ℕ). P l (nodeAt g disk tree l number)) (sym e) (subst (P (g .height)) (sym (nodeAt-height number)) p))
-      (λ e. let k : level < g .height = omega arith in subst (P level) (sym (nodeAt-below level number k)) (q k))
+      (λ e.
+      subst (λ (l : ℕ). P l (nodeAt g disk tree l number)) (sym e)
+      (subst (P (g .height)) (sym (nodeAt-height number)) p))
+      (λ e.
+      let k : level < g .height = omega arith in
+      subst (P level) (sym (nodeAt-below level number k)) (q k))
       (eq-cases level (g .height))
 
   -- every node is a whole block
   pub length-nodeAt :
-      length disk ≡ blockCount g * g .blockSize → Linked g disk tree → (level number : ℕ) → level ≤ g .height →
-      number < treeCapacity g → length (nodeAt g disk tree level number) ≡ g .blockSize
+      length disk ≡ blockCount g * g .blockSize → Linked g disk tree → (level number : ℕ) →
+      level ≤ g .height → number < treeCapacity g → length (nodeAt g disk tree level number) ≡ g .blockSize
   length-nodeAt whole links level number h k =
       nodeAt-cases (λ (l : ℕ) (node : Bytes). length node ≡ g .blockSize) level number h
       (length-blockAt (g .blockSize) disk (blockCount g) whole (rootAddress g) (rootAddress-lt g))
       (λ l. below l (slotAt g tree level number) refl)
     where
-      below : level < g .height → (slot : Option ℕ) → slotAt g tree level number ≡ slot → length (nodeIn g disk level slot) ≡ g .blockSize
+      below : level < g .height → (slot : Option ℕ) → slotAt g tree level number ≡ slot →
+          length (nodeIn g disk level slot) ≡ g .blockSize
       below l none e = length-replicate (g .blockSize) 0
       below l (some slot) e =
           length-blockAt (g .blockSize) disk (blockCount g) whole (levelAddress g slot level)
@@ -167,19 +179,17 @@ emptyTree level key = none
 
 -- a disk whose root entries are all 0 has it
 pub ghost-empty :
-    (g : Geometry) (disk : Bytes) → ((index : ℕ) → entryAt index (blockAt (g .blockSize) disk (rootAddress g)) ≡ 0) →
-    Ghost g disk emptyTree
+    (g : Geometry) (disk : Bytes) →
+    ((index : ℕ) → entryAt index (blockAt (g .blockSize) disk (rootAddress g)) ≡ 0) → Ghost g disk emptyTree
 ghost-empty g disk zeros =
     record {
       links = record { linked = zero-linked; inside = λ number level slot h k e. none-is-not-some slot e };
       owned = λ number level slot h k e. none-is-not-some slot e;
     }
   where
-    none-is-not-some : {A : Type 0} (slot : ℕ) → none ≡ some slot → A
-    none-is-not-some slot e = absurd (let z : _≡_ {A = ℕ} 0 1 = cc in omega arith)
-
     zero-linked : (number level : ℕ) → number < treeCapacity g → level < g .height →
         entryAt (branchAt g number level) (nodeAt g disk emptyTree (suc level) number) ≡ 0
     zero-linked number level h k =
-        nodeAt-cases g disk emptyTree (λ (l : ℕ) (node : Bytes). entryAt (branchAt g number level) node ≡ 0) (suc level) number
-        (omega arith) (zeros (branchAt g number level)) (λ l. entryAt-replicate (g .blockSize) (branchAt g number level))
+        nodeAt-cases g disk emptyTree (λ (l : ℕ) (node : Bytes). entryAt (branchAt g number level) node ≡ 0)
+        (suc level) number (omega arith) (zeros (branchAt g number level))
+        (λ l. entryAt-replicate (g .blockSize) (branchAt g number level))

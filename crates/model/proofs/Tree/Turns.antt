@@ -1,33 +1,35 @@
--- One round's hidden half under the ghost tree: it is never blocked, the new disk has a ghost tree again, and at most the
--- hidden write that it places changes what a number shows. Assumes nothing.
+-- One round's hidden half under the ghost tree: it is never blocked, the new disk has a ghost tree again, and
+-- at most the hidden write that it places changes what a number shows. Assumes nothing.
 use mathlib.Core.Path.{_≡_, refl, sym, ap, _∙_, subst}
-use mathlib.Core.Logic.{_≢_, _⊎_, inl, inr, ⊎-elim}
-use mathlib.Core.Bool.{Bool, true, false, cond}
+use mathlib.Core.Logic.{_≢_, ⊎-elim}
+use mathlib.Core.Bool.{true, false, cond}
 use mathlib.Core.List.{List, [], _∷_}
-use mathlib.Core.Option.{Option, none, some}
-use Prim.Native.Nat.{ℕ, zero, suc, _+_, _*_, _-_, _≤_, _<_}
-use native.Mathlib.Omega.{arith}
+use mathlib.Core.Option.{Option, some}
+use Prim.Native.Nat.{ℕ, _*_, _<_}
 use lib.ListN.{length}
 use Rattle.laws.proofs.Cases.{true-is-not-false, bool-cases, eq-cases, cond-false}
 use Rattle.model.specs.Geometry.{Geometry, Fits, blockCount, treeCapacity}
 use Rattle.model.specs.Blocks.{Bytes, blockAt}
 use Rattle.model.specs.Layout.{levelAddress, isAllocated}
-use Rattle.model.specs.Table.{Row, rowAt, HiddenChoice, keepHidden, placeHidden, fillHidden}
-use Rattle.model.specs.HiddenHalf.{HiddenWrite, HiddenState, HiddenHalf, half, isWaiting, ownerOf, isLive, placedState, blockedState, hiddenBy, rowOf, hiddenHalf, isBlocked}
+use Rattle.model.specs.Table.{Row, HiddenChoice, keepHidden, placeHidden, fillHidden}
+use Rattle.model.specs.HiddenHalf.{HiddenWrite, HiddenState, HiddenHalf, half, isWaiting, ownerOf}
+use Rattle.model.specs.HiddenHalf.{isLive, placedState, blockedState, hiddenBy, rowOf, hiddenHalf}
 use Rattle.model.specs.Paths.{currentPath, writtenBack, dummyStores}
-use Rattle.model.proofs.Laws.Stores.{All}
 use Rattle.model.proofs.Laws.Table.{rowAt-ruled}
-use Rattle.model.proofs.Tree.Ghost.{Tree, slotAt, Ghost, blockIn, valueOf}
-use Rattle.model.proofs.Tree.Walks.{owner-lt-of-isLive, holds-of-isLive, isBlocked-false}
+use Rattle.model.proofs.Tree.Ghost.{Tree, Ghost, blockIn, valueOf}
+use Rattle.model.proofs.Tree.Live.{GoodNumbers, owner-lt-of-isLive, holds-of-isLive, isBlocked-false}
 use Rattle.model.proofs.Tree.Stored.{Follows}
-use Rattle.model.proofs.Tree.Placing.{placedTree, ghost-path, valueOf-path-same, valueOf-path-other, ghost-dummy, valueOf-dummy}
+use Rattle.model.proofs.Tree.Planted.{placedTree}
+use Rattle.model.proofs.Tree.Placing.{placement, ghost-dummy, valueOf-dummy}
 
 -- what a half changes of what the numbers show: nothing, or the number of the hidden write that it places
 pub data Turn (g : Geometry) (state next : HiddenState) (before now : ℕ → Option Bytes) : Type 0 where
-  still : next ≡ state → ((number : ℕ) → number < treeCapacity g → now number ≡ before number) → Turn g state next before now
-  places : (write : HiddenWrite) (later : List HiddenWrite) → state .waiting ≡ write ∷ later → next ≡ placedState state later →
-      now (write .number) ≡ some (write .content) →
-      ((number : ℕ) → number < treeCapacity g → number ≢ write .number → now number ≡ before number) → Turn g state next before now
+  still : next ≡ state → ((number : ℕ) → number < treeCapacity g → now number ≡ before number) →
+      Turn g state next before now
+  places : (write : HiddenWrite) (later : List HiddenWrite) → state .waiting ≡ write ∷ later →
+      next ≡ placedState state later → now (write .number) ≡ some (write .content) →
+      ((number : ℕ) → number < treeCapacity g → number ≢ write .number → now number ≡ before number) →
+      Turn g state next before now
 
 -- the tree after a half, and what it changed
 pub record Turned (g : Geometry) (disk after : Bytes) (tree : Tree) (state next : HiddenState) : Type 0 where
@@ -35,38 +37,42 @@ pub record Turned (g : Geometry) (disk after : Bytes) (tree : Tree) (state next 
   pub ghost : Ghost g after grown
   pub turn : Turn g state next (valueOf g disk tree) (valueOf g after grown)
 
-module _ (g : Geometry) (f : Fits g) (disk : Bytes) (tree : Tree) (whole : length disk ≡ blockCount g * g .blockSize)
-  (start : Ghost g disk tree) (slot : ℕ) (here : slot < g .slots) (state : HiddenState) where
+module _ (g : Geometry) (f : Fits g) (disk : Bytes) (tree : Tree)
+    (whole : length disk ≡ blockCount g * g .blockSize)
+    (start : Ghost g disk tree) (slot : ℕ) (here : slot < g .slots) (state : HiddenState) where
   -- a half after which every disk that follows it has its tree
   abbrev Turns : HiddenHalf → Type 0
-  Turns part = (after : Bytes) → Follows g disk after (part .trace) → Turned g disk after tree state (part .state)
+  Turns part =
+      (after : Bytes) → Follows g disk after (part .trace) → Turned g disk after tree state (part .state)
 
   -- a live slot: its owner's path anew, the data kept
   turns-live : isLive g disk slot ≡ true →
-      Turns (half (currentPath g disk (ownerOf g disk slot) slot (blockAt (g .blockSize) disk (levelAddress g slot 0))) state)
+      Turns
+      (half (currentPath g disk (ownerOf g disk slot) slot
+      (blockAt (g .blockSize) disk (levelAddress g slot 0))) state)
   turns-live live after follows =
+      let placed = placement g f disk after tree whole start owner slot _ low here (λ e. refl) follows in
       record {
-        grown = placedTree g f disk after tree whole start owner slot content low here (λ e. refl) follows;
-        ghost = ghost-path g f disk after tree whole start owner slot content low here (λ e. refl) follows;
-        turn = still refl (λ number h. ⊎-elim
-        (λ e.
-        ap (valueOf g after (placedTree g f disk after tree whole start owner slot content low here (λ e. refl) follows)) e
-        ∙ valueOf-path-same g f disk after tree whole start owner slot content low here (λ e. refl) follows
-        ∙ sym (ap (blockIn g disk) (holds-of-isLive g f disk tree start slot live)) ∙ ap (valueOf g disk tree) (sym e))
-        (valueOf-path-other g f disk after tree whole start owner slot content low here (λ e. refl) follows number h)
-        (eq-cases number owner));
+        grown = placedTree g tree owner slot;
+        ghost = placed .ghost;
+        turn = still refl (λ number h.
+            ⊎-elim
+            (λ e.
+            ap (valueOf g after (placedTree g tree owner slot)) e ∙ placed .value-same
+            ∙ sym (ap (blockIn g disk) (holds-of-isLive g f disk tree start slot live))
+            ∙ ap (valueOf g disk tree) (sym e))
+            (placed .value-other number h) (eq-cases number owner));
       }
     where
       owner : ℕ
       owner = ownerOf g disk slot
 
-      content : Bytes
-      content = blockAt (g .blockSize) disk (levelAddress g slot 0)
-
       low : ownerOf g disk slot < g .hidden
       low = owner-lt-of-isLive g f disk tree start slot live
 
-  turns-dummy : isLive g disk slot ≡ false → (random : Bytes) → Turns (half (dummyStores g disk slot random) state)
+  -- a slot that is not live and no hidden write waiting
+  turns-dummy : isLive g disk slot ≡ false → (random : Bytes) →
+      Turns (half (dummyStores g disk slot random) state)
   turns-dummy free random after follows =
       record {
         grown = tree;
@@ -75,47 +81,51 @@ module _ (g : Geometry) (f : Fits g) (disk : Bytes) (tree : Tree) (whole : lengt
       }
 
   -- a hidden write placed
-  turns-placed : isLive g disk slot ≡ false → (write : HiddenWrite) (later : List HiddenWrite) → state .waiting ≡ write ∷ later →
-      write .number < g .hidden → Turns (half (currentPath g disk (write .number) slot (write .content)) (placedState state later))
+  turns-placed : isLive g disk slot ≡ false → (write : HiddenWrite) (later : List HiddenWrite) →
+      state .waiting ≡ write ∷ later → write .number < g .hidden →
+      Turns (half (currentPath g disk (write .number) slot (write .content)) (placedState state later))
   turns-placed free write later e low after follows =
+      let placed = placement g f disk after tree whole start (write .number) slot (write .content) low here
+      (λ live. true-is-not-false live free) follows in
       record {
-        grown = placedTree g f disk after tree whole start (write .number) slot (write .content) low here mine follows;
-        ghost = ghost-path g f disk after tree whole start (write .number) slot (write .content) low here mine follows;
-        turn =
-        places write later e refl
-        (valueOf-path-same g f disk after tree whole start (write .number) slot (write .content) low here mine follows)
-        (valueOf-path-other g f disk after tree whole start (write .number) slot (write .content) low here mine follows);
+        grown = placedTree g tree (write .number) slot;
+        ghost = placed .ghost;
+        turn = places write later e refl (placed .value-same) (placed .value-other);
       }
-    where
-      mine : isLive g disk slot ≡ true → ownerOf g disk slot ≡ write .number
-      mine live = true-is-not-false live free
 
   -- the table's choice for the slot
   choice-live : isLive g disk slot ≡ true → rowOf g disk slot (state .waiting) .hidden ≡ keepHidden
-  choice-live live = ap (λ (chosen : Row). chosen .hidden) (rowAt-ruled (isWaiting (state .waiting)) (isAllocated g disk slot) (isLive g disk slot)) ∙ rw live
+  choice-live live =
+      ap (λ (chosen : Row). chosen .hidden)
+      (rowAt-ruled (isWaiting (state .waiting)) (isAllocated g disk slot) (isLive g disk slot)) ∙ rw live
 
-  choice-free : isLive g disk slot ≡ false → rowOf g disk slot (state .waiting) .hidden ≡ cond (isWaiting (state .waiting)) placeHidden fillHidden
-  choice-free free = ap (λ (chosen : Row). chosen .hidden) (rowAt-ruled (isWaiting (state .waiting)) (isAllocated g disk slot) (isLive g disk slot)) ∙ rw free
+  choice-free : isLive g disk slot ≡ false →
+      rowOf g disk slot (state .waiting) .hidden ≡ cond (isWaiting (state .waiting)) placeHidden fillHidden
+  choice-free free =
+      ap (λ (chosen : Row). chosen .hidden)
+      (rowAt-ruled (isWaiting (state .waiting)) (isAllocated g disk slot) (isLive g disk slot)) ∙ rw free
 
-  turns-free : isLive g disk slot ≡ false → (random : Bytes) (waiting : List HiddenWrite) → state .waiting ≡ waiting →
-      All (λ (write : HiddenWrite). write .number < g .hidden) waiting →
+  turns-free : isLive g disk slot ≡ false → (random : Bytes) (waiting : List HiddenWrite) →
+      state .waiting ≡ waiting → GoodNumbers g waiting →
       Turns (hiddenBy (cond (isWaiting waiting) placeHidden fillHidden) g disk slot random state waiting)
   unfolding hiddenBy
   turns-free free random [] e h = turns-dummy free random
   turns-free free random (write ∷ later) e h = turns-placed free write later e (h .0)
 
   pub hiddenHalf-turns :
-      (random : Bytes) → All (λ (write : HiddenWrite). write .number < g .hidden) (state .waiting) → (after : Bytes) →
+      (random : Bytes) → GoodNumbers g (state .waiting) → (after : Bytes) →
       Follows g disk after (hiddenHalf g disk slot random state .trace) →
       Turned g disk after tree state (hiddenHalf g disk slot random state .state)
   unfolding hiddenHalf hiddenBy
   hiddenHalf-turns random h =
       subst Turns
-      (sym (cond-false (half (writtenBack g disk slot) (blockedState state)) _ (isBlocked-false g f disk tree start slot (state .waiting) h)))
+      (sym (cond-false (half (writtenBack g disk slot) (blockedState state)) _
+      (isBlocked-false g f disk tree start slot (state .waiting) h)))
       (⊎-elim
       (λ e.
-      subst (λ (choice : HiddenChoice). Turns (hiddenBy choice g disk slot random state (state .waiting))) (sym (choice-live e)) (turns-live e))
+      subst (λ (choice : HiddenChoice). Turns (hiddenBy choice g disk slot random state (state .waiting)))
+      (sym (choice-live e)) (turns-live e))
       (λ e.
-      subst (λ (choice : HiddenChoice). Turns (hiddenBy choice g disk slot random state (state .waiting))) (sym (choice-free e))
-      (turns-free e random (state .waiting) refl h))
+      subst (λ (choice : HiddenChoice). Turns (hiddenBy choice g disk slot random state (state .waiting)))
+      (sym (choice-free e)) (turns-free e random (state .waiting) refl h))
       (bool-cases (isLive g disk slot)))

@@ -1,26 +1,25 @@
--- Walks under the ghost tree: a walk passes the current nodes and ends where the tree says, so none is damaged; a slot is
--- live just if its owner holds it; and no round is blocked. Assumes nothing.
-use mathlib.Core.Path.{_≡_, refl, sym, ap, ap₂, _∙_, subst}
-use mathlib.Core.Logic.{_≢_, _⊎_, inl, inr, ⊎-elim}
-use mathlib.Core.Bool.{Bool, true, false, cond, not, _&&_, _||_}
+-- Walks under the ghost tree: a walk passes the current nodes and ends where the tree says, so none is
+-- damaged. Assumes nothing.
+use mathlib.Core.Path.{_≡_, refl, sym, ap, ap₂, _∙_}
+use mathlib.Core.Logic.{_≢_}
+use mathlib.Core.Bool.{true, false, cond}
 use mathlib.Core.List.{List, [], _∷_}
 use mathlib.Core.Option.{Option, none, some}
-use Prim.Native.Nat.{ℕ, zero, suc, _+_, _*_, _-_, _≤_, _<_}
+use Prim.Native.Nat.{ℕ, zero, suc, _-_, _<_}
 use native.Mathlib.Omega.{arith}
-use lib.Dec.{eqb, ltb}
-use lib.ListN.{length, replicate}
-use borrow.Author.Tests.{eq-eqb, ne-eqb, eqb-true, ltb-true, lt-ltb}
-use Rattle.laws.proofs.Cases.{true-is-not-false, bool-cases, cond-true, cond-false, and-left, and-right, and-both, and-false-left, and-false-right, or-neither}
-use Rattle.model.specs.Geometry.{Geometry, Fits, rootAddress, treeCapacity}
+use lib.Dec.{eqb}
+use lib.ListN.{replicate}
+use borrow.Author.Tests.{ne-eqb, eqb-true}
+use Rattle.laws.proofs.Cases.{true-is-not-false, cond-true, cond-false}
+use Rattle.model.specs.Geometry.{Geometry, Fits, treeCapacity}
 use Rattle.model.specs.Blocks.{Bytes, DiskAddress, blockAt, entryAt, zeroBlock}
 use Rattle.model.specs.Layout.{slotOf, levelAddress, isWellFormed}
-use Rattle.model.specs.HiddenTree.{branchAt, End, found, unmapped, damaged, isDamaged, isFoundAt, Walk, ended, passing, walkFrom, walk}
-use Rattle.model.specs.HiddenHalf.{HiddenWrite, ownerOf, isLive, isOwnerDamaged, isNextDamaged, isBlocked}
+use Rattle.model.specs.HiddenTree.{branchAt, End, found, unmapped, damaged, isDamaged, isFoundAt, Walk}
+use Rattle.model.specs.HiddenTree.{ended, passing, walkFrom, walk}
 use Rattle.model.proofs.Laws.Entries.{entryAt-replicate}
 use Rattle.model.proofs.Laws.Slots.{isWellFormed-levelAddress, slotOf-levelAddress}
-use Rattle.model.proofs.Laws.Stores.{All}
-use Rattle.model.proofs.Tree.Keys.{lt-treeCapacity}
-use Rattle.model.proofs.Tree.Ghost.{Tree, slotAt, entryTo, nodeIn, nodeAt, nodesFrom, Linked, Ghost, nodeAt-height, nodeAt-below, nodesFrom-suc}
+use Rattle.model.proofs.Tree.Ghost.{Tree, slotAt, entryTo, nodeIn, nodeAt, nodesFrom, Linked}
+use Rattle.model.proofs.Tree.Ghost.{nodeAt-height, nodeAt-below}
 
 -- where a walk ends that comes to a slot
 abbrev pub endIn : Geometry → Option ℕ → End
@@ -29,30 +28,36 @@ endIn g (some slot) = found (levelAddress g slot 0)
 
 -- ---- a walk ----
 
-module _ (g : Geometry) (disk : Bytes) (tree : Tree) (links : Linked g disk tree) (number : ℕ) (low : number < treeCapacity g) where
+module _ (g : Geometry) (disk : Bytes) (tree : Tree) (links : Linked g disk tree) (number : ℕ)
+    (low : number < treeCapacity g) where
   none-of-entryTo : (level : ℕ) (slot : Option ℕ) → entryTo g level slot ≡ 0 → slot ≡ none
   none-of-entryTo level none e = refl
   none-of-entryTo level (some slot) e = absurd (omega arith)
 
   -- nothing hangs below what is not there
-  none-below : (level : ℕ) → suc level < g .height → slotAt g tree (suc level) number ≡ none → slotAt g tree level number ≡ none
+  none-below : (level : ℕ) → suc level < g .height → slotAt g tree (suc level) number ≡ none →
+      slotAt g tree level number ≡ none
   none-below level h e =
       none-of-entryTo level (slotAt g tree level number)
       (sym (links .linked number level low (omega arith))
-      ∙ ap (entryAt (branchAt g number level)) (nodeAt-below g disk tree (suc level) number h ∙ ap (nodeIn g disk (suc level)) e)
+      ∙ ap (entryAt (branchAt g number level))
+      (nodeAt-below g disk tree (suc level) number h ∙ ap (nodeIn g disk (suc level)) e)
       ∙ entryAt-replicate (g .blockSize) (branchAt g number level))
 
   none-nodes : (level : ℕ) → level < g .height → slotAt g tree level number ≡ none →
-      (nodesFrom g disk tree number level ≡ replicate level (zeroBlock (g .blockSize))) × (slotAt g tree 0 number ≡ none)
+      (nodesFrom g disk tree number level ≡ replicate level (zeroBlock (g .blockSize))) ×
+      (slotAt g tree 0 number ≡ none)
   unfolding nodesFrom
   none-nodes zero h e = (refl, e)
   none-nodes (suc level) h e =
-      let rest = none-nodes level (omega arith) (none-below level h e) in
-      (ap₂ {C = List Bytes} (λ (node : Bytes) (nodes : List Bytes). node ∷ nodes)
-      (nodeAt-below g disk tree (suc level) number h ∙ ap (nodeIn g disk (suc level)) e) (rest .0), rest .1)
+      let rest = none-nodes level (omega arith) (none-below level h e) in (
+        ap₂ {C = List Bytes} (λ (node : Bytes) (nodes : List Bytes). node ∷ nodes)
+            (nodeAt-below g disk tree (suc level) number h ∙ ap (nodeIn g disk (suc level)) e) (rest .0),
+        rest .1,
+      )
 
   -- what the tree says of a walk from a level down
-  abbrev walkBy : (level : ℕ) → Walk
+  abbrev pub walkBy : (level : ℕ) → Walk
   walkBy level = record { nodes = nodesFrom g disk tree number level; end = endIn g (slotAt g tree 0 number) }
 
   ended-none : (level : ℕ) → level < g .height → slotAt g tree level number ≡ none →
@@ -60,17 +65,19 @@ module _ (g : Geometry) (disk : Bytes) (tree : Tree) (links : Linked g disk tree
   unfolding nodesFrom
   ended-none level h e = made (none-nodes level h e .0) (none-nodes level h e .1)
     where
-      made : nodesFrom g disk tree number level ≡ replicate level (zeroBlock (g .blockSize)) → slotAt g tree 0 number ≡ none →
+      made : nodesFrom g disk tree number level ≡ replicate level (zeroBlock (g .blockSize)) →
+          slotAt g tree 0 number ≡ none →
           ended g (nodeAt g disk tree (suc level) number) level unmapped ≡ walkBy (suc level)
-      made p q = λ i. record { nodes = nodeAt g disk tree (suc level) number ∷ sym p i; end = endIn g (sym q i) }
+      made p q =
+          λ i. record { nodes = nodeAt g disk tree (suc level) number ∷ sym p i; end = endIn g (sym q i) }
 
   -- one step of a walk, by the entry that it meets
   abbrev stepAt : {A : Type 0} → (level : ℕ) → (entry : DiskAddress) → (onNone onBlock onDamage : A) → A
   stepAt level entry onNone onBlock onDamage =
       cond (eqb entry 0) onNone (cond (isWellFormed g level entry) onBlock onDamage)
 
-  stepAt-some : {A : Type 0} (level slot : ℕ) (onNone onBlock onDamage : A) → level < g .height → slot < g .slots →
-      stepAt level (levelAddress g slot level) onNone onBlock onDamage ≡ onBlock
+  stepAt-some : {A : Type 0} (level slot : ℕ) (onNone onBlock onDamage : A) → level < g .height →
+      slot < g .slots → stepAt level (levelAddress g slot level) onNone onBlock onDamage ≡ onBlock
   stepAt-some level slot onNone onBlock onDamage h k =
       cond-false _ _ (ne-eqb (levelAddress g slot level) 0 (λ z. omega arith))
       ∙ cond-true _ _ (isWellFormed-levelAddress g slot level k h)
@@ -79,7 +86,8 @@ module _ (g : Geometry) (disk : Bytes) (tree : Tree) (links : Linked g disk tree
       walkFrom g disk number level (nodeAt g disk tree (suc level) number) ≡ walkBy (suc level)
   unfolding walkFrom nodesFrom
   walkFrom-nodeAt zero h =
-      ap (λ (entry : ℕ). ended g node 0 (stepAt 0 entry unmapped (found entry) damaged)) (links .linked number 0 low h)
+      ap (λ (entry : ℕ). ended g node 0 (stepAt 0 entry unmapped (found entry) damaged))
+      (links .linked number 0 low h)
       ∙ go (slotAt g tree 0 number) refl
     where
       node : Bytes
@@ -90,7 +98,8 @@ module _ (g : Geometry) (disk : Bytes) (tree : Tree) (links : Linked g disk tree
       go none e = ended-none 0 h e
       go (some slot) e =
           ap (ended g node 0)
-          (stepAt-some 0 slot unmapped (found (levelAddress g slot 0)) damaged h (links .inside number 0 slot low h e))
+          (stepAt-some 0 slot unmapped (found (levelAddress g slot 0)) damaged h
+          (links .inside number 0 slot low h e))
           ∙ (λ i. record { nodes = node ∷ []; end = endIn g (sym e i) })
   walkFrom-nodeAt (suc level) h =
       ap (λ (entry : ℕ). step entry) (links .linked number (suc level) low h)
@@ -104,20 +113,23 @@ module _ (g : Geometry) (disk : Bytes) (tree : Tree) (links : Linked g disk tree
 
       step : (entry : DiskAddress) → Walk
       step entry =
-          stepAt (suc level) entry (ended g node (suc level) unmapped) (on entry) (ended g node (suc level) damaged)
+          stepAt (suc level) entry (ended g node (suc level) unmapped) (on entry)
+          (ended g node (suc level) damaged)
 
       go : walkFrom g disk number level (nodeAt g disk tree (suc level) number) ≡ walkBy (suc level) →
-          (slot : Option ℕ) → slotAt g tree (suc level) number ≡ slot → step (entryTo g (suc level) slot) ≡ walkBy (suc (suc level))
+          (slot : Option ℕ) → slotAt g tree (suc level) number ≡ slot →
+          step (entryTo g (suc level) slot) ≡ walkBy (suc (suc level))
       go below none e = ended-none (suc level) h e
       go below (some slot) e =
-          stepAt-some (suc level) slot (ended g node (suc level) unmapped) (on (levelAddress g slot (suc level)))
+          stepAt-some (suc level) slot (ended g node (suc level) unmapped)
+          (on (levelAddress g slot (suc level)))
           (ended g node (suc level) damaged) h (links .inside number (suc level) slot low h e)
           ∙ ap (λ (next : Bytes). passing node (walkFrom g disk number level next))
           (sym (nodeAt-below g disk tree (suc level) number h ∙ ap (nodeIn g disk (suc level)) e))
           ∙ ap (passing node) below
 
   -- a walk from the root
-  pub walk-is : Fits g → walk g disk number ≡ record { nodes = nodesFrom g disk tree number (g .height); end = endIn g (slotAt g tree 0 number) }
+  pub walk-is : Fits g → walk g disk number ≡ walkBy (g .height)
   walk-is f =
       let e : suc (g .height - 1) ≡ g .height = omega (arith, f .height-low) in
       ap (walkFrom g disk number (g .height - 1))
@@ -141,74 +153,11 @@ module _ (g : Geometry) (disk : Bytes) (tree : Tree) (links : Linked g disk tree
   walk-not-damaged f e = true-is-not-false (ap isDamaged e) (isDamaged-walk f)
 
 -- the slot where a walk ends
-pub some-of-endIn : (g : Geometry) (slot : ℕ) (held : Option ℕ) → 0 < g .height → isFoundAt (levelAddress g slot 0) (endIn g held) ≡ true → held ≡ some slot
+pub some-of-endIn : (g : Geometry) (slot : ℕ) (held : Option ℕ) → 0 < g .height →
+    isFoundAt (levelAddress g slot 0) (endIn g held) ≡ true → held ≡ some slot
 some-of-endIn g slot none h e = true-is-not-false e refl
 some-of-endIn g slot (some other) h e =
     ap {B = Option ℕ} some
     (sym (slotOf-levelAddress g other 0 h)
-    ∙ ap (slotOf g) (eqb-true (levelAddress g other 0) (levelAddress g slot 0) e) ∙ slotOf-levelAddress g slot 0 h)
-
--- ---- a slot's owner ----
-
-module _ (g : Geometry) (f : Fits g) (disk : Bytes) (tree : Tree) (ghost : Ghost g disk tree) where
-  -- a slot that the tree uses is live
-  pub isLive-of-used :
-      (number level slot : ℕ) → number < treeCapacity g → level < g .height → slotAt g tree level number ≡ some slot →
-      isLive g disk slot ≡ true
-  unfolding isLive
-  isLive-of-used number level slot h k e =
-      let own = ghost .owned number level slot h k e in
-      and-both (lt-ltb (ownerOf g disk slot) (g .hidden) (own .owner-lt))
-      (ap (isFoundAt (levelAddress g slot 0))
-      (walk-end g disk tree (ghost .links) (ownerOf g disk slot) (lt-treeCapacity g f (ownerOf g disk slot) (own .owner-lt)) f
-      ∙ ap (endIn g) (own .holds))
-      ∙ eq-eqb (levelAddress g slot 0) (levelAddress g slot 0) refl)
-
-  pub owner-lt-of-isLive : (slot : ℕ) → isLive g disk slot ≡ true → ownerOf g disk slot < g .hidden
-  unfolding isLive
-  owner-lt-of-isLive slot e = ltb-true (ownerOf g disk slot) (g .hidden) (and-left _ _ e)
-
-  pub holds-of-isLive : (slot : ℕ) → isLive g disk slot ≡ true → slotAt g tree 0 (ownerOf g disk slot) ≡ some slot
-  unfolding isLive
-  holds-of-isLive slot e =
-      let h : ownerOf g disk slot < g .hidden = ltb-true (ownerOf g disk slot) (g .hidden) (and-left _ _ e) in
-      some-of-endIn g slot (slotAt g tree 0 (ownerOf g disk slot)) (omega (arith, f .height-low))
-      (sym (ap (isFoundAt (levelAddress g slot 0))
-      (walk-end g disk tree (ghost .links) (ownerOf g disk slot) (lt-treeCapacity g f (ownerOf g disk slot) h) f))
-      ∙ and-right (ltb (ownerOf g disk slot) (g .hidden)) (isFoundAt (levelAddress g slot 0) (walk g disk (ownerOf g disk slot) .end)) e)
-
-  pub unused-of-not-isLive :
-      (slot : ℕ) → isLive g disk slot ≡ false → (number level : ℕ) → number < treeCapacity g → level < g .height →
-      slotAt g tree level number ≢ some slot
-  unused-of-not-isLive slot e number level h k p = true-is-not-false (isLive-of-used number level slot h k p) e
-
-  -- ---- no damage ----
-
-  pub isOwnerDamaged-false : (slot : ℕ) → isOwnerDamaged g disk slot ≡ false
-  unfolding isOwnerDamaged
-  isOwnerDamaged-false slot = ⊎-elim owned free (bool-cases (ltb (ownerOf g disk slot) (g .hidden)))
-    where
-      owned : ltb (ownerOf g disk slot) (g .hidden) ≡ true →
-          (ltb (ownerOf g disk slot) (g .hidden) && isDamaged (walk g disk (ownerOf g disk slot) .end)) ≡ false
-      owned e =
-          and-false-right (ltb (ownerOf g disk slot) (g .hidden))
-          (isDamaged-walk g disk tree (ghost .links) (ownerOf g disk slot)
-          (lt-treeCapacity g f (ownerOf g disk slot) (ltb-true (ownerOf g disk slot) (g .hidden) e)) f)
-
-      free : ltb (ownerOf g disk slot) (g .hidden) ≡ false →
-          (ltb (ownerOf g disk slot) (g .hidden) && isDamaged (walk g disk (ownerOf g disk slot) .end)) ≡ false
-      free e = and-false-left (isDamaged (walk g disk (ownerOf g disk slot) .end)) e
-
-  pub isNextDamaged-false :
-      (waiting : List HiddenWrite) → All (λ (write : HiddenWrite). write .number < g .hidden) waiting →
-      isNextDamaged g disk waiting ≡ false
-  unfolding isNextDamaged
-  isNextDamaged-false [] h = refl
-  isNextDamaged-false (next ∷ later) h =
-      isDamaged-walk g disk tree (ghost .links) (next .number) (lt-treeCapacity g f (next .number) (h .0)) f
-
-  pub isBlocked-false :
-      (slot : ℕ) (waiting : List HiddenWrite) → All (λ (write : HiddenWrite). write .number < g .hidden) waiting →
-      isBlocked g disk slot waiting ≡ false
-  isBlocked-false slot waiting h =
-      or-neither (isOwnerDamaged-false slot) (and-false-right (not (isLive g disk slot)) (isNextDamaged-false waiting h))
+    ∙ ap (slotOf g) (eqb-true (levelAddress g other 0) (levelAddress g slot 0) e)
+    ∙ slotOf-levelAddress g slot 0 h)

@@ -8,14 +8,14 @@ use Prim.Native.Nat.{ℕ, _<_}
 use native.Mathlib.Omega.{arith}
 use lib.Dec.{eqb}
 use borrow.Author.Tests.{eq-eqb, ne-eqb}
-use Rattle.laws.proofs.Cases.{eq-cases, true-is-not-false, and-left, and-right, and-both}
+use Rattle.laws.proofs.Cases.{eq-cases, and-left, and-right, and-both}
 use Rattle.laws.proofs.Cases.{cond-true, cond-false}
 use Rattle.model.specs.Geometry.{Geometry}
 use Rattle.model.specs.Blocks.{Bytes, DiskAddress, blockAt}
 use Rattle.model.specs.Layout.{slotStart, slotOf, isSlotBlock, isAllocated, mapEntry, isPlace}
 use Rattle.model.specs.Invariants.{PublicInvariant}
 use Rattle.model.proofs.Laws.Slots.{slotBlock-of, slotOf-slotStart, isSlotBlock-slotStart}
-use Rattle.model.proofs.Laws.Wrote.{Wrote}
+use Rattle.model.proofs.Laws.Wrote.{placed-apart, Wrote}
 
 -- ---- places ----
 
@@ -52,7 +52,8 @@ publicValue g disk number =
 -- ---- after a write ----
 
 module _ (g : Geometry) (disk after : Bytes) (number slot : ℕ) (content : Bytes)
-    (counted : number < g .publics) (sound : PublicInvariant g disk) (wrote : Wrote g number content slot disk after) where
+    (counted : number < g .publics) (sound : PublicInvariant g disk)
+    (wrote : Wrote g number content slot disk after) where
   -- the slot of a number's place
   abbrev home : (other : ℕ) → ℕ
   home other = slotOf g (mapEntry g disk other)
@@ -63,8 +64,7 @@ module _ (g : Geometry) (disk after : Bytes) (number slot : ℕ) (content : Byte
 
   -- no place is in the slot that the write takes
   home-not-new : (other : ℕ) → other < g .publics → mapEntry g disk other ≢ 0 → home other ≢ slot
-  home-not-new other h ne e =
-      true-is-not-false (ap (isAllocated g disk) (sym e) ∙ place-at other h ne .allocated) (wrote .was-free)
+  home-not-new other h ne = placed-apart g disk other slot (inr (sound .in-place other h ne)) (wrote .was-free) ne
 
   home-apart :
       (other : ℕ) → other < g .publics → other ≢ number → mapEntry g disk other ≢ 0 →

@@ -3,7 +3,7 @@
 use mathlib.Core.Path.{_≡_, refl, ap, _∙_}
 use mathlib.Core.Logic.{inl, inr, ⊎-elim}
 use mathlib.Core.Bool.{Bool, true, false, cond}
-use mathlib.Core.Option.{Option, none, some}
+use mathlib.Core.Option.{none, some}
 use Prim.Native.Nat.{ℕ, _<_}
 use native.Mathlib.Omega.{arith}
 use lib.Dec.{eqb}
@@ -20,8 +20,9 @@ use Rattle.model.specs.Calls.{publicRead, hiddenRead, shownAt}
 use Rattle.model.specs.Promises.ReadAfterWrite.{orElse}
 use Rattle.model.proofs.Laws.Calls.{AcceptedNumber, publicReadRefusal-of-accepted}
 use Rattle.model.proofs.Laws.Calls.{hiddenReadRefusal-of-accepted}
-use Rattle.model.proofs.Tree.Ghost.{Tree, slotAt, Ghost, blockIn, valueOf}
-use Rattle.model.proofs.Tree.Walks.{endIn, walk-end, isDamaged-walk}
+use Rattle.model.proofs.Tree.Ghost.{Tree, Ghost, valueOf}
+use Rattle.model.proofs.Tree.Walks.{isDamaged-walk}
+use Rattle.model.proofs.Tree.Shown.{shownAt-walk}
 use Rattle.model.proofs.Volumes.Public.{publicValue}
 
 module _ (g : Geometry) (disk : Bytes) (states : geometryIn disk ≡ g) (accepted : driveRefusal disk ≡ 0)
@@ -74,9 +75,4 @@ module _ (g : Geometry) (disk : Bytes) (states : geometryIn disk ≡ g) (accepte
     hiddenRead-shows =
         cond-true _ _ (eq-eqb (hiddenReadRefusal disk number blank) 0 hidden-read-accepted)
         ∙ ap (λ (v : Geometry). shownAt v disk blank (walk v disk number .end)) states
-        ∙ ap (shownAt g disk blank) (walk-end g disk tree (ghost .links) number low f)
-        ∙ by (slotAt g tree 0 number)
-      where
-        by : (slot : Option ℕ) → shownAt g disk blank (endIn g slot) ≡ orElse (blockIn g disk slot) blank
-        by none = refl
-        by (some slot) = refl
+        ∙ shownAt-walk g disk blank tree number f (ghost .links) low

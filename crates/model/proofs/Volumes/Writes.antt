@@ -131,8 +131,8 @@ module _ (g : Geometry) (disk : Bytes) (states : geometryIn disk ≡ g) (accepte
             earlier = roundCount g disk - 1;
             rounds = e;
             enough =
-                let random = rw (mul-assoc (roundCount g disk) (g .height) (g .blockSize)) at (facts .enough-random) in
-                rw (← e) random;
+                rw (← e)
+                (rw (mul-assoc (roundCount g disk) (g .height) (g .blockSize)) at (facts .enough-random));
             good = offeredWrites-good g offer;
           }
 

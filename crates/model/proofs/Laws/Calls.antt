@@ -50,12 +50,13 @@ passed-of-accepted :
     (g : Geometry) (disk : Bytes) (number size : ℕ) → AcceptedNumber g disk number size →
     Passed (placeChecks g disk number size)
 unfolding placeChecks
-passed-of-accepted g disk number size a =
+passed-of-accepted g disk number size good =
     let entry = mapEntry g disk number in
     let there : (eqb entry 0 || isPlace g disk entry) ≡ true =
-    ⊎-elim (λ e. or-left (isPlace g disk entry) (eq-eqb entry 0 e)) (or-right (eqb entry 0)) (a .in-place) in
-    let whole : eqb size (g .blockSize) ≡ true = eq-eqb size (g .blockSize) (a .block-sized) in
-    (lt-leb (g .publics) number (a .number-inside), (ap not whole, (ap not there, tt)))
+    ⊎-elim (λ e. or-left (isPlace g disk entry) (eq-eqb entry 0 e)) (or-right (eqb entry 0))
+    (good .in-place) in
+    let whole : eqb size (g .blockSize) ≡ true = eq-eqb size (g .blockSize) (good .block-sized) in
+    (lt-leb (g .publics) number (good .number-inside), (ap not whole, (ap not there, tt)))
 
 -- ---- the rounds of a write, refusals 7 to 9 ----
 
@@ -114,9 +115,9 @@ passed-of-hidden :
     isDamaged (walk g disk number .end) ≡ false →
     Passed (hiddenChecks g number size ++ walkChecks g disk number)
 unfolding hiddenChecks walkChecks
-passed-of-hidden g disk number size a e = (
-  lt-leb (g .hidden) number (a .number-inside),
-  (ap not (eq-eqb size (g .blockSize) (a .block-sized)), (e, tt)),
+passed-of-hidden g disk number size good e = (
+  lt-leb (g .hidden) number (good .number-inside),
+  (ap not (eq-eqb size (g .blockSize) (good .block-sized)), (e, tt)),
 )
 
 -- ---- the calls on a drive ----
@@ -126,38 +127,38 @@ module _ (g : Geometry) (disk : Bytes) (states : geometryIn disk ≡ g) (accepte
       (number : ℕ) (blank : Bytes) → AcceptedNumber g disk number (length blank) →
       publicReadRefusal disk number blank ≡ 0
   unfolding publicReadRefusal
-  publicReadRefusal-of-accepted number blank a =
+  publicReadRefusal-of-accepted number blank good =
       after-drive-pass disk (placeChecks (geometryIn disk) disk number (length blank)) accepted
-      ∙ ap (λ (v : Geometry). firstOf (placeChecks v disk number (length blank))) states
+      ∙ ap (λ (stated : Geometry). firstOf (placeChecks stated disk number (length blank))) states
       ∙ zero-of-passed (placeChecks g disk number (length blank))
-      (passed-of-accepted g disk number (length blank) a)
+      (passed-of-accepted g disk number (length blank) good)
 
   pub hiddenReadRefusal-of-accepted :
       (number : ℕ) (blank : Bytes) → AcceptedHidden g number (length blank) →
       isDamaged (walk g disk number .end) ≡ false → hiddenReadRefusal disk number blank ≡ 0
   unfolding hiddenReadRefusal
-  hiddenReadRefusal-of-accepted number blank a e =
+  hiddenReadRefusal-of-accepted number blank good e =
       after-drive-pass disk _ accepted
-      ∙ ap (λ (v : Geometry). firstOf (hiddenChecks v number (length blank) ++
-      walkChecks v disk number)) states
+      ∙ ap (λ (stated : Geometry). firstOf (hiddenChecks stated number (length blank) ++
+      walkChecks stated disk number)) states
       ∙ zero-of-passed (hiddenChecks g number (length blank) ++ walkChecks g disk number)
-      (passed-of-hidden g disk number (length blank) a e)
+      (passed-of-hidden g disk number (length blank) good e)
 
   module _ (number : ℕ) (content random : Bytes) (room : ℕ) (offer : Option HiddenWrite) where
     abbrev refusal : ℕ
     refusal = writeRefusal disk number content (length random) room
 
     abbrev place : Geometry → List Check
-    place v = placeChecks v disk number (length content)
+    place stated = placeChecks stated disk number (length content)
 
     abbrev rounds : Geometry → List Check
-    rounds v = roundChecks v disk number (length random) room
+    rounds stated = roundChecks stated disk number (length random) room
 
     pub accepted-write : refusal ≡ 0 → AcceptedWrite g disk number (length content) (length random) room
     unfolding writeRefusal
     accepted-write e =
         let z : firstOf (place g ++ rounds g) ≡ 0 =
-        ap (λ (v : Geometry). firstOf (place v ++ rounds v)) (sym states)
+        ap (λ (stated : Geometry). firstOf (place stated ++ rounds stated)) (sym states)
         ∙ sym (after-drive-pass disk (place (geometryIn disk) ++ rounds (geometryIn disk)) accepted) ∙ e in
         let p =
         passed-of-zero (place g ++ rounds g)
@@ -172,8 +173,8 @@ module _ (g : Geometry) (disk : Bytes) (states : geometryIn disk ≡ g) (accepte
     unfolding written
     written-done e =
         cond-true _ _ (eq-eqb refusal 0 e)
-        ∙ ap (λ (v : Geometry). doneWrite (offerRefusal v offer)
-        (writeRun v disk number content random offer)) states
+        ∙ ap (λ (stated : Geometry). doneWrite (offerRefusal stated offer)
+        (writeRun stated disk number content random offer)) states
 
     pub written-refused : refusal ≢ 0 → written disk number content random room offer ≡ refusedWrite refusal
     unfolding written

@@ -119,7 +119,7 @@ module _ (disk : Bytes) (g : Geometry) (good : formatRefusal disk g ≡ 0) where
       refusal-of-accepted (formatted disk g) (rw length-formatted (sized .long))
       (ap isGeometry geometry-formatted ∙ sized .accepted)
       (whole-formatted ∙ sym (ap driveSize geometry-formatted))
-      (subst (λ (v : Geometry). headIn (formatted disk g) < v .slots) (sym geometry-formatted)
+      (subst (λ (stated : Geometry). headIn (formatted disk g) < stated .slots) (sym geometry-formatted)
       (omega (arith, head-formatted, fits-formatted)))
 
   -- ---- from the map to the root ----

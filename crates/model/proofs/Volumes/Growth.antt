@@ -59,17 +59,17 @@ unfolding shownAfter
 progress-of-turn g f state result old new (still e same) =
     record {
       done = [];
-      waiting-is = ap (λ (s : HiddenState). s .waiting) (sym e);
+      waiting-is = ap (λ (held : HiddenState). held .waiting) (sym e);
       placed-is = rw e (omega arith);
-      damage-is = ap (λ (s : HiddenState). s .metDamage) e;
+      damage-is = ap (λ (held : HiddenState). held .metDamage) e;
       shows = λ number h. same number (omega (arith, f .hidden-fits));
     }
 progress-of-turn g f state result old new (places write later e q now same) =
     record {
       done = write ∷ [];
-      waiting-is = e ∙ ap (λ (s : HiddenState). write ∷ s .waiting) (sym q);
-      placed-is = ap (λ (s : HiddenState). s .placed) q ∙ omega arith;
-      damage-is = ap (λ (s : HiddenState). s .metDamage) q;
+      waiting-is = e ∙ ap (λ (held : HiddenState). write ∷ held .waiting) (sym q);
+      placed-is = ap (λ (held : HiddenState). held .placed) q ∙ omega arith;
+      damage-is = ap (λ (held : HiddenState). held .metDamage) q;
       shows = λ number h. ⊎-elim
           (λ z. ap new (sym z) ∙ now ∙ sym (cond-true _ _ (eq-eqb (write .number) number z)))
           (λ ne.

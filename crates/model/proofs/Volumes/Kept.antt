@@ -26,18 +26,19 @@ module _ (g : Geometry) (disk : Bytes) (states : geometryIn disk ≡ g) (accepte
   write-keeps-geometry : geometryIn after ≡ g
   write-keeps-geometry =
       write-cases g disk states accepted number content random room offer
-      (λ (r : Written) (final : Bytes). geometryIn final ≡ g) (λ ne. states) (λ run leaves. leaves .geometry)
+      (λ (made : Written) (final : Bytes). geometryIn final ≡ g) (λ ne. states)
+      (λ run leaves. leaves .geometry)
 
   write-keeps-accepted : driveRefusal after ≡ 0
   write-keeps-accepted =
       write-cases g disk states accepted number content random room offer
-      (λ (r : Written) (final : Bytes). driveRefusal final ≡ 0) (λ ne. accepted)
+      (λ (made : Written) (final : Bytes). driveRefusal final ≡ 0) (λ ne. accepted)
       (λ run leaves. leaves .accepted)
 
   pub write-keeps-public : PublicInvariant g disk → PublicInvariant g after
   write-keeps-public public =
       write-cases g disk states accepted number content random room offer
-      (λ (r : Written) (final : Bytes). PublicInvariant g final) (λ ne. public)
+      (λ (made : Written) (final : Bytes). PublicInvariant g final) (λ ne. public)
       (λ run leaves.
       write-preserves-public g disk (finalDisk g disk run) number (leaves .last) content (leaves .counted)
       public (leaves .wrote))
@@ -45,7 +46,7 @@ module _ (g : Geometry) (disk : Bytes) (states : geometryIn disk ≡ g) (accepte
   pub write-keeps-bitmap : PublicInvariant g disk → BitmapInvariant g disk → BitmapInvariant g after
   write-keeps-bitmap public bitmap =
       write-cases g disk states accepted number content random room offer
-      (λ (r : Written) (final : Bytes). BitmapInvariant g final) (λ ne. bitmap)
+      (λ (made : Written) (final : Bytes). BitmapInvariant g final) (λ ne. bitmap)
       (λ run leaves.
       write-preserves-bitmap g disk (finalDisk g disk run) number (leaves .last) content (leaves .counted)
       public bitmap (leaves .wrote))
@@ -53,7 +54,7 @@ module _ (g : Geometry) (disk : Bytes) (states : geometryIn disk ≡ g) (accepte
   pub write-keeps-hidden : HiddenInvariant g disk → HiddenInvariant g after
   write-keeps-hidden hidden =
       write-cases g disk states accepted number content random room offer
-      (λ (r : Written) (final : Bytes). HiddenInvariant g final) (λ ne. hidden)
+      (λ (made : Written) (final : Bytes). HiddenInvariant g final) (λ ne. hidden)
       (λ run leaves.
       let grew = leaves .grew (treeOf g disk) (ghost-of-hiddenInvariant g f disk hidden) in
       hiddenInvariant-of-ghost g f (finalDisk g disk run) (grew .grown) (grew .ghost))

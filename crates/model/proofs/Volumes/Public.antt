@@ -64,7 +64,8 @@ module _ (g : Geometry) (disk after : Bytes) (number slot : ℕ) (content : Byte
 
   -- no place is in the slot that the write takes
   home-not-new : (other : ℕ) → other < g .publics → mapEntry g disk other ≢ 0 → home other ≢ slot
-  home-not-new other h ne = placed-apart g disk other slot (inr (sound .in-place other h ne)) (wrote .was-free) ne
+  home-not-new other h ne =
+      placed-apart g disk other slot (inr (sound .in-place other h ne)) (wrote .was-free) ne
 
   home-apart :
       (other : ℕ) → other < g .publics → other ≢ number → mapEntry g disk other ≢ 0 →
@@ -117,8 +118,8 @@ module _ (g : Geometry) (disk after : Bytes) (number slot : ℕ) (content : Byte
           absurd (entry-not-new second k b (sym e ∙ ap (mapEntry g after) a ∙ wrote .map-same))
       by (inr a) (inl b) = absurd (entry-not-new first h a (e ∙ ap (mapEntry g after) b ∙ wrote .map-same))
       by (inr a) (inr b) =
-          let v = wrote .map-other first h a in
-          sound .apart first second h k (λ z. p (v ∙ z)) (sym v ∙ e ∙ wrote .map-other second k b)
+          let same = wrote .map-other first h a in
+          sound .apart first second h k (λ z. p (same ∙ z)) (sym same ∙ e ∙ wrote .map-other second k b)
 
   pub write-preserves-public : PublicInvariant g after
   write-preserves-public = record { in-place = in-place-after; apart = apart-after }

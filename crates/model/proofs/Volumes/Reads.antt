@@ -47,11 +47,11 @@ module _ (g : Geometry) (disk : Bytes) (states : geometryIn disk ≡ g) (accepte
     unfolding publicRead
     publicRead-shows =
         cond-true _ _ (eq-eqb (publicReadRefusal disk number blank) 0 public-read-accepted)
-        ∙ ap (λ (v : Geometry). shownBy v (mapEntry v disk number)) states
+        ∙ ap (λ (stated : Geometry). shownBy stated (mapEntry stated disk number)) states
         ∙ by (eqb (mapEntry g disk number) 0) (blockAt (g .blockSize) disk (mapEntry g disk number))
       where
         shownBy : Geometry → (entry : DiskAddress) → Bytes
-        shownBy v entry = cond (eqb entry 0) blank (blockAt (v .blockSize) disk entry)
+        shownBy stated entry = cond (eqb entry 0) blank (blockAt (stated .blockSize) disk entry)
 
         by : (isNone : Bool) (block : Bytes) →
             cond isNone blank block ≡ orElse (cond isNone none (some block)) blank
@@ -74,5 +74,5 @@ module _ (g : Geometry) (disk : Bytes) (states : geometryIn disk ≡ g) (accepte
     unfolding hiddenRead
     hiddenRead-shows =
         cond-true _ _ (eq-eqb (hiddenReadRefusal disk number blank) 0 hidden-read-accepted)
-        ∙ ap (λ (v : Geometry). shownAt v disk blank (walk v disk number .end)) states
+        ∙ ap (λ (stated : Geometry). shownAt stated disk blank (walk stated disk number .end)) states
         ∙ shownAt-walk g disk blank tree number f (ghost .links) low

@@ -55,9 +55,9 @@ module _ (g : Geometry) (disk : Bytes) (sound : Sound g disk) (number : ℕ) (co
 
   module _ (h : other < g .publics) where
     abbrev PublicCarried : Written → (final : Bytes) → Type 0
-    PublicCarried r final =
+    PublicCarried made final =
         Carries (publicRead disk other blank) (publicRead final other blank)
-        (λ before. cond (eqb number other && eqb (r .answer) 0) (some content) before)
+        (λ before. cond (eqb number other && eqb (made .answer) 0) (some content) before)
 
     module _ (run : Run) (leaves : Leaves g disk number content offer run) where
       abbrev final : Bytes
@@ -108,9 +108,9 @@ module _ (g : Geometry) (disk : Bytes) (sound : Sound g disk) (number : ℕ) (co
 
   module _ (h : other < g .hidden) where
     abbrev HiddenCarried : Written → (final : Bytes) → Type 0
-    HiddenCarried r final =
+    HiddenCarried made final =
         Carries (hiddenRead disk other blank) (hiddenRead final other blank)
-        (λ before. cond (isPlaced r) (offeredUnder other before offer) before)
+        (λ before. cond (isPlaced made) (offeredUnder other before offer) before)
 
     f : Fits g
     f = fits-of-accepted g disk (sound .geometry) (sound .accepted)

@@ -82,7 +82,7 @@ module _ (g : Geometry) (disk : Bytes) (states : geometryIn disk ≡ g) (accepte
   whole = drive .sized .whole ∙ ap driveSize states
 
   head-inside : headIn disk < g .slots
-  head-inside = subst (λ (v : Geometry). headIn disk < v .slots) states (drive .head-inside)
+  head-inside = subst (λ (stated : Geometry). headIn disk < stated .slots) states (drive .head-inside)
 
   module _ (number : ℕ) (content random : Bytes) (room : ℕ) (offer : Option HiddenWrite) where
     abbrev refusal : ℕ
@@ -118,7 +118,7 @@ module _ (g : Geometry) (disk : Bytes) (states : geometryIn disk ≡ g) (accepte
           (omega (arith, drive .sized .long, whole, run-wrote .whole))
           (ap isGeometry (run-geometry ∙ sym states) ∙ drive .sized .accepted)
           (run-wrote .whole ∙ sym (ap driveSize run-geometry))
-          (subst (λ (v : Geometry). headIn (finalDisk g disk run) < v .slots) (sym run-geometry)
+          (subst (λ (stated : Geometry). headIn (finalDisk g disk run) < stated .slots) (sym run-geometry)
           (rw (run-wrote .head) (nextSlot-lt g lastSlot f)))
 
       ready : Ready g number (g .slots) disk (headIn disk) random (startState (offeredWrites g offer))
@@ -169,11 +169,11 @@ module _ (g : Geometry) (disk : Bytes) (states : geometryIn disk ≡ g) (accepte
     unfolding apply
     write-cases P refused done = ⊎-elim
         (λ e.
-        subst (λ (r : Written). P r (writtenDisk r disk))
+        subst (λ (made : Written). P made (writtenDisk made disk))
         (sym (written-done g disk states accepted number content random room offer e))
-        (subst (λ (v : Geometry). P (doneWrite (offerRefusal g offer) run) (finalDisk v disk run))
+        (subst (λ (stated : Geometry). P (doneWrite (offerRefusal g offer) run) (finalDisk stated disk run))
         (sym states) (done run (run-leaves e))))
         (λ ne.
-        subst (λ (r : Written). P r (writtenDisk r disk))
+        subst (λ (made : Written). P made (writtenDisk made disk))
         (sym (written-refused g disk states accepted number content random room offer ne)) (refused ne))
         (eq-cases refusal 0)

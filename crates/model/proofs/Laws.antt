@@ -20,3 +20,5 @@ pub mod Wrote
 pub mod RoundCounts
 pub mod Runs
 pub mod WriteRuns
+pub mod Formatting
+pub mod Calls

@@ -2,5 +2,6 @@
 pub mod Figures
 pub mod Limits
 pub mod Refusals
-pub mod BufferBounds
 pub mod Noninterference
+pub mod ReadAfterWrite
+pub mod BufferBounds

@@ -3,6 +3,7 @@ ghost use Rattle.model.specs.Promises.Figures.{Figures};
 ghost use Rattle.model.specs.Promises.Limits.{Limits};
 ghost use Rattle.model.specs.Promises.Refusals.{Refusals};
 ghost use Rattle.model.specs.Promises.Noninterference.{Noninterference};
+ghost use Rattle.model.specs.Promises.ReadAfterWrite.{ReadAfterWrite};
 ghost use Rattle.model.specs.Promises.BufferBounds.{BufferBounds};
 
 // Holds the promises in its contract, so that none can be dropped or weakened unseen.
@@ -11,6 +12,7 @@ pub fn promises()
     ensures limits { λ _. ⌜ Limits ⌝ }
     ensures refusals { λ _. ⌜ Refusals ⌝ }
     ensures noninterference { λ _. ⌜ Noninterference ⌝ }
+    ensures read_after_write { λ _. ⌜ ReadAfterWrite ⌝ }
     ensures buffer_bounds { λ _. ⌜ BufferBounds ⌝ }
 {
 }

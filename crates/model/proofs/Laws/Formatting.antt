@@ -1,0 +1,181 @@
+-- Laws of formatting (document 01, "The disk"): the front that it writes, the header that reads back, zeros
+-- from the map to the root, and the data area as it was. Assumes nothing.
+use mathlib.Core.Path.{_≡_, sym, ap, _∙_, subst}
+use mathlib.Core.Bool.{false}
+use mathlib.Core.List.{[], _∷_}
+use Prim.Native.Nat.{ℕ, _+_, _*_, _-_, _/_, _%_, _^_, _≤_, _<_}
+use native.Mathlib.Nat.{mul-le-mul-right, zero-div, div-lt-iff-lt-mul}
+use native.Mathlib.Omega.{arith}
+use lib.ListN.{length, take, drop, length-append, length-replicate}
+use lib.Seq.{ext-getD, drop-append-add}
+use borrow.Author.Tests.{eq-eqb}
+use Rattle.laws.specs.Bits.{bitOf, bitAt}
+use Rattle.laws.specs.Lists.{part, over}
+use Rattle.laws.specs.Numbers.{numberOf, littleEndian}
+use Rattle.laws.proofs.Cases.{cond-true}
+use Rattle.laws.proofs.Lists.{length-part, part-part, getD-zeros, getD-part-zeros, length-over}
+use Rattle.laws.proofs.Lists.{part-over-same, part-over-after}
+use Rattle.laws.proofs.Numbers.{numberOf-littleEndian}
+use Rattle.model.specs.Geometry.{Geometry, Fits, fanout, mapBlocks, bitmapBlocks, rootAddress}
+use Rattle.model.specs.Geometry.{areaStart, blockCount, driveSize, isGeometry}
+use Rattle.model.specs.Blocks.{Bytes, DiskAddress, blockAt, entryAt, packed, zeroBlock}
+use Rattle.model.specs.Layout.{geometryIn, headIn, areaPlace, isAllocated, mapAddress, mapEntry}
+use Rattle.model.specs.Invariants.{bitmapBit}
+use Rattle.model.specs.Refusals.{formatRefusal, driveRefusal}
+use Rattle.model.specs.Calls.{headerBlock, freshFront, formatted}
+use Rattle.model.proofs.Laws.Geometry.{mapAddress-lt}
+use Rattle.model.proofs.Laws.Entries.{length-packed, entryAt-replicate}
+use Rattle.model.proofs.Laws.PublicMap.{mapEntry-is}
+use Rattle.model.proofs.Laws.BitmapBits.{isAllocated-bit, areaPlace-lt}
+use Rattle.model.proofs.Laws.Refusals.{Sized, sized-of-refusal, refusal-of-accepted}
+
+-- ---- zeros ----
+
+part-zeros : (from size count : ℕ) → from + size ≤ count → part from size (zeroBlock count) ≡ zeroBlock size
+part-zeros from size count h =
+    let l : length (part from size (zeroBlock count)) ≡ size =
+    length-part from size (zeroBlock count) (omega (arith, length-replicate {A = ℕ} count 0)) in
+    ext-getD 0 (part from size (zeroBlock count)) (zeroBlock size) (l ∙ sym (length-replicate size 0))
+    (λ i k. getD-part-zeros from size i (zeroBlock count) (getD-zeros count) ∙ sym (getD-zeros size i))
+
+bitAt-zeros : (place size : ℕ) → bitAt place (zeroBlock size) ≡ false
+unfolding bitAt bitOf
+bitAt-zeros place size = rw (getD-zeros size (place / 8), zero-div (2 ^ (place % 8)))
+
+-- ---- the front ----
+
+pub length-headerBlock : (g : Geometry) → Fits g → length (headerBlock g) ≡ g .blockSize
+unfolding headerBlock
+length-headerBlock g f =
+    let entries = g .blockSize ∷ g .height ∷ g .publics ∷ g .hidden ∷ g .slots ∷ 0 ∷ [] in
+    length-append (packed entries) (zeroBlock (g .blockSize - 24))
+    ∙ omega (arith, length-packed entries, length-replicate {A = ℕ} (g .blockSize - 24) 0)
+
+pub length-freshFront : (g : Geometry) → Fits g → length (freshFront g) ≡ areaStart g * g .blockSize
+unfolding freshFront
+length-freshFront g f =
+    let rest = (areaStart g - 1) * g .blockSize in
+    let e : areaStart g - 1 + 1 ≡ areaStart g = omega arith in
+    let split = ap (λ (n : ℕ). n * g .blockSize) e in
+    length-append (headerBlock g) (zeroBlock rest)
+    ∙ omega (arith, length-headerBlock g f, length-replicate {A = ℕ} rest 0, split)
+
+-- ---- the disk that formatting leaves ----
+
+module _ (disk : Bytes) (g : Geometry) (good : formatRefusal disk g ≡ 0) where
+  sized : Sized (length disk) g
+  sized = sized-of-refusal (length disk) g good
+
+  pub fits-formatted : Fits g
+  fits-formatted = sized .fits
+
+  pub formatted-is : formatted disk g ≡ over 0 (freshFront g) disk
+  unfolding formatted
+  formatted-is = cond-true _ _ (eq-eqb (formatRefusal disk g) 0 good)
+
+  front-inside : 0 + length (freshFront g) ≤ length disk
+  front-inside =
+      let le : areaStart g ≤ blockCount g = omega arith in
+      omega (arith, length-freshFront g fits-formatted, sized .whole, mul-le-mul-right (g .blockSize) le)
+
+  pub length-formatted : length (formatted disk g) ≡ length disk
+  length-formatted = rw formatted-is (length-over (freshFront g) disk 0 front-inside)
+
+  pub whole-formatted : length (formatted disk g) ≡ blockCount g * g .blockSize
+  whole-formatted = length-formatted ∙ sized .whole
+
+  -- what lies within the front is the front's
+  part-formatted :
+      (from size : ℕ) → from + size ≤ areaStart g * g .blockSize →
+      part from size (formatted disk g) ≡ part from size (freshFront g)
+  part-formatted from size h =
+      let fresh = over 0 (freshFront g) disk in
+      let e : 0 + from ≡ from = omega arith in
+      let inside : from + size ≤ length (freshFront g) = omega (arith, length-freshFront g fits-formatted) in
+      ap (part from size) formatted-is ∙ ap (λ (n : ℕ). part n size fresh) (sym e)
+      ∙ sym (part-part 0 (length (freshFront g)) from size fresh inside)
+      ∙ ap (part from size) (part-over-same (freshFront g) disk 0 front-inside)
+
+  -- ---- the header ----
+
+  pub geometry-formatted : geometryIn (formatted disk g) ≡ g
+  unfolding entryAt headerBlock freshFront over part packed littleEndian
+  geometry-formatted =
+      ap geometryIn formatted-is
+      ∙ λ i. record {
+        blockSize = numberOf-littleEndian 4 (g .blockSize) (omega (arith, fits-formatted)) i;
+        height = numberOf-littleEndian 4 (g .height) (omega (arith, fits-formatted)) i;
+        publics = numberOf-littleEndian 4 (g .publics) (omega (arith, fits-formatted)) i;
+        hidden = numberOf-littleEndian 4 (g .hidden) (omega (arith, fits-formatted)) i;
+        slots = numberOf-littleEndian 4 (g .slots) (omega (arith, fits-formatted)) i;
+      }
+
+  pub head-formatted : headIn (formatted disk g) ≡ 0
+  unfolding entryAt headerBlock freshFront over part packed littleEndian numberOf
+  head-formatted = ap headIn formatted-is
+
+  pub refusal-formatted : driveRefusal (formatted disk g) ≡ 0
+  refusal-formatted =
+      refusal-of-accepted (formatted disk g) (rw length-formatted (sized .long))
+      (ap isGeometry geometry-formatted ∙ sized .accepted)
+      (whole-formatted ∙ sym (ap driveSize geometry-formatted))
+      (subst (λ (stated : Geometry). headIn (formatted disk g) < stated .slots) (sym geometry-formatted)
+      (omega (arith, head-formatted, fits-formatted)))
+
+  -- ---- from the map to the root ----
+
+  pub blockAt-formatted-zeros :
+      (address : DiskAddress) → 1 ≤ address → address < areaStart g →
+      blockAt (g .blockSize) (formatted disk g) address ≡ zeroBlock (g .blockSize)
+  unfolding blockAt part freshFront
+  blockAt-formatted-zeros address low high =
+      let rest = (areaStart g - 1) * g .blockSize in
+      let before = (address - 1) * g .blockSize in
+      let k : address - 1 + 1 ≡ address = omega arith in
+      let le : address - 1 + 1 ≤ areaStart g - 1 = omega arith in
+      let split : address * g .blockSize ≡ length (headerBlock g) + before =
+      omega (arith, length-headerBlock g fits-formatted, ap (λ (n : ℕ). n * g .blockSize) k) in
+      part-formatted (address * g .blockSize) (g .blockSize)
+      (omega (arith, mul-le-mul-right (g .blockSize) high))
+      ∙ ap (λ (n : ℕ). take (g .blockSize) (drop n (freshFront g))) split
+      ∙ ap (take (g .blockSize)) (drop-append-add (headerBlock g) (zeroBlock rest) before)
+      ∙ part-zeros before (g .blockSize) rest (omega (arith, mul-le-mul-right (g .blockSize) le))
+
+  pub root-formatted :
+      (index : ℕ) → entryAt index (blockAt (g .blockSize) (formatted disk g) (rootAddress g)) ≡ 0
+  root-formatted index =
+      ap (entryAt index) (blockAt-formatted-zeros (rootAddress g) (omega arith) (omega arith))
+      ∙ entryAt-replicate (g .blockSize) index
+
+  pub mapEntry-formatted : (number : ℕ) → number < g .publics → mapEntry g (formatted disk g) number ≡ 0
+  mapEntry-formatted number h =
+      let high : mapAddress g number < areaStart g = omega (arith, mapAddress-lt g fits-formatted number h) in
+      mapEntry-is g (formatted disk g) number
+      ∙ ap (entryAt (number % fanout g)) (blockAt-formatted-zeros (mapAddress g number) (omega arith) high)
+      ∙ entryAt-replicate (g .blockSize) (number % fanout g)
+
+  pub bitmapBit-formatted :
+      (place : ℕ) → place < bitmapBlocks g * (8 * g .blockSize) → bitmapBit g (formatted disk g) place ≡ false
+  unfolding bitmapBit
+  bitmapBit-formatted place h =
+      let positive : 0 < 8 * g .blockSize = omega (arith, fits-formatted) in
+      let l : place / (8 * g .blockSize) < bitmapBlocks g = div-lt-iff-lt-mul positive .1 h in
+      ap (bitAt (place % (8 * g .blockSize)))
+      (blockAt-formatted-zeros (1 + mapBlocks g + place / (8 * g .blockSize)) (omega arith) (omega arith))
+      ∙ bitAt-zeros (place % (8 * g .blockSize)) (g .blockSize)
+
+  pub isAllocated-formatted : (slot : ℕ) → slot < g .slots → isAllocated g (formatted disk g) slot ≡ false
+  isAllocated-formatted slot h =
+      isAllocated-bit g (formatted disk g) slot
+      ∙ bitmapBit-formatted (areaPlace g slot) (areaPlace-lt g fits-formatted slot h)
+
+  -- ---- the data area ----
+
+  pub blockAt-formatted-area :
+      (address : DiskAddress) → areaStart g ≤ address →
+      blockAt (g .blockSize) (formatted disk g) address ≡ blockAt (g .blockSize) disk address
+  unfolding blockAt
+  blockAt-formatted-area address h =
+      ap (part (address * g .blockSize) (g .blockSize)) formatted-is
+      ∙ part-over-after (freshFront g) disk 0 front-inside (address * g .blockSize) (g .blockSize)
+      (omega (arith, length-freshFront g fits-formatted, mul-le-mul-right (g .blockSize) h))

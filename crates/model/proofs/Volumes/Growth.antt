@@ -1,0 +1,127 @@
+-- The ghost tree under one round: the round keeps it, and makes progress with the hidden writes that wait.
+-- Assumes nothing.
+use mathlib.Core.Path.{_≡_, sym, ap, _∙_}
+use mathlib.Core.Logic.{⊎-elim}
+use mathlib.Core.List.{[], _∷_}
+use mathlib.Core.Option.{Option}
+use Prim.Native.Nat.{ℕ, _*_, _≤_, _<_}
+use native.Mathlib.Omega.{arith}
+use lib.ListN.{length}
+use borrow.Author.Tests.{eq-eqb, ne-eqb}
+use Rattle.laws.proofs.Cases.{eq-cases, cond-true, cond-false}
+use Rattle.model.specs.Geometry.{Geometry, Fits, blockCount}
+use Rattle.model.specs.Blocks.{Bytes}
+use Rattle.model.specs.Table.{PublicChoice}
+use Rattle.model.specs.HiddenHalf.{HiddenWrite, HiddenState, HiddenHalf, hiddenHalf}
+use Rattle.model.proofs.Laws.Stores.{All}
+use Rattle.model.proofs.Laws.Paths.{Hides}
+use Rattle.model.proofs.Laws.HiddenHalf.{WholeWrite, hiddenHalf-hides}
+use Rattle.model.proofs.Laws.PublicHalf.{all-map}
+use Rattle.model.proofs.Laws.RoundStores.{afterRound}
+use Rattle.model.proofs.Laws.Rounds.{blockAt-round-root, blockAt-round-place}
+use Rattle.model.proofs.Laws.Wrote.{Placed, old-of-placed}
+use Rattle.model.proofs.Tree.Ghost.{Tree, Ghost, valueOf}
+use Rattle.model.proofs.Tree.Stored.{Follows}
+use Rattle.model.proofs.Tree.Turns.{Turn, still, places, hiddenHalf-turns}
+use Rattle.model.proofs.Volumes.Progress.{shownAfter, Progress, progress-then}
+
+-- a hidden write that is not refused
+pub record GoodWrite (g : Geometry) (write : HiddenWrite) : Type 0 where
+  pub number-inside : write .number < g .hidden
+  pub whole : WholeWrite g write
+
+-- ---- the tree after rounds ----
+
+-- the ghost tree after rounds, and the progress that they made
+pub record Grew (g : Geometry) (disk final : Bytes) (tree : Tree) (state result : HiddenState) : Type 0 where
+  pub grown : Tree
+  pub ghost : Ghost g final grown
+  pub progress : Progress g state result (valueOf g disk tree) (valueOf g final grown)
+
+pub grew-then :
+    (g : Geometry) (disk middle final : Bytes) (tree : Tree) (state between result : HiddenState) →
+    (one : Grew g disk middle tree state between) → Grew g middle final (one .grown) between result →
+    Grew g disk final tree state result
+grew-then g disk middle final tree state between result one rest =
+    record {
+      grown = rest .grown;
+      ghost = rest .ghost;
+      progress =
+          progress-then g state between result (valueOf g disk tree) (valueOf g middle (one .grown))
+          (valueOf g final (rest .grown)) (one .progress) (rest .progress);
+    }
+
+-- one round's turn as progress
+progress-of-turn :
+    (g : Geometry) → Fits g → (state result : HiddenState) (old new : ℕ → Option Bytes) →
+    Turn g state result old new → Progress g state result old new
+unfolding shownAfter
+progress-of-turn g f state result old new (still e same) =
+    record {
+      done = [];
+      waiting-is = ap (λ (held : HiddenState). held .waiting) (sym e);
+      placed-is = rw e (omega arith);
+      damage-is = ap (λ (held : HiddenState). held .metDamage) e;
+      shows = λ number h. same number (omega (arith, f .hidden-fits));
+    }
+progress-of-turn g f state result old new (places write later e q now same) =
+    record {
+      done = write ∷ [];
+      waiting-is = e ∙ ap (λ (held : HiddenState). write ∷ held .waiting) (sym q);
+      placed-is = ap (λ (held : HiddenState). held .placed) q ∙ omega arith;
+      damage-is = ap (λ (held : HiddenState). held .metDamage) q;
+      shows = λ number h. ⊎-elim
+          (λ z. ap new (sym z) ∙ now ∙ sym (cond-true _ _ (eq-eqb (write .number) number z)))
+          (λ ne.
+          same number (omega (arith, f .hidden-fits)) (λ z. ne (sym z))
+          ∙ sym (cond-false _ _ (ne-eqb (write .number) number ne)))
+          (eq-cases (write .number) number);
+    }
+
+-- ---- one round ----
+
+module _ (g : Geometry) (f : Fits g) (number : ℕ) (counted : number < g .publics) (content : Bytes)
+    (sized : length content ≡ g .blockSize) (disk : Bytes) (whole : length disk ≡ blockCount g * g .blockSize)
+    (slot : ℕ) (here : slot < g .slots) (placed : Placed g disk number) (random : Bytes)
+    (enough : g .height * g .blockSize ≤ length random) (state : HiddenState)
+    (good : All (GoodWrite g) (state .waiting)) where
+  abbrev part : HiddenHalf
+  part = hiddenHalf g disk slot random state
+
+  abbrev after : PublicChoice → Bytes
+  after choice = afterRound choice g disk number slot content (part .trace)
+
+  pub round-hides : Hides g slot (part .trace)
+  round-hides =
+      hiddenHalf-hides g f disk whole slot here random enough state
+      (all-map (GoodWrite g) (WholeWrite g) (state .waiting) (λ write h. h .whole) good) .hides
+
+  follows : (choice : PublicChoice) → Follows g disk (after choice) (part .trace)
+  follows choice =
+      let old = old-of-placed g disk number placed in
+      record {
+        in-root =
+            blockAt-round-root g f disk whole number counted slot here content sized old (part .trace)
+            round-hides choice;
+        in-slot = λ other place h.
+            blockAt-round-place g f disk whole number counted slot here content sized old (part .trace)
+            round-hides choice other place;
+      }
+
+  pub round-grew :
+      (choice : PublicChoice) (tree : Tree) → Ghost g disk tree →
+      Grew g disk (after choice) tree state (part .state)
+  round-grew choice tree ghost =
+      let inside =
+      all-map (GoodWrite g) (λ (write : HiddenWrite). write .number < g .hidden) (state .waiting)
+      (λ write h. h .number-inside) good in
+      let turned =
+      hiddenHalf-turns g f disk tree whole ghost slot here state random inside (after choice)
+      (follows choice) in
+      record {
+        grown = turned .grown;
+        ghost = turned .ghost;
+        progress =
+            progress-of-turn g f state (part .state) (valueOf g disk tree)
+            (valueOf g (after choice) (turned .grown)) (turned .turn);
+      }

@@ -1,11 +1,10 @@
 -- Laws of a chain of checks: pass one, stop at one, go through a joined chain, and what an answer of 0 says.
 -- Assumes nothing.
-use mathlib.Core.Path.{_≡_, refl, ap, _∙_}
+use mathlib.Core.Path.{_≡_, refl}
 use mathlib.Core.Logic.{_≢_}
 use mathlib.Core.Bool.{Bool, true, false, cond}
 use mathlib.Core.List.{List, [], _∷_, _++_}
-use Prim.Native.Nat.{ℕ, _<_}
-use native.Mathlib.Omega.{arith}
+use Prim.Native.Nat.{ℕ}
 use Rattle.laws.specs.Checks.{Check, check, firstOf}
 
 -- ---- one check ----

@@ -1,17 +1,16 @@
 -- Laws of the bitmap: a slot's mark after its own bit and after another bit is set or cleared, within one
 -- bitmap block and across blocks. Assumes nothing.
 use mathlib.Core.Path.{_≡_, refl, sym, ap, _∙_}
-use mathlib.Core.Logic.{_≢_, _⊎_, inl, inr, ⊎-elim}
-use mathlib.Core.Bool.{Bool, true, false}
-use mathlib.Core.List.{List}
-use Prim.Native.Nat.{ℕ, zero, suc, _+_, _*_, _-_, _/_, _%_, _≤_, _<_}
+use mathlib.Core.Logic.{_≢_, ⊎-elim}
+use mathlib.Core.Bool.{Bool}
+use Prim.Native.Nat.{ℕ, _+_, _*_, _/_, _<_}
 use native.Mathlib.Nat.{mod-lt, div-add-mod', mul-div-cancel}
 use native.Mathlib.Omega.{arith}
 use lib.ListN.{length}
 use Rattle.laws.specs.Bits.{bitAt, setBit}
+use Rattle.laws.proofs.Cases.{eq-cases}
 use Rattle.laws.proofs.Bits.{length-setBit, bitAt-setBit-same, bitAt-setBit-other}
-use Rattle.laws.proofs.Cases.{eq-cases, lt-cases}
-use Rattle.model.specs.Geometry.{Geometry, Fits, rootAddress, blockCount}
+use Rattle.model.specs.Geometry.{Geometry, Fits, blockCount}
 use Rattle.model.specs.Blocks.{Bytes, blockAt, setBlock}
 use Rattle.model.specs.Layout.{areaPlace, bitAddress, bitPlace, isAllocated, bitmapWith}
 use Rattle.model.proofs.Laws.Geometry.{bitAddress-lt}

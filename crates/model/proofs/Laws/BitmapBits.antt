@@ -8,8 +8,8 @@ use native.Mathlib.Nat.{div-add-mod', mul-div-cancel, div-lt-iff-lt-mul}
 use native.Mathlib.Omega.{arith}
 use lib.ListN.{length}
 use Rattle.laws.specs.Bits.{bitAt}
-use Rattle.laws.proofs.Bits.{bitAt-setBit-other}
 use Rattle.laws.proofs.Cases.{eq-cases}
+use Rattle.laws.proofs.Bits.{bitAt-setBit-other}
 use Rattle.laws.proofs.Division.{ceilDiv-covers}
 use Rattle.model.specs.Geometry.{Geometry, Fits, mapBlocks, areaBlocks, bitmapBlocks, rootAddress}
 use Rattle.model.specs.Geometry.{blockCount}

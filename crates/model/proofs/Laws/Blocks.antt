@@ -1,15 +1,14 @@
 -- Laws of blocks, over their width: lengths, read after write at the same and at another address, a block
 -- written back, and disks that agree on every block. Assumes nothing.
 use mathlib.Core.Path.{_≡_, refl, sym, ap, _∙_}
-use mathlib.Core.Logic.{_≢_, _⊎_, inl, inr, ⊎-elim}
-use mathlib.Core.List.{List, [], _∷_, _++_}
-use Prim.Native.Nat.{ℕ, zero, suc, _+_, _*_, _-_, _/_, _%_, _≤_, _<_}
-use native.Mathlib.Nat.{mul-le-mul-right, div-add-mod', mod-lt, div-lt-iff-lt-mul, suc-mul}
+use mathlib.Core.Logic.{_≢_, ⊎-elim}
+use Prim.Native.Nat.{ℕ, suc, _+_, _*_, _/_, _%_, _≤_, _<_}
+use native.Mathlib.Nat.{mul-le-mul-right, div-add-mod', mod-lt, div-lt-iff-lt-mul}
 use native.Mathlib.Omega.{arith}
-use lib.ListN.{length, getD, take, drop}
+use lib.ListN.{length, getD}
 use lib.Seq.{ext-getD}
 use Rattle.laws.specs.Lists.{part, over}
-use Rattle.laws.proofs.Cases.{lt-cases, eq-cases}
+use Rattle.laws.proofs.Cases.{lt-cases}
 use Rattle.laws.proofs.Lists.{length-part, getD-part, length-over, part-over-same, part-over-before}
 use Rattle.laws.proofs.Lists.{part-over-after}
 use Rattle.model.specs.Blocks.{Bytes, DiskAddress, blockAt, setBlock}

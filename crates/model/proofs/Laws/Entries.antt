@@ -2,8 +2,8 @@
 -- an entry of a block as one of the disk, and entries packed one after another. Assumes nothing.
 use mathlib.Core.Path.{_≡_, refl, sym, ap, _∙_}
 use mathlib.Core.Logic.{_≢_, ⊎-elim}
-use mathlib.Core.List.{List, [], _∷_, _++_}
-use Prim.Native.Nat.{ℕ, zero, suc, _+_, _*_, _/_, _%_, _^_, _≤_, _<_}
+use mathlib.Core.List.{List, [], _∷_}
+use Prim.Native.Nat.{ℕ, suc, _+_, _*_, _/_, _%_, _^_, _≤_, _<_}
 use native.Mathlib.Nat.{zero-mul}
 use native.Mathlib.Numerals.{add-one, add-two, add-three}
 use native.Mathlib.Omega.{arith}
@@ -15,7 +15,7 @@ use Rattle.laws.proofs.Cases.{lt-cases}
 use Rattle.laws.proofs.Lists.{part-part, getD-zeros, getD-part-zeros, length-over, part-over-same}
 use Rattle.laws.proofs.Lists.{part-over-before, part-over-after}
 use Rattle.laws.proofs.Numbers.{length-littleEndian, numberOf-littleEndian, numberOf-zeros}
-use Rattle.model.specs.Blocks.{Bytes, DiskAddress, blockAt, entryAt, setEntry, packed}
+use Rattle.model.specs.Blocks.{Bytes, blockAt, entryAt, setEntry, packed}
 
 -- ---- the four bytes ----
 

@@ -9,9 +9,9 @@ use native.Mathlib.Omega.{arith}
 use lib.ListN.{length, take, drop, length-append, length-replicate}
 use lib.Seq.{ext-getD, drop-append-add}
 use borrow.Author.Tests.{eq-eqb}
-use Rattle.laws.specs.Bits.{bitOf, bitAt}
 use Rattle.laws.specs.Lists.{part, over}
 use Rattle.laws.specs.Numbers.{numberOf, littleEndian}
+use Rattle.laws.specs.Bits.{bitOf, bitAt}
 use Rattle.laws.proofs.Cases.{cond-true}
 use Rattle.laws.proofs.Lists.{length-part, part-part, getD-zeros, getD-part-zeros, length-over}
 use Rattle.laws.proofs.Lists.{part-over-same, part-over-after}
@@ -20,14 +20,14 @@ use Rattle.model.specs.Geometry.{Geometry, Fits, fanout, mapBlocks, bitm
 use Rattle.model.specs.Geometry.{areaStart, blockCount, driveSize, isGeometry}
 use Rattle.model.specs.Blocks.{Bytes, DiskAddress, blockAt, entryAt, packed, zeroBlock}
 use Rattle.model.specs.Layout.{geometryIn, headIn, areaPlace, isAllocated, mapAddress, mapEntry}
-use Rattle.model.specs.Invariants.{bitmapBit}
 use Rattle.model.specs.Refusals.{formatRefusal, driveRefusal}
 use Rattle.model.specs.Calls.{headerBlock, freshFront, formatted}
+use Rattle.model.specs.Invariants.{bitmapBit}
 use Rattle.model.proofs.Laws.Geometry.{mapAddress-lt}
 use Rattle.model.proofs.Laws.Entries.{length-packed, entryAt-replicate}
 use Rattle.model.proofs.Laws.PublicMap.{mapEntry-is}
-use Rattle.model.proofs.Laws.BitmapBits.{isAllocated-bit, areaPlace-lt}
 use Rattle.model.proofs.Laws.Refusals.{Sized, sized-of-refusal, refusal-of-accepted}
+use Rattle.model.proofs.Laws.BitmapBits.{isAllocated-bit, areaPlace-lt}
 
 -- ---- zeros ----
 

@@ -1,18 +1,17 @@
 -- Laws of the geometry: what an accepted one says, and where its areas lie. Assumes nothing.
-use mathlib.Core.Path.{_≡_, refl, sym, ap, _∙_, subst}
-use mathlib.Core.Logic.{_≢_, _⊎_, inl, inr, ⊎-elim}
-use mathlib.Core.Bool.{Bool, true, false, _&&_, _||_}
+use mathlib.Core.Path.{_≡_, refl, sym, subst}
+use mathlib.Core.Logic.{⊎-elim}
+use mathlib.Core.Bool.{true, _&&_}
 use mathlib.Core.List.{List, [], _∷_}
-use Prim.Native.Nat.{ℕ, zero, suc, _+_, _*_, _-_, _/_, _%_, _^_, _≤_, _<_}
+use Prim.Native.Nat.{ℕ, _+_, _*_, _-_, _/_, _^_, _≤_, _<_}
 use native.Mathlib.Nat.{mul-le-mul-right}
 use native.Mathlib.Omega.{arith}
 use lib.Dec.{leb, ltb, eqb}
 use borrow.Author.Tests.{ltb-true, leb-true, eqb-true}
 use Rattle.laws.proofs.Cases.{and-left, and-right, or-cases, true-is-not-false}
 use Rattle.laws.proofs.Division.{div-ceilDiv-lt}
-use Rattle.model.specs.Geometry.{Geometry, Fits, fanout, mapBlocks, areaBlocks, bitmapBlocks}
-use Rattle.model.specs.Geometry.{rootAddress, areaStart, blockCount, treeCapacity, blockSizes, isOneOf}
-use Rattle.model.specs.Geometry.{isGeometry}
+use Rattle.model.specs.Geometry.{Geometry, Fits, fanout, mapBlocks, areaBlocks, rootAddress, blockCount}
+use Rattle.model.specs.Geometry.{treeCapacity, blockSizes, isOneOf, isGeometry}
 use Rattle.model.specs.Layout.{slotStart, areaPlace, bitAddress, mapAddress}
 
 -- ---- an accepted geometry ----

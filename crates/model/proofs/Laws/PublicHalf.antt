@@ -13,14 +13,14 @@ use Rattle.model.specs.Geometry.{Geometry, Fits, blockCount}
 use Rattle.model.specs.Blocks.{Bytes, DiskAddress}
 use Rattle.model.specs.Layout.{slotOf, areaPlace, bitAddress, mapAddress, mapEntry}
 use Rattle.model.specs.Stores.{Trace, apply, addresses}
-use Rattle.model.specs.Rounds.{bitStore, bitStores, mapStores}
 use Rattle.model.specs.Table.{writePublic}
+use Rattle.model.specs.Rounds.{bitStore, bitStores, mapStores}
 use Rattle.model.specs.Invariants.{bitmapBit}
 use Rattle.model.proofs.Laws.Geometry.{bitAddress-lt}
 use Rattle.model.proofs.Laws.Blocks.{length-setBlock}
 use Rattle.model.proofs.Laws.Slots.{SlotBlock}
-use Rattle.model.proofs.Laws.Stores.{All, Stored}
 use Rattle.model.proofs.Laws.Bitmap.{length-bitmapWith, marked}
+use Rattle.model.proofs.Laws.Stores.{All, Stored}
 use Rattle.model.proofs.Laws.BitmapBits.{areaPlace-apart, bitmapBit-marked-same}
 use Rattle.model.proofs.Laws.BitmapBits.{bitmapBit-marked-other}
 

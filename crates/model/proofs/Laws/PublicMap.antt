@@ -1,16 +1,16 @@
 -- Laws of the public map: an entry after its own and after another number's entry is set, within one map
 -- block and across blocks. Assumes nothing.
 use mathlib.Core.Path.{_≡_, refl, sym, ap, ap₂, _∙_}
-use mathlib.Core.Logic.{_≢_, _⊎_, inl, inr, ⊎-elim}
-use Prim.Native.Nat.{ℕ, zero, suc, _+_, _*_, _-_, _/_, _%_, _^_, _≤_, _<_}
+use mathlib.Core.Logic.{_≢_, ⊎-elim}
+use Prim.Native.Nat.{ℕ, _+_, _*_, _/_, _%_, _^_, _≤_, _<_}
 use native.Mathlib.Nat.{mod-lt, div-add-mod'}
 use native.Mathlib.Omega.{arith}
 use lib.ListN.{length}
 use Rattle.laws.specs.Lists.{part}
 use Rattle.laws.specs.Numbers.{numberOf}
 use Rattle.laws.proofs.Cases.{eq-cases}
-use Rattle.model.specs.Geometry.{Geometry, Fits, fanout, mapBlocks, blockCount}
-use Rattle.model.specs.Blocks.{Bytes, DiskAddress, blockAt, setBlock, entryAt, setEntry}
+use Rattle.model.specs.Geometry.{Geometry, Fits, fanout, blockCount}
+use Rattle.model.specs.Blocks.{Bytes, blockAt, setBlock, entryAt, setEntry}
 use Rattle.model.specs.Layout.{mapAddress, mapEntry}
 use Rattle.model.proofs.Laws.Geometry.{mapAddress-lt, fanout-low}
 use Rattle.model.proofs.Laws.Blocks.{length-blockAt, blockAt-setBlock-same, blockAt-setBlock-other}

@@ -28,10 +28,10 @@ use Rattle.model.proofs.Laws.HiddenHalf.{WholeWrite, HidesHalf, rowOf-p
 use Rattle.model.proofs.Laws.RoundStores.{afterRound, addresses-kept, addresses-last, round-stored}
 use Rattle.model.proofs.Laws.RoundStores.{length-round}
 use Rattle.model.proofs.Laws.RoundEffects.{isAllocated-kept}
-use Rattle.model.proofs.Laws.RoundCounts.{roundsTo-zero, roundsTo-free, roundsTo-taken, oneMore-of}
-use Rattle.model.proofs.Laws.RoundCounts.{roundsTo-ext, length-rounds}
 use Rattle.model.proofs.Laws.Wrote.{Placed, old-of-placed, Wrote, last-wrote, entry-kept, placed-kept}
 use Rattle.model.proofs.Laws.Wrote.{kept-wrote}
+use Rattle.model.proofs.Laws.RoundCounts.{roundsTo-zero, roundsTo-free, roundsTo-taken, oneMore-of}
+use Rattle.model.proofs.Laws.RoundCounts.{roundsTo-ext, length-rounds}
 
 -- the slot of the round after so many earlier ones from a slot on
 abbrev pub slotAfter : Geometry → (slot earlier : ℕ) → ℕ

@@ -1,8 +1,8 @@
 -- Laws of slots: the slot and the place of each of a slot's blocks, which addresses are slot blocks, the next
 -- slot, and slots apart. Assumes nothing.
-use mathlib.Core.Path.{_≡_, refl, sym, ap, _∙_}
+use mathlib.Core.Path.{_≡_, sym, ap, _∙_}
 use mathlib.Core.Logic.{_≢_}
-use mathlib.Core.Bool.{Bool, true, false, _&&_}
+use mathlib.Core.Bool.{true, false, _&&_}
 use Prim.Native.Nat.{ℕ, zero, suc, _+_, _*_, _-_, _/_, _%_, _≤_, _<_}
 use native.Mathlib.Nat.{mod-lt, div-add-mod', div-lt-iff-lt-mul}
 use native.Mathlib.Omega.{arith}
@@ -10,7 +10,7 @@ use lib.Arith.{digits-mod, digits-div}
 use lib.Dec.{leb, ltb, eqb}
 use borrow.Author.Tests.{ltb-true, leb-true, eqb-true, lt-ltb, le-ltb, le-leb, lt-leb, eq-eqb, ne-eqb}
 use Rattle.laws.proofs.Cases.{and-left, and-right, and-both, and-false-left, and-false-right}
-use Rattle.model.specs.Geometry.{Geometry, Fits, areaBlocks, areaStart, blockCount}
+use Rattle.model.specs.Geometry.{Geometry, Fits, areaStart, blockCount}
 use Rattle.model.specs.Blocks.{DiskAddress}
 use Rattle.model.specs.Layout.{slotStart, slotOf, nextSlot, levelPlace, levelAddress, isSlotBlock}
 use Rattle.model.specs.Layout.{isWellFormed}

@@ -5,8 +5,8 @@ use mathlib.Core.Path.{_≡_, refl}
 use mathlib.Core.Bool.{Bool, true, false, cond}
 use mathlib.Core.List.{List, [], _∷_}
 use lib.ListN.{getD}
-use Rattle.model.specs.Table.{Row, row, PublicChoice, keepPublic, writePublic, HiddenChoice, keepHidden}
-use Rattle.model.specs.Table.{placeHidden, fillHidden, table, rowIndex, rowAt}
+use Rattle.model.specs.Table.{Row, row, keepPublic, writePublic, keepHidden, placeHidden, fillHidden}
+use Rattle.model.specs.Table.{table, rowIndex, rowAt}
 
 -- a row by the rule
 abbrev pub ruledRow : (isWaiting isAllocated isLive : Bool) → Row

@@ -14,13 +14,13 @@ use Rattle.model.specs.Blocks.{Bytes}
 use Rattle.model.specs.Layout.{geometryIn, headIn}
 use Rattle.model.specs.HiddenHalf.{HiddenWrite}
 use Rattle.model.specs.Rounds.{runFrom}
-use Rattle.model.specs.Conditions.{Answers, sizeConditions, driveConditions, placeConditions}
-use Rattle.model.specs.Conditions.{roundConditions, hiddenConditions, walkConditions}
 use Rattle.model.specs.Refusals.{sizeChecks, sizeRefusal, driveChecks, driveRefusal, placeChecks}
 use Rattle.model.specs.Refusals.{roundChecks, hiddenChecks, walkChecks, formatRefusal}
 use Rattle.model.specs.Refusals.{publicReadRefusal, writeRefusal, hiddenReadRefusal, hiddenWriteRefusal}
 use Rattle.model.specs.Calls.{formatted, publicRead, hiddenRead, offerRefusal, offeredWrites}
 use Rattle.model.specs.Calls.{startState, writeRun, Written, refusedWrite, doneWrite, written}
+use Rattle.model.specs.Conditions.{Answers, sizeConditions, driveConditions, placeConditions}
+use Rattle.model.specs.Conditions.{roundConditions, hiddenConditions, walkConditions}
 use Rattle.model.proofs.Laws.Refusals.{accepted-of-refusal}
 use Rattle.model.proofs.Refusals.Answers.{judges-append, answers-of-judges}
 use Rattle.model.proofs.Refusals.Drive.{judges-size, judges-drive}

@@ -13,8 +13,8 @@ use Rattle.model.specs.Geometry.{Geometry, treeCapacity, blockCount, dri
 use Rattle.model.specs.Geometry.{isGeometry}
 use Rattle.model.specs.Blocks.{Bytes}
 use Rattle.model.specs.Layout.{geometryIn, headIn}
-use Rattle.model.specs.Conditions.{InsideLimits, sizeConditions, driveConditions}
 use Rattle.model.specs.Refusals.{sizeChecks, driveChecks}
+use Rattle.model.specs.Conditions.{InsideLimits, sizeConditions, driveConditions}
 use Rattle.model.proofs.Refusals.Answers.{Decides, decides-lt, decides-le, decides-eq, decides-not}
 use Rattle.model.proofs.Refusals.Answers.{decides-or, decides-and, decides-same, Judges, judges-append}
 

@@ -6,8 +6,8 @@ use Rattle.laws.proofs.Cases.{true-is-not-false}
 use Rattle.model.specs.Geometry.{Geometry}
 use Rattle.model.specs.Blocks.{Bytes}
 use Rattle.model.specs.HiddenTree.{End, found, unmapped, damaged, isDamaged, walk}
-use Rattle.model.specs.Conditions.{hiddenConditions, walkConditions}
 use Rattle.model.specs.Refusals.{hiddenChecks, walkChecks}
+use Rattle.model.specs.Conditions.{hiddenConditions, walkConditions}
 use Rattle.model.proofs.Refusals.Answers.{Decides, decides-le, decides-eq, decides-not, Judges}
 
 pub judges-hidden :

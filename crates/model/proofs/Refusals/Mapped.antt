@@ -9,13 +9,12 @@ use Rattle.laws.proofs.Division.{ceilDiv-covers}
 use Rattle.model.specs.Geometry.{Geometry, Fits, areaBlocks, bitmapBlocks}
 use Rattle.model.specs.Blocks.{Bytes}
 use Rattle.model.specs.Layout.{headIn, slotOf, areaPlace, isAllocated, mapEntry}
-use Rattle.model.specs.Invariants.{bitmapBit, BitmapInvariant}
 use Rattle.model.specs.Refusals.{roundCount}
+use Rattle.model.specs.Invariants.{bitmapBit, BitmapInvariant}
 use Rattle.model.proofs.Laws.Geometry.{slot-place-lt}
 use Rattle.model.proofs.Laws.Slots.{slotOf-slotStart}
 use Rattle.model.proofs.Laws.Runs.{slotAfter}
-use Rattle.model.proofs.Refusals.Circle.{indexFrom, indexFrom-slotAfter, noneFree}
-use Rattle.model.proofs.Refusals.Circle.{firstFree}
+use Rattle.model.proofs.Refusals.Circle.{indexFrom, indexFrom-slotAfter, noneFree, firstFree}
 use Rattle.model.proofs.Refusals.Rounds.{HeadFinds, head-finds}
 use Rattle.model.proofs.Refusals.Pigeonhole.{Reached, reached-le}
 

@@ -10,8 +10,8 @@ use Rattle.laws.proofs.Cases.{and-left, and-right, and-both, true-is-not-false}
 use Rattle.model.specs.Geometry.{Geometry}
 use Rattle.model.specs.Blocks.{Bytes, DiskAddress}
 use Rattle.model.specs.Layout.{slotStart, slotOf, isSlotBlock, isAllocated, mapEntry, isPlace}
-use Rattle.model.specs.Conditions.{placeConditions}
 use Rattle.model.specs.Refusals.{placeChecks}
+use Rattle.model.specs.Conditions.{placeConditions}
 use Rattle.model.proofs.Laws.Slots.{slotOf-slotStart, isSlotBlock-slotStart, slotBlock-of}
 use Rattle.model.proofs.Refusals.Answers.{Decides, decides-le, decides-eq, decides-not, decides-or}
 use Rattle.model.proofs.Refusals.Answers.{decides-same, Judges}

@@ -12,12 +12,12 @@ use Rattle.laws.proofs.Cases.{lt-cases, true-is-not-false}
 use Rattle.model.specs.Geometry.{Geometry}
 use Rattle.model.specs.Blocks.{Bytes, DiskAddress}
 use Rattle.model.specs.Layout.{headIn, isAllocated, mapEntry}
-use Rattle.model.specs.Conditions.{TakesRounds, storesOf, roundConditions}
 use Rattle.model.specs.Refusals.{roundCount, storeCount, roundChecks}
+use Rattle.model.specs.Conditions.{TakesRounds, storesOf, roundConditions}
 use Rattle.model.proofs.Laws.Runs.{slotAfter}
 use Rattle.model.proofs.Refusals.Answers.{Decides, decides-lt, decides-same, Judges}
-use Rattle.model.proofs.Refusals.Circle.{indexFrom, slotAfter-indexFrom, indexFrom-lt}
-use Rattle.model.proofs.Refusals.Circle.{RoundsTo, noneFree, firstFree, roundsTo-is}
+use Rattle.model.proofs.Refusals.Circle.{indexFrom, slotAfter-indexFrom, indexFrom-lt, RoundsTo}
+use Rattle.model.proofs.Refusals.Circle.{noneFree, firstFree, roundsTo-is}
 
 -- ---- so many rounds ----
 

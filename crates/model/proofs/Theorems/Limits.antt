@@ -1,10 +1,10 @@
 -- What is computed at the limits: each field by computation. Assumes nothing.
 use mathlib.Core.Path.{refl}
-use Rattle.laws.proofs.Lists.{isSame, same-of-isSame}
 use Rattle.laws.specs.Checks.{firstOf}
 use Rattle.laws.specs.Lists.{part, over}
 use Rattle.laws.specs.Numbers.{numberOf, littleEndian}
 use Rattle.laws.specs.Bits.{bitOf, withBit, bitAt, setBit}
+use Rattle.laws.proofs.Lists.{isSame, same-of-isSame}
 use Rattle.model.specs.Geometry.{isGeometry}
 use Rattle.model.specs.Blocks.{blockAt, setBlock, entryAt, setEntry, packed}
 use Rattle.model.specs.Layout.{isSlotBlock, isAllocated, bitmapWith, mapEntry, isPlace}

@@ -11,8 +11,8 @@ use Rattle.model.specs.Geometry.{Geometry, Fits, fanout, rootAddress, bl
 use Rattle.model.specs.Blocks.{Bytes, blockAt, entryAt}
 use Rattle.model.specs.Layout.{slotStart, levelAddress}
 use Rattle.model.specs.Stores.{Trace}
-use Rattle.model.specs.HiddenHalf.{ownerOf, isLive}
 use Rattle.model.specs.Paths.{linkedNode, pathStores, currentPath, writtenBack, dummyStores}
+use Rattle.model.specs.HiddenHalf.{ownerOf, isLive}
 use Rattle.model.proofs.Laws.Stores.{All}
 use Rattle.model.proofs.Tree.Keys.{keyOf, keyOf-zero, lt-treeCapacity}
 use Rattle.model.proofs.Tree.Ghost.{Tree, slotAt, nodeAt, nodesFrom, Ghost, blockIn, valueOf}

@@ -11,8 +11,8 @@ use Rattle.laws.proofs.Cases.{cond-true, cond-false, and-both, and-false-left, 
 use Rattle.model.specs.Geometry.{Geometry, rootAddress, treeCapacity}
 use Rattle.model.specs.Blocks.{Bytes, blockAt}
 use Rattle.model.specs.Layout.{slotStart, levelAddress}
-use Rattle.model.specs.HiddenHalf.{ownerOf}
 use Rattle.model.specs.Paths.{linkedNode}
+use Rattle.model.specs.HiddenHalf.{ownerOf}
 use Rattle.model.proofs.Tree.Keys.{keyOf}
 use Rattle.model.proofs.Tree.Ghost.{Tree, slotAt, nodeAt}
 

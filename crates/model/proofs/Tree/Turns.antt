@@ -12,14 +12,14 @@ use Rattle.model.specs.Geometry.{Geometry, Fits, blockCount, treeCapacit
 use Rattle.model.specs.Blocks.{Bytes, blockAt}
 use Rattle.model.specs.Layout.{levelAddress, isAllocated}
 use Rattle.model.specs.Table.{Row, HiddenChoice, keepHidden, placeHidden, fillHidden}
+use Rattle.model.specs.Paths.{currentPath, writtenBack, dummyStores}
 use Rattle.model.specs.HiddenHalf.{HiddenWrite, HiddenState, HiddenHalf, half, isWaiting, ownerOf}
 use Rattle.model.specs.HiddenHalf.{isLive, placedState, blockedState, hiddenBy, rowOf, hiddenHalf}
-use Rattle.model.specs.Paths.{currentPath, writtenBack, dummyStores}
 use Rattle.model.proofs.Laws.Table.{rowAt-ruled}
 use Rattle.model.proofs.Tree.Ghost.{Tree, Ghost, blockIn, valueOf}
 use Rattle.model.proofs.Tree.Live.{GoodNumbers, owner-lt-of-isLive, holds-of-isLive, isBlocked-false}
-use Rattle.model.proofs.Tree.Stored.{Follows}
 use Rattle.model.proofs.Tree.Planted.{placedTree}
+use Rattle.model.proofs.Tree.Stored.{Follows}
 use Rattle.model.proofs.Tree.Placing.{placement, ghost-dummy, valueOf-dummy}
 
 -- what a half changes of what the numbers show: nothing, or the number of the hidden write that it places

@@ -2,8 +2,8 @@
 -- nothing hidden in them, on any drive that shows the same. Assumes nothing.
 use mathlib.Core.Path.{_≡_, refl, sym, ap, ap₂, _∙_}
 use mathlib.Core.Bool.{cond}
-use mathlib.Core.Option.{none}
 use mathlib.Core.List.{List, [], _∷_}
+use mathlib.Core.Option.{none}
 use Prim.Native.Nat.{ℕ}
 use lib.ListN.{length, replicate, length-replicate}
 use Rattle.model.specs.Blocks.{Bytes, DiskAddress}
@@ -15,10 +15,10 @@ use Rattle.model.specs.Runs.{bareCalls, Seen, seenOfWrite, seenOfAll}
 use Rattle.model.specs.Simulator.{Simulator, lengthsOfAll, Told, toldOf, told, reportOf, reportsOf}
 use Rattle.model.proofs.Views.Tracking.{trackerOf}
 use Rattle.model.proofs.Views.Answers.{readLengths, writeLengths, simulatedAnswer-read}
-use Rattle.model.proofs.Views.Drives.{Twins, trackerOf-twins, viewOf-twins, publicReadRefusal-twins}
-use Rattle.model.proofs.Views.Drives.{publicRead-twins}
 use Rattle.model.proofs.Views.Follows.{told-ext, toldOf-refused, simulatorAfter-refused}
 use Rattle.model.proofs.Views.Follows.{written-follows}
+use Rattle.model.proofs.Views.Drives.{Twins, trackerOf-twins, viewOf-twins, publicReadRefusal-twins}
+use Rattle.model.proofs.Views.Drives.{publicRead-twins}
 use Rattle.model.proofs.Views.SideWrites.{writtenDisk-twins}
 
 -- ---- the simulator ----

@@ -23,8 +23,8 @@ use Rattle.model.proofs.Views.Shown.{ShowSame, blockAt-alike, isShown-s
 use Rattle.model.proofs.Views.View.{entryAt-viewOf, geometry-ext, viewFrom-alike, showSame-of-viewFrom}
 use Rattle.model.proofs.Views.Tracking.{trackerOf, simulatorOf-viewOf}
 use Rattle.model.proofs.Views.Answers.{readLengths, simulatedAnswer-read}
-use Rattle.model.proofs.Views.Sides.{entryAt-alike, mapEntry-alike}
 use Rattle.model.proofs.Views.Allowed.{place-of-read}
+use Rattle.model.proofs.Views.Sides.{entryAt-alike, mapEntry-alike}
 
 -- two accepted drives that show the same
 pub record Twins (disk other : Bytes) : Type 0 where

@@ -20,9 +20,9 @@ use Rattle.model.proofs.Laws.Stores.{All}
 use Rattle.model.proofs.Laws.HiddenHalf.{rowOf-public, WholeWrite, HidesHalf, hiddenHalf-hides}
 use Rattle.model.proofs.Laws.PublicHalf.{OldPlace}
 use Rattle.model.proofs.Laws.RoundStores.{afterRound}
+use Rattle.model.proofs.Laws.RoundEffects.{mapEntry-kept, isAllocated-kept}
 use Rattle.model.proofs.Laws.RoundCounts.{roundsTo-zero, roundsTo-taken, OneMore, oneMore-of}
 use Rattle.model.proofs.Laws.RoundCounts.{roundsTo-ext}
-use Rattle.model.proofs.Laws.RoundEffects.{mapEntry-kept, isAllocated-kept}
 use Rattle.model.proofs.Views.Agreement.{none, along-append, agree-apply}
 use Rattle.model.proofs.Views.Shown.{ShowSame, TraceSame}
 use Rattle.model.proofs.Views.Sides.{isAllocated-alike, roundTrace-alike}

@@ -3,8 +3,8 @@
 -- Assumes nothing.
 use mathlib.Core.Path.{_≡_, sym, ap, ap₂, _∙_, subst}
 use mathlib.Core.Logic.{_≢_, ⊎-elim}
-use mathlib.Core.Option.{Option}
 use mathlib.Core.List.{List}
+use mathlib.Core.Option.{Option}
 use Prim.Native.Nat.{ℕ, suc, _*_, _-_, _≤_}
 use native.Mathlib.Nat.{mul-assoc}
 use native.Mathlib.Omega.{arith}
@@ -27,11 +27,11 @@ use Rattle.model.proofs.Laws.WriteRuns.{offeredWrites-whole}
 use Rattle.model.proofs.Views.Agreement.{agree-apply}
 use Rattle.model.proofs.Views.Shown.{ShowSame, TraceSame}
 use Rattle.model.proofs.Views.Answers.{writeLengths, simulatedAnswer-write}
+use Rattle.model.proofs.Views.Allowed.{PlaceAllowed, RoundsAllowed, place-of-write, rounds-of-write}
+use Rattle.model.proofs.Views.Follows.{written-done, written-refused, written-follows}
 use Rattle.model.proofs.Views.Sides.{entryAt-alike}
 use Rattle.model.proofs.Views.SideRuns.{Supplied, runFrom-alike}
-use Rattle.model.proofs.Views.Allowed.{PlaceAllowed, RoundsAllowed, place-of-write, rounds-of-write}
 use Rattle.model.proofs.Views.Drives.{Twins, geometryIn-twins, trackerOf-twins}
-use Rattle.model.proofs.Views.Follows.{written-done, written-refused, written-follows}
 
 module _ (disk other : Bytes) (twins : Twins disk other) (number : ℕ) (content random others : Bytes)
     (same-random : length random ≡ length others) (room : ℕ) where

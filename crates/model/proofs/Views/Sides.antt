@@ -15,13 +15,13 @@ use Rattle.model.specs.Layout.{slotStart, slotOf, nextSlot, mapAddress, 
 use Rattle.model.specs.Layout.{isAllocated, bitmapWith}
 use Rattle.model.specs.Stores.{Trace, store, apply, addresses}
 use Rattle.model.specs.Table.{PublicChoice, keepPublic, writePublic}
-use Rattle.model.specs.View.{shownOf}
 use Rattle.model.specs.Rounds.{publicStore, mapStore, bitStore, bitStores, headerStore, mapStores}
 use Rattle.model.specs.Rounds.{roundTrace}
+use Rattle.model.specs.View.{shownOf}
 use Rattle.model.proofs.Laws.Geometry.{mapAddress-lt, bitAddress-lt, slot-block-lt, rootAddress-lt}
 use Rattle.model.proofs.Laws.Entries.{length-setEntry, entryAt-header}
-use Rattle.model.proofs.Laws.PublicMap.{mapEntry-block, length-mapBlockWith}
 use Rattle.model.proofs.Laws.Bitmap.{isAllocated-block, length-bitmapWith}
+use Rattle.model.proofs.Laws.PublicMap.{mapEntry-block, length-mapBlockWith}
 use Rattle.model.proofs.Laws.Paths.{Hides, blockAt-whole}
 use Rattle.model.proofs.Laws.PublicHalf.{all-map, OldPlace}
 use Rattle.model.proofs.Laws.RoundStores.{HiddenAddress, hides-addresses}

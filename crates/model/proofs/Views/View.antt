@@ -17,8 +17,8 @@ use Rattle.model.specs.View.{isShown, shownOf, viewFrom, viewOf}
 use Rattle.model.proofs.Laws.Geometry.{mapAddress-lt, bitAddress-lt}
 use Rattle.model.proofs.Laws.Blocks.{length-blockAt}
 use Rattle.model.proofs.Laws.Entries.{entryAt-header}
-use Rattle.model.proofs.Laws.PublicMap.{mapEntry-block}
 use Rattle.model.proofs.Laws.Bitmap.{isAllocated-block}
+use Rattle.model.proofs.Laws.PublicMap.{mapEntry-block}
 use Rattle.model.proofs.Views.Shown.{isShown-below, isShown-past, shownOf-shown, shownOf-hidden}
 use Rattle.model.proofs.Views.Shown.{ShowSame}
 

@@ -5,13 +5,13 @@ use lib.ListN.{length}
 use Rattle.model.specs.Geometry.{Geometry, Fits}
 use Rattle.model.specs.Blocks.{Bytes}
 use Rattle.model.specs.Layout.{geometryIn}
-use Rattle.model.specs.Invariants.{PublicInvariant, BitmapInvariant, HiddenInvariant}
 use Rattle.model.specs.Refusals.{driveRefusal}
 use Rattle.model.specs.Runs.{Call, readPublic, readHidden, write, diskAfter}
+use Rattle.model.specs.Invariants.{PublicInvariant, BitmapInvariant, HiddenInvariant}
 use Rattle.model.specs.Promises.ReadAfterWrite.{Sound, Readable}
 use Rattle.model.proofs.Tree.Ghost.{Ghost}
-use Rattle.model.proofs.Tree.FromInvariant.{treeOf, ghost-of-hiddenInvariant}
 use Rattle.model.proofs.Tree.Walks.{walk-not-damaged}
+use Rattle.model.proofs.Tree.FromInvariant.{treeOf, ghost-of-hiddenInvariant}
 use Rattle.model.proofs.Volumes.Reads.{public-read-accepted, hidden-read-accepted}
 use Rattle.model.proofs.Volumes.Writes.{fits-of-accepted}
 use Rattle.model.proofs.Volumes.Kept.{write-keeps-public, write-keeps-bitmap, write-keeps-hidden}

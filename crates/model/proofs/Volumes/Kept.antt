@@ -7,9 +7,9 @@ use Rattle.model.specs.Geometry.{Geometry, Fits}
 use Rattle.model.specs.Blocks.{Bytes}
 use Rattle.model.specs.Layout.{geometryIn}
 use Rattle.model.specs.HiddenHalf.{HiddenWrite}
-use Rattle.model.specs.Invariants.{PublicInvariant, BitmapInvariant, HiddenInvariant}
 use Rattle.model.specs.Refusals.{driveRefusal}
 use Rattle.model.specs.Calls.{Written, written, writtenDisk}
+use Rattle.model.specs.Invariants.{PublicInvariant, BitmapInvariant, HiddenInvariant}
 use Rattle.model.specs.Promises.ReadAfterWrite.{Sound}
 use Rattle.model.proofs.Tree.Invariant.{hiddenInvariant-of-ghost}
 use Rattle.model.proofs.Tree.FromInvariant.{treeOf, ghost-of-hiddenInvariant}

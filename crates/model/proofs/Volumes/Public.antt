@@ -8,8 +8,7 @@ use Prim.Native.Nat.{ℕ, _<_}
 use native.Mathlib.Omega.{arith}
 use lib.Dec.{eqb}
 use borrow.Author.Tests.{eq-eqb, ne-eqb}
-use Rattle.laws.proofs.Cases.{eq-cases, and-left, and-right, and-both}
-use Rattle.laws.proofs.Cases.{cond-true, cond-false}
+use Rattle.laws.proofs.Cases.{eq-cases, and-left, and-right, and-both, cond-true, cond-false}
 use Rattle.model.specs.Geometry.{Geometry}
 use Rattle.model.specs.Blocks.{Bytes, DiskAddress, blockAt}
 use Rattle.model.specs.Layout.{slotStart, slotOf, isSlotBlock, isAllocated, mapEntry, isPlace}

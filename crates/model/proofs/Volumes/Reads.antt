@@ -14,9 +14,9 @@ use Rattle.model.specs.Geometry.{Geometry, Fits, treeCapacity}
 use Rattle.model.specs.Blocks.{Bytes, DiskAddress, blockAt}
 use Rattle.model.specs.Layout.{geometryIn, mapEntry}
 use Rattle.model.specs.HiddenTree.{walk}
-use Rattle.model.specs.Invariants.{PublicInvariant}
 use Rattle.model.specs.Refusals.{driveRefusal, publicReadRefusal, hiddenReadRefusal}
 use Rattle.model.specs.Calls.{publicRead, hiddenRead, shownAt}
+use Rattle.model.specs.Invariants.{PublicInvariant}
 use Rattle.model.specs.Promises.ReadAfterWrite.{orElse}
 use Rattle.model.proofs.Laws.Calls.{AcceptedNumber, publicReadRefusal-of-accepted}
 use Rattle.model.proofs.Laws.Calls.{hiddenReadRefusal-of-accepted}

@@ -14,8 +14,8 @@ use Rattle.model.specs.Blocks.{Bytes}
 use Rattle.model.specs.HiddenHalf.{HiddenWrite}
 use Rattle.model.specs.Rounds.{Run}
 use Rattle.model.specs.Refusals.{writeRefusal}
-use Rattle.model.specs.Calls.{publicRead, hiddenRead, outcomeOf, offerRefusal}
-use Rattle.model.specs.Calls.{Written, doneWrite, written, writtenDisk}
+use Rattle.model.specs.Calls.{publicRead, hiddenRead, outcomeOf, offerRefusal, Written, doneWrite}
+use Rattle.model.specs.Calls.{written, writtenDisk}
 use Rattle.model.specs.Promises.ReadAfterWrite.{offeredUnder, isPlaced, orElse, Sound}
 use Rattle.model.proofs.Tree.Ghost.{Tree, Ghost, valueOf}
 use Rattle.model.proofs.Tree.FromInvariant.{treeOf, ghost-of-hiddenInvariant}

@@ -17,16 +17,16 @@ use Rattle.model.specs.Stores.{apply}
 use Rattle.model.specs.HiddenHalf.{HiddenWrite}
 use Rattle.model.specs.Rounds.{Run}
 use Rattle.model.specs.Refusals.{roundCount, driveRefusal, writeRefusal, hiddenWriteRefusal}
-use Rattle.model.specs.Calls.{offerRefusal, offeredWrites, startState, writeRun}
-use Rattle.model.specs.Calls.{Written, refusedWrite, doneWrite, written, writtenDisk}
+use Rattle.model.specs.Calls.{offerRefusal, offeredWrites, startState, writeRun, Written, refusedWrite}
+use Rattle.model.specs.Calls.{doneWrite, written, writtenDisk}
 use Rattle.model.proofs.Laws.Slots.{nextSlot-lt}
 use Rattle.model.proofs.Laws.Stores.{All}
 use Rattle.model.proofs.Laws.Refusals.{Accepted, accepted-of-refusal, refusal-of-accepted}
-use Rattle.model.proofs.Laws.Calls.{AcceptedWrite, accepted-write, accepted-hidden-write}
-use Rattle.model.proofs.Laws.Calls.{written-done, written-refused}
 use Rattle.model.proofs.Laws.Wrote.{Wrote}
 use Rattle.model.proofs.Laws.Runs.{slotAfter}
 use Rattle.model.proofs.Laws.WriteRuns.{writeRun-ran}
+use Rattle.model.proofs.Laws.Calls.{AcceptedWrite, accepted-write, accepted-hidden-write, written-done}
+use Rattle.model.proofs.Laws.Calls.{written-refused}
 use Rattle.model.proofs.Tree.Ghost.{Tree, Ghost}
 use Rattle.model.proofs.Volumes.Growth.{GoodWrite, Grew}
 use Rattle.model.proofs.Volumes.Hidden.{Ready, runFrom-grows}

@@ -3,6 +3,7 @@ pub mod Geometry
 pub mod Blocks
 pub mod Entries
 pub mod Slots
+pub mod Places
 pub mod Bitmap
 pub mod PublicMap
 pub mod Stores

@@ -16,11 +16,11 @@ use Rattle.model.specs.Stores.{Trace, apply, addresses}
 use Rattle.model.specs.Table.{PublicChoice, keepPublic, writePublic}
 use Rattle.model.specs.Rounds.{bitStores, mapStore, mapStores}
 use Rattle.model.proofs.Laws.Geometry.{mapAddress-lt, bitAddress-lt, bitAddress-ge}
+use Rattle.model.proofs.Laws.Places.{OldPlace, entry-not-zero}
 use Rattle.model.proofs.Laws.PublicMap.{length-mapBlockWith, mapped}
 use Rattle.model.proofs.Laws.Stores.{All, Stored, lastAt, lastAt-append, lastAt-other, lastAt-outside}
 use Rattle.model.proofs.Laws.Stores.{blockAt-apply}
-use Rattle.model.proofs.Laws.PublicHalf.{all-map, OldPlace, entry-not-zero, addresses-bitStores}
-use Rattle.model.proofs.Laws.PublicHalf.{withBits, bitStores-stored}
+use Rattle.model.proofs.Laws.PublicHalf.{all-map, addresses-bitStores, withBits, bitStores-stored}
 
 -- an address of the bitmap
 abbrev InBitmap : Geometry → DiskAddress → Type 0

@@ -1,7 +1,7 @@
 -- Laws of the bitmap's stores of a round that takes the call's data: where they go, that they are whole, and
 -- the bits after them; and the addresses of all stores of map and bitmap. Assumes nothing.
 use mathlib.Core.Path.{_≡_, refl, sym, ap, _∙_}
-use mathlib.Core.Logic.{_≢_, _⊎_, inl, inr}
+use mathlib.Core.Logic.{_≢_, inl, inr}
 use mathlib.Core.Bool.{Bool, true, false, cond}
 use mathlib.Core.List.{List, [], _∷_, _++_}
 use Prim.Native.Nat.{ℕ, _*_, _<_}
@@ -19,6 +19,7 @@ use Rattle.model.specs.Invariants.{bitmapBit}
 use Rattle.model.proofs.Laws.Geometry.{bitAddress-lt}
 use Rattle.model.proofs.Laws.Blocks.{length-setBlock}
 use Rattle.model.proofs.Laws.Slots.{SlotBlock}
+use Rattle.model.proofs.Laws.Places.{OldPlace, entry-not-zero}
 use Rattle.model.proofs.Laws.Bitmap.{length-bitmapWith, marked}
 use Rattle.model.proofs.Laws.Stores.{All, Stored}
 use Rattle.model.proofs.Laws.BitmapBits.{areaPlace-apart, bitmapBit-marked-same}
@@ -28,13 +29,6 @@ pub all-map :
     {A : Type 0} (P Q : A → Type 0) (xs : List A) → ((x : A) → P x → Q x) → All P xs → All Q xs
 all-map P Q [] f h = tt
 all-map P Q (x ∷ xs) f h = (f x (h .0), all-map P Q xs f (h .1))
-
--- a number's entry: 0, or block A of one of the slots
-abbrev pub OldPlace : Geometry → (entry : DiskAddress) → Type 0
-OldPlace g entry = (entry ≡ 0) ⊎ SlotBlock g 0 entry
-
-pub entry-not-zero : (g : Geometry) (entry : DiskAddress) → SlotBlock g 0 entry → entry ≢ 0
-entry-not-zero g entry block e = omega (arith, block .address-is)
 
 -- ---- the bitmap's stores ----
 

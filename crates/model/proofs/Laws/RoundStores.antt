@@ -16,9 +16,10 @@ use Rattle.model.specs.Rounds.{publicStore, headerStore, mapStores, roun
 use Rattle.model.specs.Simulator.{addressesFrom, slotAddresses, lastRound}
 use Rattle.model.proofs.Laws.Geometry.{slot-block-lt, rootAddress-lt}
 use Rattle.model.proofs.Laws.Entries.{length-setEntry}
+use Rattle.model.proofs.Laws.Places.{OldPlace}
 use Rattle.model.proofs.Laws.Stores.{All, all-append, Stored, addresses-append, length-apply}
 use Rattle.model.proofs.Laws.Paths.{WholeStore, Hides, addressesFrom-suc, blockAt-whole}
-use Rattle.model.proofs.Laws.PublicHalf.{all-map, OldPlace, addresses-mapStores}
+use Rattle.model.proofs.Laws.PublicHalf.{all-map, addresses-mapStores}
 use Rattle.model.proofs.Laws.MapStores.{mapStores-stored}
 
 -- ---- addresses ----

@@ -16,10 +16,11 @@ use Rattle.model.specs.Rounds.{publicStore, headerStore, mapStores, roun
 use Rattle.model.proofs.Laws.Entries.{entryAt-setEntry-same, entryAt-setEntry-other, entryAt-header}
 use Rattle.model.proofs.Laws.Slots.{place-of-slot-block, slotOf-slot-block, slotOf-slotStart}
 use Rattle.model.proofs.Laws.Slots.{nextSlot-lt}
+use Rattle.model.proofs.Laws.Places.{OldPlace}
 use Rattle.model.proofs.Laws.Stores.{lastAt, lastAt-nil, lastAt-append, lastAt-same, lastAt-other}
 use Rattle.model.proofs.Laws.Stores.{lastAt-outside, blockAt-apply}
 use Rattle.model.proofs.Laws.Paths.{Hides}
-use Rattle.model.proofs.Laws.PublicHalf.{all-map, OldPlace}
+use Rattle.model.proofs.Laws.PublicHalf.{all-map}
 use Rattle.model.proofs.Laws.MapStores.{InFront, mapStores-inFront}
 use Rattle.model.proofs.Laws.RoundStores.{HiddenAddress, hides-addresses, publicStore-address}
 use Rattle.model.proofs.Laws.RoundStores.{afterRound, header-fits, round-stored}

@@ -21,6 +21,7 @@ use Rattle.model.specs.Rounds.{Run, stopped, followedBy, goesOn, roundTr
 use Rattle.model.specs.Refusals.{roundsTo, storeCount}
 use Rattle.model.specs.Simulator.{slotAddresses, keptRounds, lastRound}
 use Rattle.model.proofs.Laws.Slots.{nextSlot-lt}
+use Rattle.model.proofs.Laws.Places.{Placed, old-of-placed}
 use Rattle.model.proofs.Laws.Stores.{All, all-append, Stored, apply-append, addresses-append}
 use Rattle.model.proofs.Laws.Stores.{length-addresses}
 use Rattle.model.proofs.Laws.Paths.{Hides}
@@ -28,8 +29,7 @@ use Rattle.model.proofs.Laws.HiddenHalf.{WholeWrite, HidesHalf, rowOf-p
 use Rattle.model.proofs.Laws.RoundStores.{afterRound, addresses-kept, addresses-last, round-stored}
 use Rattle.model.proofs.Laws.RoundStores.{length-round}
 use Rattle.model.proofs.Laws.RoundEffects.{isAllocated-kept}
-use Rattle.model.proofs.Laws.Wrote.{Placed, old-of-placed, Wrote, last-wrote, entry-kept, placed-kept}
-use Rattle.model.proofs.Laws.Wrote.{kept-wrote}
+use Rattle.model.proofs.Laws.Wrote.{Wrote, last-wrote, entry-kept, placed-kept, kept-wrote}
 use Rattle.model.proofs.Laws.RoundCounts.{roundsTo-zero, roundsTo-free, roundsTo-taken, oneMore-of}
 use Rattle.model.proofs.Laws.RoundCounts.{roundsTo-ext, length-rounds}
 

@@ -17,10 +17,10 @@ use Rattle.model.specs.Layout.{geometryIn, headIn}
 use Rattle.model.specs.HiddenHalf.{HiddenWrite}
 use Rattle.model.specs.Refusals.{roundCount, hiddenChecks, hiddenWriteRefusal}
 use Rattle.model.specs.Calls.{offeredWrites, startState, writeRun}
+use Rattle.model.proofs.Laws.Places.{Placed}
 use Rattle.model.proofs.Laws.Stores.{All}
 use Rattle.model.proofs.Laws.Refusals.{Accepted}
 use Rattle.model.proofs.Laws.HiddenHalf.{WholeWrite}
-use Rattle.model.proofs.Laws.Wrote.{Placed}
 use Rattle.model.proofs.Laws.Runs.{Ran, runFrom-ran}
 
 -- ---- the offer ----

@@ -1,21 +1,20 @@
 -- What a run of rounds leaves in header, map, bitmap and public blocks: after its last round, and with one
 -- more kept round before. Assumes nothing.
 use mathlib.Core.Path.{_≡_, sym, ap, _∙_}
-use mathlib.Core.Logic.{_≢_, _⊎_, inl, inr}
+use mathlib.Core.Logic.{_≢_, inl, inr}
 use mathlib.Core.Bool.{true, false}
 use Prim.Native.Nat.{ℕ, _*_, _<_}
 use lib.ListN.{length}
-use Rattle.laws.proofs.Cases.{and-left, and-right, and-both, true-is-not-false}
 use Rattle.model.specs.Geometry.{Geometry, Fits, bitmapBlocks, blockCount}
 use Rattle.model.specs.Blocks.{Bytes, blockAt, entryAt}
-use Rattle.model.specs.Layout.{headIn, slotStart, slotOf, nextSlot, areaPlace, mapEntry, isSlotBlock}
-use Rattle.model.specs.Layout.{isAllocated, isPlace}
+use Rattle.model.specs.Layout.{headIn, slotStart, slotOf, nextSlot, areaPlace, mapEntry, isAllocated}
+use Rattle.model.specs.Layout.{isPlace}
 use Rattle.model.specs.Stores.{Trace}
 use Rattle.model.specs.Table.{keepPublic, writePublic}
 use Rattle.model.specs.Invariants.{bitmapBit}
-use Rattle.model.proofs.Laws.Slots.{slotBlock-of}
+use Rattle.model.proofs.Laws.Places.{OldPlace, Placed, isPlace-slotStart, old-of-placed}
+use Rattle.model.proofs.Laws.Places.{place-of-isPlace, placed-apart}
 use Rattle.model.proofs.Laws.Paths.{Hides}
-use Rattle.model.proofs.Laws.PublicHalf.{OldPlace}
 use Rattle.model.proofs.Laws.RoundStores.{afterRound, length-round}
 use Rattle.model.proofs.Laws.Rounds.{entryAt-round, headIn-round, blockAt-round-start-other}
 use Rattle.model.proofs.Laws.RoundEffects.{mapEntry-kept, bitmapBit-kept, isAllocated-kept}
@@ -23,31 +22,6 @@ use Rattle.model.proofs.Laws.RoundEffects.{blockAt-kept-start, blockAt-
 use Rattle.model.proofs.Laws.RoundEffects.{mapEntry-last-other, bitmapBit-last-new, bitmapBit-last-old}
 use Rattle.model.proofs.Laws.RoundEffects.{bitmapBit-last-other, isAllocated-last-new}
 use Rattle.model.proofs.Laws.RoundEffects.{isAllocated-last-old, isAllocated-last-other}
-
--- ---- a number's place ----
-
--- its entry is 0 or block A of an allocated slot
-abbrev pub Placed : Geometry → (disk : Bytes) → (number : ℕ) → Type 0
-Placed g disk number = (mapEntry g disk number ≡ 0) ⊎ (isPlace g disk (mapEntry g disk number) ≡ true)
-
-pub old-of-placed :
-    (g : Geometry) (disk : Bytes) (number : ℕ) → Placed g disk number → OldPlace g (mapEntry g disk number)
-unfolding isPlace
-old-of-placed g disk number (inl e) = inl e
-old-of-placed g disk number (inr e) =
-    let entry = mapEntry g disk number in
-    inr (slotBlock-of g 0 entry (and-left (isSlotBlock g 0 entry) (isAllocated g disk (slotOf g entry)) e))
-
--- it is not in a free slot
-pub placed-apart :
-    (g : Geometry) (disk : Bytes) (number slot : ℕ) → Placed g disk number → isAllocated g disk slot ≡ false →
-    mapEntry g disk number ≢ 0 → slotOf g (mapEntry g disk number) ≢ slot
-unfolding isPlace
-placed-apart g disk number slot (inl e) free ne q = ne e
-placed-apart g disk number slot (inr e) free ne q =
-    let entry = mapEntry g disk number in
-    true-is-not-false (and-right (isSlotBlock g 0 entry) (isAllocated g disk (slotOf g entry)) e)
-    (ap (isAllocated g disk) q ∙ free)
 
 -- ---- the whole effect ----
 
@@ -136,19 +110,15 @@ module _ (g : Geometry) (f : Fits g) (disk : Bytes) (whole : length disk ≡ blo
       mapEntry-kept g f disk whole number counted slot inside content sized old hidden hides number counted
 
   pub placed-kept : Placed g kept number
-  unfolding isPlace
-  placed-kept = by placed old
+  placed-kept = by placed
     where
-      by : Placed g disk number → OldPlace g (mapEntry g disk number) → Placed g kept number
-      by (inl e) z = inl (entry-kept ∙ e)
-      by (inr e) (inl z) = inl (entry-kept ∙ z)
-      by (inr e) (inr block) =
-          inr (rw entry-kept (and-both
-          (and-left (isSlotBlock g 0 (mapEntry g disk number))
-          (isAllocated g disk (slotOf g (mapEntry g disk number))) e)
-          (mark-kept (slotOf g (mapEntry g disk number)) (block .slot-inside)
-          ∙ and-right (isSlotBlock g 0 (mapEntry g disk number))
-          (isAllocated g disk (slotOf g (mapEntry g disk number))) e)))
+      by : Placed g disk number → Placed g kept number
+      by (inl e) = inl (entry-kept ∙ e)
+      by (inr e) =
+          let place = place-of-isPlace g disk (mapEntry g disk number) e in
+          inr (ap (isPlace g kept) (entry-kept ∙ place .entry-is)
+          ∙ isPlace-slotStart g kept (slotOf g (mapEntry g disk number)) (place .slot-inside)
+          (mark-kept (slotOf g (mapEntry g disk number)) (place .slot-inside) ∙ place .allocated))
 
   -- a kept round before
   pub kept-wrote :

@@ -17,9 +17,9 @@ use Rattle.model.specs.Blocks.{Bytes}
 use Rattle.model.specs.Layout.{geometryIn, mapEntry, isPlace}
 use Rattle.model.specs.Refusals.{driveChecks, driveRefusal, placeChecks, roundCount, storeCount}
 use Rattle.model.specs.Refusals.{roundChecks, writeRefusal}
+use Rattle.model.proofs.Laws.Places.{Placed}
 use Rattle.model.proofs.Laws.Refusals.{Accepted, accepted-of-refusal, after-drive-stop}
 use Rattle.model.proofs.Laws.Refusals.{after-drive-pass}
-use Rattle.model.proofs.Laws.Wrote.{Placed}
 
 -- so many random bytes and a list of so many entries are enough for a write of this number and data
 pub record Allowed (disk : Bytes) (number : ℕ) (content : Bytes) (random room : ℕ) : Type 0 where

@@ -17,8 +17,8 @@ use Rattle.model.specs.Blocks.{Bytes}
 use Rattle.model.specs.Layout.{geometryIn, mapEntry, isPlace}
 use Rattle.model.specs.Refusals.{driveRefusal, placeChecks, roundCount, storeCount, roundChecks}
 use Rattle.model.specs.Refusals.{publicReadRefusal, writeRefusal}
+use Rattle.model.proofs.Laws.Places.{Placed}
 use Rattle.model.proofs.Laws.Refusals.{after-drive-pass}
-use Rattle.model.proofs.Laws.Wrote.{Placed}
 
 pub record PlaceAllowed (g : Geometry) (disk : Bytes) (number size : ℕ) : Type 0 where
   pub known : number < g .publics

@@ -17,8 +17,8 @@ use Rattle.model.specs.Refusals.{driveRefusal, publicReadRefusal}
 use Rattle.model.specs.Calls.{publicRead}
 use Rattle.model.specs.View.{viewFrom, viewOf, Alike}
 use Rattle.model.specs.Simulator.{Simulator, simulatorOf, simulatedAnswer}
+use Rattle.model.proofs.Laws.Places.{Placed}
 use Rattle.model.proofs.Laws.Refusals.{drive-of-refusal}
-use Rattle.model.proofs.Laws.Wrote.{Placed}
 use Rattle.model.proofs.Views.Shown.{ShowSame, blockAt-alike, isShown-slotBlock}
 use Rattle.model.proofs.Views.View.{entryAt-viewOf, geometry-ext, viewFrom-alike, showSame-of-viewFrom}
 use Rattle.model.proofs.Views.Tracking.{trackerOf, simulatorOf-viewOf}

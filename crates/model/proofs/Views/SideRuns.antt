@@ -16,9 +16,9 @@ use Rattle.model.specs.Rounds.{roundTrace, runFrom, followedBy, stopped}
 use Rattle.model.specs.Refusals.{roundsTo}
 use Rattle.model.specs.View.{shownOf}
 use Rattle.model.proofs.Laws.Slots.{nextSlot-lt}
+use Rattle.model.proofs.Laws.Places.{OldPlace}
 use Rattle.model.proofs.Laws.Stores.{All}
 use Rattle.model.proofs.Laws.HiddenHalf.{rowOf-public, WholeWrite, HidesHalf, hiddenHalf-hides}
-use Rattle.model.proofs.Laws.PublicHalf.{OldPlace}
 use Rattle.model.proofs.Laws.RoundStores.{afterRound}
 use Rattle.model.proofs.Laws.RoundEffects.{mapEntry-kept, isAllocated-kept}
 use Rattle.model.proofs.Laws.RoundCounts.{roundsTo-zero, roundsTo-taken, OneMore, oneMore-of}

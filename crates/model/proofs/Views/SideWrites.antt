@@ -20,9 +20,9 @@ use Rattle.model.specs.Refusals.{roundCount, writeRefusal}
 use Rattle.model.specs.Calls.{offeredWrites, startState, writeRun, written, writtenDisk}
 use Rattle.model.specs.View.{shownOf}
 use Rattle.model.specs.Simulator.{Simulator, simulatedAnswer}
+use Rattle.model.proofs.Laws.Places.{old-of-placed}
 use Rattle.model.proofs.Laws.Stores.{apply-nil}
 use Rattle.model.proofs.Laws.Refusals.{Accepted, accepted-of-refusal}
-use Rattle.model.proofs.Laws.Wrote.{old-of-placed}
 use Rattle.model.proofs.Laws.WriteRuns.{offeredWrites-whole}
 use Rattle.model.proofs.Views.Agreement.{agree-apply}
 use Rattle.model.proofs.Views.Shown.{ShowSame, TraceSame}

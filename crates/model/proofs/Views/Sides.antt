@@ -20,10 +20,11 @@ use Rattle.model.specs.Rounds.{roundTrace}
 use Rattle.model.specs.View.{shownOf}
 use Rattle.model.proofs.Laws.Geometry.{mapAddress-lt, bitAddress-lt, slot-block-lt, rootAddress-lt}
 use Rattle.model.proofs.Laws.Entries.{length-setEntry, entryAt-header}
+use Rattle.model.proofs.Laws.Places.{OldPlace}
 use Rattle.model.proofs.Laws.Bitmap.{isAllocated-block, length-bitmapWith}
 use Rattle.model.proofs.Laws.PublicMap.{mapEntry-block, length-mapBlockWith}
 use Rattle.model.proofs.Laws.Paths.{Hides, blockAt-whole}
-use Rattle.model.proofs.Laws.PublicHalf.{all-map, OldPlace}
+use Rattle.model.proofs.Laws.PublicHalf.{all-map}
 use Rattle.model.proofs.Laws.RoundStores.{HiddenAddress, hides-addresses}
 use Rattle.model.proofs.Views.Agreement.{none, more, along-append, agree-apply}
 use Rattle.model.proofs.Views.Shown.{isShown-below, isShown-slotStart, isShown-slot-block}

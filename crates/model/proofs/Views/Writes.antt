@@ -15,8 +15,9 @@ use Rattle.model.specs.Refusals.{driveRefusal, roundCount}
 use Rattle.model.specs.Simulator.{entryFor, simulatedRounds, slotOfRound, keptRounds, lastRound}
 use Rattle.model.specs.Simulator.{simulatedStores, simulatedWrite}
 use Rattle.model.proofs.Laws.Slots.{nextSlot-lt}
+use Rattle.model.proofs.Laws.Places.{Placed, old-of-placed}
 use Rattle.model.proofs.Laws.Refusals.{Accepted, accepted-of-refusal, refusal-of-accepted}
-use Rattle.model.proofs.Laws.Wrote.{Wrote, Placed, old-of-placed}
+use Rattle.model.proofs.Laws.Wrote.{Wrote}
 use Rattle.model.proofs.Laws.Runs.{slotAfter}
 use Rattle.model.proofs.Views.View.{geometry-ext}
 use Rattle.model.proofs.Views.Tracking.{tracked, trackerOf, simulator-ext, getD-entries}

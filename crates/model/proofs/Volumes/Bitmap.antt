@@ -9,8 +9,8 @@ use Rattle.model.specs.Geometry.{Geometry, bitmapBlocks, areaStart}
 use Rattle.model.specs.Blocks.{Bytes, DiskAddress}
 use Rattle.model.specs.Layout.{slotOf, areaPlace, mapEntry}
 use Rattle.model.specs.Invariants.{PublicInvariant, bitmapBit, BitmapInvariant}
+use Rattle.model.proofs.Laws.Places.{place-of-isPlace}
 use Rattle.model.proofs.Laws.Wrote.{Wrote}
-use Rattle.model.proofs.Volumes.Public.{place-of}
 
 -- a bit is that of a public number's place
 abbrev Mapped : Geometry → (disk : Bytes) → (place : ℕ) → Type 0
@@ -26,7 +26,7 @@ module _ (g : Geometry) (disk after : Bytes) (number slot : ℕ) (content : Byte
   own-place : (place : ℕ) → entry ≡ areaStart g + place → (entry ≢ 0) × (place ≡ areaPlace g (slotOf g entry))
   own-place place e =
       let ne : entry ≢ 0 = λ z. omega (arith, e, z) in
-      (ne, omega (arith, place-of g disk entry (public .in-place number counted ne) .entry-is, e))
+      (ne, omega (arith, place-of-isPlace g disk entry (public .in-place number counted ne) .entry-is, e))
 
   -- a set bit was set before, and it was another number's
   mapped-kept :

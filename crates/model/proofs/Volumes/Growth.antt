@@ -13,13 +13,13 @@ use Rattle.model.specs.Geometry.{Geometry, Fits, blockCount}
 use Rattle.model.specs.Blocks.{Bytes}
 use Rattle.model.specs.Table.{PublicChoice}
 use Rattle.model.specs.HiddenHalf.{HiddenWrite, HiddenState, HiddenHalf, hiddenHalf}
+use Rattle.model.proofs.Laws.Places.{Placed, old-of-placed}
 use Rattle.model.proofs.Laws.Stores.{All}
 use Rattle.model.proofs.Laws.Paths.{Hides}
 use Rattle.model.proofs.Laws.HiddenHalf.{WholeWrite, hiddenHalf-hides}
 use Rattle.model.proofs.Laws.PublicHalf.{all-map}
 use Rattle.model.proofs.Laws.RoundStores.{afterRound}
 use Rattle.model.proofs.Laws.Rounds.{blockAt-round-root, blockAt-round-place}
-use Rattle.model.proofs.Laws.Wrote.{Placed, old-of-placed}
 use Rattle.model.proofs.Tree.Ghost.{Tree, Ghost, valueOf}
 use Rattle.model.proofs.Tree.Stored.{Follows}
 use Rattle.model.proofs.Tree.Turns.{Turn, still, places, hiddenHalf-turns}

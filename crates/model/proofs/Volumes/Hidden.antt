@@ -16,11 +16,12 @@ use Rattle.model.specs.HiddenHalf.{HiddenState, HiddenHalf, rowOf, hidde
 use Rattle.model.specs.Rounds.{Run, stopped, followedBy, goesOn, roundTrace, runFrom}
 use Rattle.model.specs.Refusals.{roundsTo}
 use Rattle.model.proofs.Laws.Slots.{nextSlot-lt}
+use Rattle.model.proofs.Laws.Places.{Placed, old-of-placed}
 use Rattle.model.proofs.Laws.Stores.{All, apply-append}
 use Rattle.model.proofs.Laws.HiddenHalf.{rowOf-public}
 use Rattle.model.proofs.Laws.RoundStores.{afterRound, length-round}
 use Rattle.model.proofs.Laws.RoundEffects.{isAllocated-kept}
-use Rattle.model.proofs.Laws.Wrote.{Placed, old-of-placed, placed-kept}
+use Rattle.model.proofs.Laws.Wrote.{placed-kept}
 use Rattle.model.proofs.Laws.RoundCounts.{roundsTo-zero, roundsTo-taken, oneMore-of, roundsTo-ext}
 use Rattle.model.proofs.Tree.Ghost.{Tree, Ghost}
 use Rattle.model.proofs.Volumes.Growth.{GoodWrite, Grew, grew-then, round-hides, round-grew}

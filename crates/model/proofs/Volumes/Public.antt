@@ -1,5 +1,4 @@
--- The public volume: where its blocks are, that a write keeps its invariant, and what a number shows after
--- it. Assumes nothing.
+-- The public volume: that a write keeps its invariant, and what a number shows after it. Assumes nothing.
 use mathlib.Core.Path.{_≡_, sym, ap, _∙_}
 use mathlib.Core.Logic.{_≢_, _⊎_, inl, inr, ⊎-elim}
 use mathlib.Core.Bool.{true, cond}
@@ -8,40 +7,14 @@ use Prim.Native.Nat.{ℕ, _<_}
 use native.Mathlib.Omega.{arith}
 use lib.Dec.{eqb}
 use borrow.Author.Tests.{eq-eqb, ne-eqb}
-use Rattle.laws.proofs.Cases.{eq-cases, and-left, and-right, and-both, cond-true, cond-false}
+use Rattle.laws.proofs.Cases.{eq-cases, cond-true, cond-false}
 use Rattle.model.specs.Geometry.{Geometry}
 use Rattle.model.specs.Blocks.{Bytes, DiskAddress, blockAt}
-use Rattle.model.specs.Layout.{slotStart, slotOf, isSlotBlock, isAllocated, mapEntry, isPlace}
+use Rattle.model.specs.Layout.{slotStart, slotOf, isAllocated, mapEntry, isPlace}
 use Rattle.model.specs.Invariants.{PublicInvariant}
-use Rattle.model.proofs.Laws.Slots.{slotBlock-of, slotOf-slotStart, isSlotBlock-slotStart}
-use Rattle.model.proofs.Laws.Wrote.{placed-apart, Wrote}
-
--- ---- places ----
-
--- an entry that is block A of an allocated slot
-pub record SlotPlace (g : Geometry) (disk : Bytes) (entry : DiskAddress) : Type 0 where
-  pub slot-inside : slotOf g entry < g .slots
-  pub entry-is : entry ≡ slotStart g (slotOf g entry)
-  pub allocated : isAllocated g disk (slotOf g entry) ≡ true
-
-pub place-of :
-    (g : Geometry) (disk : Bytes) (entry : DiskAddress) → isPlace g disk entry ≡ true → SlotPlace g disk entry
-unfolding isPlace
-place-of g disk entry e =
-    let block =
-    slotBlock-of g 0 entry (and-left (isSlotBlock g 0 entry) (isAllocated g disk (slotOf g entry)) e) in
-    record {
-      slot-inside = block .slot-inside;
-      entry-is = omega (arith, block .address-is);
-      allocated = and-right (isSlotBlock g 0 entry) (isAllocated g disk (slotOf g entry)) e;
-    }
-
-isPlace-of :
-    (g : Geometry) (disk : Bytes) (slot : ℕ) → slot < g .slots → isAllocated g disk slot ≡ true →
-    isPlace g disk (slotStart g slot) ≡ true
-unfolding isPlace
-isPlace-of g disk slot h e =
-    and-both (isSlotBlock-slotStart g slot h) (ap (isAllocated g disk) (slotOf-slotStart g slot) ∙ e)
+use Rattle.model.proofs.Laws.Slots.{slotOf-slotStart}
+use Rattle.model.proofs.Laws.Places.{Place, isPlace-slotStart, place-of-isPlace, placed-apart}
+use Rattle.model.proofs.Laws.Wrote.{Wrote}
 
 -- what a number shows: the block at its entry, nothing at 0
 abbrev pub publicValue : Geometry → (disk : Bytes) → (number : ℕ) → Option Bytes
@@ -58,8 +31,8 @@ module _ (g : Geometry) (disk after : Bytes) (number slot : ℕ) (content : Byte
   home other = slotOf g (mapEntry g disk other)
 
   place-at :
-      (other : ℕ) → other < g .publics → mapEntry g disk other ≢ 0 → SlotPlace g disk (mapEntry g disk other)
-  place-at other h ne = place-of g disk (mapEntry g disk other) (sound .in-place other h ne)
+      (other : ℕ) → other < g .publics → mapEntry g disk other ≢ 0 → Place g disk (mapEntry g disk other)
+  place-at other h ne = place-of-isPlace g disk (mapEntry g disk other) (sound .in-place other h ne)
 
   -- no place is in the slot that the write takes
   home-not-new : (other : ℕ) → other < g .publics → mapEntry g disk other ≢ 0 → home other ≢ slot
@@ -96,7 +69,7 @@ module _ (g : Geometry) (disk after : Bytes) (number slot : ℕ) (content : Byte
       same : other ≡ number → isPlace g after (mapEntry g after other) ≡ true
       same e =
           ap (isPlace g after) (ap (mapEntry g after) e ∙ wrote .map-same)
-          ∙ isPlace-of g after slot (wrote .inside) (wrote .mark-new)
+          ∙ isPlace-slotStart g after slot (wrote .inside) (wrote .mark-new)
 
       different : other ≢ number → isPlace g after (mapEntry g after other) ≡ true
       different ne =
@@ -104,7 +77,7 @@ module _ (g : Geometry) (disk after : Bytes) (number slot : ℕ) (content : Byte
           let q : mapEntry g disk other ≢ 0 = λ z. p (e ∙ z) in
           let place = place-at other h q in
           ap (isPlace g after) (e ∙ place .entry-is)
-          ∙ isPlace-of g after (home other) (place .slot-inside) (mark-kept other h ne q)
+          ∙ isPlace-slotStart g after (home other) (place .slot-inside) (mark-kept other h ne q)
 
   apart-after :
       (first second : ℕ) → first < g .publics → second < g .publics → mapEntry g after first ≢ 0 →

@@ -9,6 +9,7 @@ pub mod PublicMap
 pub mod Stores
 pub mod Table
 pub mod Refusals
+pub mod Accepted
 pub mod Paths
 pub mod HiddenHalf
 pub mod BitmapBits

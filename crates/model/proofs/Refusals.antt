@@ -6,7 +6,6 @@ pub mod Circle
 pub mod Rounds
 pub mod Hidden
 pub mod Calls
-pub mod Allowed
 pub mod Writes
 pub mod Pigeonhole
 pub mod Mapped

@@ -5,7 +5,6 @@ pub mod View
 pub mod Tracking
 pub mod Answers
 pub mod Updates
-pub mod Allowed
 pub mod Writes
 pub mod Follows
 pub mod Sides

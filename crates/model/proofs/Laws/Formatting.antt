@@ -1,6 +1,7 @@
 -- Laws of formatting (document 01, "The disk"): the front that it writes, the header that reads back, zeros
 -- from the map to the root, and the data area as it was. Assumes nothing.
 use mathlib.Core.Path.{_≡_, sym, ap, _∙_, subst}
+use mathlib.Core.Logic.{_≢_}
 use mathlib.Core.Bool.{false}
 use mathlib.Core.List.{[], _∷_}
 use Prim.Native.Nat.{ℕ, _+_, _*_, _-_, _/_, _%_, _^_, _≤_, _<_}
@@ -8,11 +9,11 @@ use native.Mathlib.Nat.{mul-le-mul-right, zero-div, div-lt-iff-lt-mul}
 use native.Mathlib.Omega.{arith}
 use lib.ListN.{length, take, drop, length-append, length-replicate}
 use lib.Seq.{ext-getD, drop-append-add}
-use borrow.Author.Tests.{eq-eqb}
+use borrow.Author.Tests.{eq-eqb, ne-eqb}
 use Rattle.laws.specs.Lists.{part, over}
 use Rattle.laws.specs.Numbers.{numberOf, littleEndian}
 use Rattle.laws.specs.Bits.{bitOf, bitAt}
-use Rattle.laws.proofs.Cases.{cond-true}
+use Rattle.laws.proofs.Cases.{cond-true, cond-false}
 use Rattle.laws.proofs.Lists.{length-part, part-part, getD-zeros, getD-part-zeros, length-over}
 use Rattle.laws.proofs.Lists.{part-over-same, part-over-after}
 use Rattle.laws.proofs.Numbers.{numberOf-littleEndian}
@@ -61,6 +62,10 @@ length-freshFront g f =
     ∙ omega (arith, length-headerBlock g f, length-replicate {A = ℕ} rest 0, split)
 
 -- ---- the disk that formatting leaves ----
+
+pub formatted-refused : (disk : Bytes) (g : Geometry) → formatRefusal disk g ≢ 0 → formatted disk g ≡ disk
+unfolding formatted
+formatted-refused disk g f = cond-false _ _ (ne-eqb (formatRefusal disk g) 0 f)
 
 module _ (disk : Bytes) (g : Geometry) (good : formatRefusal disk g ≡ 0) where
   sized : Sized (length disk) g

@@ -18,6 +18,7 @@ use Rattle.model.specs.HiddenHalf.{ownerOf, hiddenBy, rowOf, hiddenHalf}
 use Rattle.model.proofs.Laws.Geometry.{slot-block-lt}
 use Rattle.model.proofs.Laws.Stores.{All}
 use Rattle.model.proofs.Laws.Table.{rowAt-ruled}
+use Rattle.model.proofs.Laws.Accepted.{GoodWrite}
 use Rattle.model.proofs.Laws.Paths.{Hides, blockAt-whole, writtenBack-hides, dummyStores-hides}
 use Rattle.model.proofs.Laws.Paths.{currentPath-hides}
 
@@ -40,21 +41,17 @@ rowOf-hidden g disk slot waiting =
 
 -- ---- the half ----
 
--- a hidden write of a whole block
-abbrev pub WholeWrite : Geometry → HiddenWrite → Type 0
-WholeWrite g write = length (write .content) ≡ g .blockSize
-
--- what the half gives: a trace that hides, and the writes still waiting whole
+-- what the half gives: a trace that hides, and the writes still waiting good
 pub record HidesHalf (g : Geometry) (slot : ℕ) (part : HiddenHalf) : Type 0 where
   pub hides : Hides g slot (part .trace)
-  pub waiting : All (WholeWrite g) (part .state .waiting)
+  pub waiting : All (GoodWrite g) (part .state .waiting)
 
 module _ (g : Geometry) (f : Fits g) (disk : Bytes) (whole : length disk ≡ blockCount g * g .blockSize)
     (slot : ℕ) (inside : slot < g .slots) (random : Bytes)
     (enough : g .height * g .blockSize ≤ length random) where
   hiddenBy-hides :
       (choice : HiddenChoice) (state : HiddenState) (waiting : List HiddenWrite) →
-      All (WholeWrite g) (state .waiting) → All (WholeWrite g) waiting →
+      All (GoodWrite g) (state .waiting) → All (GoodWrite g) waiting →
       HidesHalf g slot (hiddenBy choice g disk slot random state waiting)
   unfolding hiddenBy
   hiddenBy-hides keepHidden state waiting kept h =
@@ -70,14 +67,15 @@ module _ (g : Geometry) (f : Fits g) (disk : Bytes) (whole : length disk ≡ blo
       record { hides = dummyStores-hides g f disk whole slot inside random enough; waiting = kept }
   hiddenBy-hides placeHidden state (next ∷ later) kept h =
       record {
-        hides = currentPath-hides g f disk whole slot inside (next .number) (next .content) (h .0);
+        hides = currentPath-hides g f disk whole slot inside (next .number) (next .content)
+            (h .0 .block-sized);
         waiting = h .1;
       }
   hiddenBy-hides fillHidden state waiting kept h =
       record { hides = dummyStores-hides g f disk whole slot inside random enough; waiting = kept }
 
   pub hiddenHalf-hides :
-      (state : HiddenState) → All (WholeWrite g) (state .waiting) →
+      (state : HiddenState) → All (GoodWrite g) (state .waiting) →
       HidesHalf g slot (hiddenHalf g disk slot random state)
   unfolding hiddenHalf
   hiddenHalf-hides state h =

@@ -1,7 +1,7 @@
 -- Laws of the refusals: what a drive that is not refused gives, and the chains of the calls taken apart.
 -- Assumes nothing.
-use mathlib.Core.Path.{_≡_, ap}
-use mathlib.Core.Logic.{_≢_}
+use mathlib.Core.Path.{_∙_, _≡_, ap, sym}
+use mathlib.Core.Logic.{_≢_, ⊎-elim}
 use mathlib.Core.Bool.{true, not}
 use mathlib.Core.List.{List, [], _∷_, _++_}
 use Prim.Native.Nat.{ℕ, _≤_, _<_}
@@ -10,7 +10,7 @@ use lib.Dec.{ltb, leb, eqb}
 use lib.ListN.{length}
 use borrow.Author.Tests.{ltb-false, leb-false, eqb-true, not-false, le-ltb, lt-leb, eq-eqb}
 use Rattle.laws.specs.Checks.{Check, check, firstOf}
-use Rattle.laws.proofs.Cases.{or-false-left, or-false-right, or-neither}
+use Rattle.laws.proofs.Cases.{or-false-left, or-false-right, or-neither, eq-cases}
 use Rattle.laws.proofs.Checks.{Numbered, Passed, passed-of-zero, zero-of-passed, passed-front, passed-rest}
 use Rattle.laws.proofs.Checks.{firstOf-append-pass, firstOf-append-stop}
 use Rattle.model.specs.Geometry.{Geometry, Fits, driveSize, isGeometry}
@@ -106,3 +106,14 @@ after-drive-stop disk cs f = firstOf-append-stop (driveChecks disk) cs f
 pub after-drive-pass : (disk : Bytes) (cs : List Check) → driveRefusal disk ≡ 0 →
     firstOf (driveChecks disk ++ cs) ≡ firstOf cs
 after-drive-pass disk cs e = firstOf-append-pass (driveChecks disk) cs (passed-of-driveRefusal disk e)
+
+-- a chain after the drive's that answers 0 has an accepted drive before it, and has passed itself
+pub driveRefusal-of-chain :
+    (disk : Bytes) (cs : List Check) → firstOf (driveChecks disk ++ cs) ≡ 0 → driveRefusal disk ≡ 0
+driveRefusal-of-chain disk cs e =
+    ⊎-elim (λ z. z) (λ f. absurd (f (sym (after-drive-stop disk cs f) ∙ e))) (eq-cases (driveRefusal disk) 0)
+
+pub passed-after-drive :
+    (disk : Bytes) (cs : List Check) → Numbered cs → firstOf (driveChecks disk ++ cs) ≡ 0 → Passed cs
+passed-after-drive disk cs n e =
+    passed-of-zero cs n (sym (after-drive-pass disk cs (driveRefusal-of-chain disk cs e)) ∙ e)

@@ -24,8 +24,9 @@ use Rattle.model.proofs.Laws.Slots.{nextSlot-lt}
 use Rattle.model.proofs.Laws.Places.{Placed, old-of-placed}
 use Rattle.model.proofs.Laws.Stores.{All, all-append, Stored, apply-append, addresses-append}
 use Rattle.model.proofs.Laws.Stores.{length-addresses}
+use Rattle.model.proofs.Laws.Accepted.{GoodWrite}
 use Rattle.model.proofs.Laws.Paths.{Hides}
-use Rattle.model.proofs.Laws.HiddenHalf.{WholeWrite, HidesHalf, rowOf-public, hiddenHalf-hides}
+use Rattle.model.proofs.Laws.HiddenHalf.{HidesHalf, rowOf-public, hiddenHalf-hides}
 use Rattle.model.proofs.Laws.RoundStores.{afterRound, addresses-kept, addresses-last, round-stored}
 use Rattle.model.proofs.Laws.RoundStores.{length-round}
 use Rattle.model.proofs.Laws.RoundEffects.{isAllocated-kept}
@@ -127,7 +128,7 @@ module _ (g : Geometry) (f : Fits g) (number : ℕ) (inside : number < g .public
       (disk : Bytes) → length disk ≡ blockCount g * g .blockSize → (slot : ℕ) → slot < g .slots →
       Placed g disk number → (random : Bytes) (state : HiddenState) (earlier : ℕ) →
       roundsTo most (isAllocated g disk) g slot ≡ suc earlier →
-      suc earlier * (g .height * g .blockSize) ≤ length random → All (WholeWrite g) (state .waiting) →
+      suc earlier * (g .height * g .blockSize) ≤ length random → All (GoodWrite g) (state .waiting) →
       Ran g number content slot earlier disk (runFrom most g number content slot random disk state)
 
   -- one round more, whatever its hidden half

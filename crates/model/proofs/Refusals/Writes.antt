@@ -13,46 +13,42 @@ use Rattle.model.specs.HiddenHalf.{HiddenWrite}
 use Rattle.model.specs.Refusals.{roundCount, writeRefusal}
 use Rattle.model.specs.Calls.{writeRun, Written, written}
 use Rattle.model.specs.Simulator.{keptRounds, lastRound}
+use Rattle.model.proofs.Laws.Accepted.{AcceptedWrite, accepted-of-write}
 use Rattle.model.proofs.Laws.Runs.{slotAfter, Ran, rounds-ran, length-ran}
-use Rattle.model.proofs.Laws.WriteRuns.{writeRun-accepted}
-use Rattle.model.proofs.Refusals.Calls.{doneWith, written-cases}
-use Rattle.model.proofs.Refusals.Allowed.{Allowed, allowed-of-refusal}
+use Rattle.model.proofs.Laws.WriteRuns.{writeRun-ran}
+use Rattle.model.proofs.Laws.Calls.{doneWith, written-cases}
 
 module _ (disk : Bytes) (number : ℕ) (content random : Bytes) (room : ℕ) (offer : Option HiddenWrite) where
-  -- such a write runs as the laws of runs say
-  pub ran-of-allowed :
-      Allowed disk number content (length random) room →
-      Ran (geometryIn disk) number content (headIn disk) (roundCount (geometryIn disk) disk - 1) disk
-      (writeRun (geometryIn disk) disk number content random offer)
-  ran-of-allowed a =
-      writeRun-accepted disk (a .accepted) number (a .number-inside) content (a .content-whole)
-      (a .old-place) random (a .some-round) (a .random-enough) offer
-
   module _ (e : writeRefusal disk number content (length random) room ≡ 0) where
-    allowed : Allowed disk number content (length random) room
-    allowed = allowed-of-refusal disk number content (length random) room e
+    allowed : AcceptedWrite (geometryIn disk) disk number (length content) (length random) room
+    allowed = accepted-of-write disk number content (length random) room e
+
+    ran :
+        Ran (geometryIn disk) number content (headIn disk) (roundCount (geometryIn disk) disk - 1) disk
+        (writeRun (geometryIn disk) disk number content random offer)
+    ran = writeRun-ran disk number content random room offer e
 
     pub rounds-done :
         doneWith disk number content random room offer .rounds ≡ roundCount (geometryIn disk) disk
     rounds-done =
         rounds-ran (geometryIn disk) number content (headIn disk) (roundCount (geometryIn disk) disk)
-        (allowed .some-round) disk _ (ran-of-allowed allowed)
+        (allowed .some-rounds) disk _ ran
 
     pub stores-done :
         addresses (doneWith disk number content random room offer .trace) ≡
         keptRounds (roundCount (geometryIn disk) disk - 1) (geometryIn disk) (headIn disk) ++
         lastRound (geometryIn disk) number (mapEntry (geometryIn disk) disk number)
         (slotAfter (geometryIn disk) (headIn disk) (roundCount (geometryIn disk) disk - 1))
-    stores-done = ran-of-allowed allowed .listed
+    stores-done = ran .listed
 
     stores-done-le : length (doneWith disk number content random room offer .trace) ≤ room
     stores-done-le =
         omega (
           arith,
           length-ran (geometryIn disk) number content (headIn disk) (roundCount (geometryIn disk) disk)
-              (allowed .some-round) disk (writeRun (geometryIn disk) disk number content random offer)
-              (ran-of-allowed allowed),
-          allowed .room-enough,
+              (allowed .some-rounds) disk (writeRun (geometryIn disk) disk number content random offer)
+              ran,
+          allowed .enough-room,
         )
 
   -- the list has room for the stores, none of which a refused write has

@@ -12,8 +12,8 @@ use Rattle.model.specs.Calls.{Written}
 use Rattle.model.specs.Invariants.{BitmapInvariant}
 use Rattle.model.specs.Promises.BufferBounds.{AtMost, BufferBounds}
 use Rattle.model.proofs.Laws.Refusals.{accepted-of-refusal}
+use Rattle.model.proofs.Laws.Calls.{answer-written, written-cases}
 use Rattle.model.proofs.Refusals.Circle.{roundsTo-le}
-use Rattle.model.proofs.Refusals.Calls.{written-cases, answer-written}
 use Rattle.model.proofs.Refusals.Writes.{rounds-done}
 use Rattle.model.proofs.Refusals.Mapped.{roundCount-le-of-mapped}
 use Rattle.model.proofs.Refusals.Bounds.{never-eight-of-rounds, never-nine-of-rounds}

@@ -17,10 +17,11 @@ use Rattle.model.specs.Refusals.{writeRefusal}
 use Rattle.model.specs.Calls.{Written, refusedWrite, written, writtenDisk, writtenList, outcomeNumber}
 use Rattle.model.specs.Promises.Refusals.{WriteRefusals, Refusals}
 use Rattle.model.proofs.Laws.Stores.{apply-nil, length-addresses}
+use Rattle.model.proofs.Laws.Formatting.{formatted-refused}
+use Rattle.model.proofs.Laws.Calls.{answer-written, hiddenRead-refused, publicRead-refused}
+use Rattle.model.proofs.Laws.Calls.{writeRun-bad, written-refused, written-same}
 use Rattle.model.proofs.Refusals.Calls.{answers-format, answers-public-read, answers-hidden-read}
-use Rattle.model.proofs.Refusals.Calls.{answers-write, formatted-refused, publicRead-refused}
-use Rattle.model.proofs.Refusals.Calls.{hiddenRead-refused, written-refused, answer-written}
-use Rattle.model.proofs.Refusals.Calls.{written-same, writeRun-bad}
+use Rattle.model.proofs.Refusals.Calls.{answers-write}
 use Rattle.model.proofs.Refusals.Writes.{rounds-done, stores-done, stores-written-le}
 
 module _ (disk : Bytes) (number : ℕ) (content random : Bytes) (list : List DiskAddress)

@@ -18,13 +18,10 @@ use Rattle.model.specs.HiddenTree.{isDamaged, isFoundAt, walk}
 use Rattle.model.specs.HiddenHalf.{HiddenWrite, ownerOf, isLive, isOwnerDamaged, isNextDamaged}
 use Rattle.model.specs.HiddenHalf.{isBlocked}
 use Rattle.model.proofs.Laws.Stores.{All}
+use Rattle.model.proofs.Laws.Accepted.{GoodWrite}
 use Rattle.model.proofs.Tree.Keys.{lt-treeCapacity}
 use Rattle.model.proofs.Tree.Ghost.{Tree, slotAt, Ghost}
 use Rattle.model.proofs.Tree.Walks.{endIn, some-of-endIn, walk-end, isDamaged-walk}
-
--- every hidden write that waits has a number of the hidden volume
-abbrev pub GoodNumbers : Geometry → (waiting : List HiddenWrite) → Type 0
-GoodNumbers g waiting = All (λ (write : HiddenWrite). write .number < g .hidden) waiting
 
 module _ (g : Geometry) (f : Fits g) (disk : Bytes) (tree : Tree) (ghost : Ghost g disk tree) where
   -- a slot that the tree uses is live
@@ -83,14 +80,14 @@ module _ (g : Geometry) (f : Fits g) (disk : Bytes) (tree : Tree) (ghost : Ghost
       free e = and-false-left (isDamaged (walk g disk (ownerOf g disk slot) .end)) e
 
   pub isNextDamaged-false :
-      (waiting : List HiddenWrite) → GoodNumbers g waiting → isNextDamaged g disk waiting ≡ false
+      (waiting : List HiddenWrite) → All (GoodWrite g) waiting → isNextDamaged g disk waiting ≡ false
   unfolding isNextDamaged
   isNextDamaged-false [] h = refl
   isNextDamaged-false (next ∷ later) h =
-      isDamaged-walk g disk tree (ghost .links) (next .number) (lt-treeCapacity g f (next .number) (h .0)) f
+      isDamaged-walk g disk tree (ghost .links) (next .number) (lt-treeCapacity g f (next .number) (h .0 .number-inside)) f
 
   pub isBlocked-false :
-      (slot : ℕ) (waiting : List HiddenWrite) → GoodNumbers g waiting → isBlocked g disk slot waiting ≡ false
+      (slot : ℕ) (waiting : List HiddenWrite) → All (GoodWrite g) waiting → isBlocked g disk slot waiting ≡ false
   isBlocked-false slot waiting h =
       or-neither (isOwnerDamaged-false slot)
       (and-false-right (not (isLive g disk slot)) (isNextDamaged-false waiting h))

@@ -15,9 +15,11 @@ use Rattle.model.specs.Table.{Row, HiddenChoice, keepHidden, placeHidden
 use Rattle.model.specs.Paths.{currentPath, writtenBack, dummyStores}
 use Rattle.model.specs.HiddenHalf.{HiddenWrite, HiddenState, HiddenHalf, half, isWaiting, ownerOf}
 use Rattle.model.specs.HiddenHalf.{isLive, placedState, blockedState, hiddenBy, rowOf, hiddenHalf}
+use Rattle.model.proofs.Laws.Stores.{All}
 use Rattle.model.proofs.Laws.Table.{rowAt-ruled}
+use Rattle.model.proofs.Laws.Accepted.{GoodWrite}
 use Rattle.model.proofs.Tree.Ghost.{Tree, Ghost, blockIn, valueOf}
-use Rattle.model.proofs.Tree.Live.{GoodNumbers, owner-lt-of-isLive, holds-of-isLive, isBlocked-false}
+use Rattle.model.proofs.Tree.Live.{owner-lt-of-isLive, holds-of-isLive, isBlocked-false}
 use Rattle.model.proofs.Tree.Planted.{placedTree}
 use Rattle.model.proofs.Tree.Stored.{Follows}
 use Rattle.model.proofs.Tree.Placing.{placement, ghost-dummy, valueOf-dummy}
@@ -106,14 +108,14 @@ module _ (g : Geometry) (f : Fits g) (disk : Bytes) (tree : Tree)
       (rowAt-ruled (isWaiting (state .waiting)) (isAllocated g disk slot) (isLive g disk slot)) ∙ rw free
 
   turns-free : isLive g disk slot ≡ false → (random : Bytes) (waiting : List HiddenWrite) →
-      state .waiting ≡ waiting → GoodNumbers g waiting →
+      state .waiting ≡ waiting → All (GoodWrite g) waiting →
       Turns (hiddenBy (cond (isWaiting waiting) placeHidden fillHidden) g disk slot random state waiting)
   unfolding hiddenBy
   turns-free free random [] e h = turns-dummy free random
-  turns-free free random (write ∷ later) e h = turns-placed free write later e (h .0)
+  turns-free free random (write ∷ later) e h = turns-placed free write later e (h .0 .number-inside)
 
   pub hiddenHalf-turns :
-      (random : Bytes) → GoodNumbers g (state .waiting) → (after : Bytes) →
+      (random : Bytes) → All (GoodWrite g) (state .waiting) → (after : Bytes) →
       Follows g disk after (hiddenHalf g disk slot random state .trace) →
       Turned g disk after tree state (hiddenHalf g disk slot random state .state)
   unfolding hiddenHalf hiddenBy

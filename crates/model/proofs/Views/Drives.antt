@@ -3,15 +3,14 @@
 use mathlib.Core.Path.{_≡_, sym, ap, _∙_}
 use mathlib.Core.Logic.{inl, inr, ⊎-elim}
 use mathlib.Core.Bool.{cond}
-use mathlib.Core.List.{[]}
 use Prim.Native.Nat.{ℕ, _<_}
 use native.Mathlib.Omega.{arith}
 use lib.Dec.{eqb}
 use lib.ListN.{length}
-use borrow.Author.Tests.{eq-eqb, ne-eqb}
-use Rattle.laws.proofs.Cases.{eq-cases, and-left, cond-true, cond-false}
+use borrow.Author.Tests.{eq-eqb}
+use Rattle.laws.proofs.Cases.{eq-cases, and-left}
 use Rattle.model.specs.Geometry.{Geometry, blockCount}
-use Rattle.model.specs.Blocks.{Bytes, blockAt, entryAt}
+use Rattle.model.specs.Blocks.{Bytes, entryAt}
 use Rattle.model.specs.Layout.{Drive, geometryIn, slotOf, mapEntry, isSlotBlock, isAllocated, isPlace}
 use Rattle.model.specs.Refusals.{driveRefusal, publicReadRefusal}
 use Rattle.model.specs.Calls.{publicRead}
@@ -19,11 +18,12 @@ use Rattle.model.specs.View.{viewFrom, viewOf, Alike}
 use Rattle.model.specs.Simulator.{Simulator, simulatorOf, simulatedAnswer}
 use Rattle.model.proofs.Laws.Places.{Placed}
 use Rattle.model.proofs.Laws.Refusals.{drive-of-refusal}
+use Rattle.model.proofs.Laws.Accepted.{accepted-of-read}
+use Rattle.model.proofs.Laws.Calls.{entryShown, publicRead-done, publicRead-refused}
 use Rattle.model.proofs.Views.Shown.{ShowSame, blockAt-alike, isShown-slotBlock}
 use Rattle.model.proofs.Views.View.{entryAt-viewOf, geometry-ext, viewFrom-alike, showSame-of-viewFrom}
 use Rattle.model.proofs.Views.Tracking.{trackerOf, simulatorOf-viewOf}
 use Rattle.model.proofs.Views.Answers.{readLengths, simulatedAnswer-read}
-use Rattle.model.proofs.Views.Allowed.{place-of-read}
 use Rattle.model.proofs.Views.Sides.{entryAt-alike, mapEntry-alike}
 
 -- two accepted drives that show the same
@@ -53,10 +53,6 @@ twins-of-alike disk other a =
     same-entry index h =
         sym (entryAt-viewOf other (drive-of-refusal other (a .other-accepted)) index (omega arith))
         ∙ ap (entryAt index) (sym (a .same-view)) ∙ entryAt-viewOf disk here index (omega arith)
-
--- what an entry shows: the caller's blank, or its block
-abbrev entryShown : Geometry → (disk blank : Bytes) → (entry : ℕ) → Bytes
-entryShown g disk blank entry = cond (eqb entry 0) blank (blockAt (g .blockSize) disk entry)
 
 module _ (disk other : Bytes) (twins : Twins disk other) where
   abbrev g : Geometry
@@ -109,10 +105,10 @@ module _ (disk other : Bytes) (twins : Twins disk other) where
       entryShown (geometryIn other) other blank (mapEntry (geometryIn other) other number)
   unfolding isPlace
   shown-twins number blank e =
-      let allowed = place-of-read disk (twins .accepted) number blank e in
-      by (allowed .place)
+      let allowed = accepted-of-read disk number blank e in
+      by (allowed .in-place)
       ∙ ap (entryShown g other blank)
-      (mapEntry-alike g (here .fits) disk other (twins .show-same) number (allowed .known))
+      (mapEntry-alike g (here .fits) disk other (twins .show-same) number (allowed .number-inside))
       ∙ ap (λ (h : Geometry). entryShown h other blank (mapEntry h other number)) geometryIn-twins
     where
       entry : ℕ
@@ -127,13 +123,12 @@ module _ (disk other : Bytes) (twins : Twins disk other) where
 
   pub publicRead-twins :
       (number : ℕ) (blank : Bytes) → publicRead disk number blank ≡ publicRead other number blank
-  unfolding publicRead
   publicRead-twins number blank =
       ⊎-elim
-      (λ e. cond-true _ [] (eq-eqb (publicReadRefusal disk number blank) 0 e) ∙ shown-twins number blank e
-      ∙ sym (cond-true _ []
-      (eq-eqb (publicReadRefusal other number blank) 0 (sym (publicReadRefusal-twins number blank) ∙ e))))
-      (λ e. cond-false _ [] (ne-eqb (publicReadRefusal disk number blank) 0 e)
-      ∙ sym (cond-false _ []
-      (ne-eqb (publicReadRefusal other number blank) 0 (λ z. e (publicReadRefusal-twins number blank ∙ z)))))
+      (λ e.
+      publicRead-done disk number blank e ∙ shown-twins number blank e
+      ∙ sym (publicRead-done other number blank (sym (publicReadRefusal-twins number blank) ∙ e)))
+      (λ ne.
+      publicRead-refused disk number blank ne
+      ∙ sym (publicRead-refused other number blank (λ z. ne (publicReadRefusal-twins number blank ∙ z))))
       (eq-cases (publicReadRefusal disk number blank) 0)

@@ -1,55 +1,36 @@
 -- The simulator follows every write on an accepted drive: refused or done, it tells the write's answer,
 -- rounds and stores, and its next state tracks the drive that the write leaves. Assumes nothing.
-use mathlib.Core.Path.{_≡_, refl, sym, ap, _∙_, subst}
-use mathlib.Core.Logic.{_≢_, ⊎-elim}
+use mathlib.Core.Path.{_≡_, refl, sym, ap, _∙_}
+use mathlib.Core.Logic.{_≢_}
 use mathlib.Core.Bool.{true, false}
 use mathlib.Core.List.{List, []}
 use mathlib.Core.Option.{Option}
-use Prim.Native.Nat.{ℕ, suc, _-_, _≤_}
+use Prim.Native.Nat.{_<_, ℕ, suc, _-_, _≤_}
 use native.Mathlib.Omega.{arith}
 use lib.ListN.{length, take}
 use borrow.Author.Tests.{eq-eqb, ne-eqb}
 use Rattle.laws.specs.Lists.{part, over}
-use Rattle.laws.proofs.Cases.{eq-cases, cond-true, cond-false}
+use Rattle.laws.proofs.Cases.{cond-true, cond-false}
 use Rattle.laws.proofs.Lists.{part-over-same}
 use Rattle.model.specs.Blocks.{Bytes, DiskAddress}
 use Rattle.model.specs.Layout.{geometryIn, headIn}
 use Rattle.model.specs.Stores.{addresses}
 use Rattle.model.specs.HiddenHalf.{HiddenWrite}
 use Rattle.model.specs.Refusals.{driveRefusal, roundCount, writeRefusal}
-use Rattle.model.specs.Calls.{offerRefusal, writeRun, Written, refusedWrite, doneWrite, written}
-use Rattle.model.specs.Calls.{writtenDisk}
+use Rattle.model.specs.Calls.{writeRun, Written, refusedWrite, written, writtenDisk}
 use Rattle.model.specs.Runs.{seenOfWrite}
 use Rattle.model.specs.Simulator.{Simulator, CallLengths, simulatedRounds, simulatedStores}
 use Rattle.model.specs.Simulator.{simulatedAnswer, Told, toldStores, isDone, toldOf, simulatedWrite}
 use Rattle.model.specs.Simulator.{simulatorAfter, reportOf}
 use Rattle.model.proofs.Laws.Stores.{apply-nil, length-addresses}
-use Rattle.model.proofs.Laws.Refusals.{accepted-of-refusal}
+use Rattle.model.proofs.Laws.Accepted.{AcceptedWrite, accepted-of-write}
 use Rattle.model.proofs.Laws.Runs.{Ran, length-ran}
-use Rattle.model.proofs.Laws.WriteRuns.{writeRun-accepted}
+use Rattle.model.proofs.Laws.WriteRuns.{writeRun-ran}
+use Rattle.model.proofs.Laws.Calls.{doneWith, written-cases}
 use Rattle.model.proofs.Views.Tracking.{trackerOf}
 use Rattle.model.proofs.Views.Answers.{writeLengths, simulatedAnswer-write}
-use Rattle.model.proofs.Views.Allowed.{PlaceAllowed, RoundsAllowed, place-of-write, rounds-of-write}
 use Rattle.model.proofs.Views.Writes.{simulatedRounds-suc, simulatedStores-is, geometryIn-final}
 use Rattle.model.proofs.Views.Writes.{accepted-final, trackerOf-final}
-
--- ---- the two ways of a write ----
-
-module _ (disk : Bytes) (number : ℕ) (content random : Bytes) (room : ℕ) (offer : Option HiddenWrite) where
-  pub written-done :
-      writeRefusal disk number content (length random) room ≡ 0 →
-      written disk number content random room offer ≡
-      doneWrite (offerRefusal (geometryIn disk) offer)
-      (writeRun (geometryIn disk) disk number content random offer)
-  unfolding written
-  written-done e = cond-true _ _ (eq-eqb (writeRefusal disk number content (length random) room) 0 e)
-
-  pub written-refused :
-      writeRefusal disk number content (length random) room ≢ 0 →
-      written disk number content random room offer ≡
-      refusedWrite (writeRefusal disk number content (length random) room)
-  unfolding written
-  written-refused ne = cond-false _ _ (ne-eqb (writeRefusal disk number content (length random) room) 0 ne)
 
 -- ---- the two ways of the simulator ----
 
@@ -118,53 +99,47 @@ module _ (disk : Bytes) (accepted : driveRefusal disk ≡ 0) (number : ℕ) (con
       }
 
   module _ (free : writeRefusal disk number content (length random) (length list) ≡ 0) where
-    place : PlaceAllowed (geometryIn disk) disk number (length content)
-    place = place-of-write disk accepted number content (length random) (length list) free
+    good : AcceptedWrite (geometryIn disk) disk number (length content) (length random) (length list)
+    good = accepted-of-write disk number content (length random) (length list) free
 
-    allowed : RoundsAllowed (geometryIn disk) disk number (length random) (length list)
-    allowed = rounds-of-write disk accepted number content (length random) (length list) free
+    known : number < geometryIn disk .publics
+    known = good .accepted .number-inside
 
     abbrev earlier : ℕ
     earlier = roundCount (geometryIn disk) disk - 1
 
     rounds : roundCount (geometryIn disk) disk ≡ suc earlier
-    rounds = omega (arith, allowed .some-rounds)
+    rounds = omega (arith, good .some-rounds)
 
     ran :
         Ran (geometryIn disk) number content (headIn disk) earlier disk
         (writeRun (geometryIn disk) disk number content random offer)
-    ran =
-        writeRun-accepted disk (accepted-of-refusal disk accepted) number (place .known) content
-        (place .sized) (place .place) random
-        (allowed .some-rounds) (allowed .enough-random) offer
+    ran = writeRun-ran disk number content random (length list) offer free
 
-    done-follows :
-        Follows disk list call
-        (doneWrite (offerRefusal (geometryIn disk) offer)
-        (writeRun (geometryIn disk) disk number content random offer))
+    done-follows : Follows disk list call (doneWith disk number content random (length list) offer)
     done-follows =
         let yes : isDone (trackerOf disk) call ≡ true =
         eq-eqb (simulatedAnswer (trackerOf disk) call) 0 (answer-is ∙ free) in
         let run = writeRun (geometryIn disk) disk number content random offer in
         let stores : addresses (run .trace) ≡ simulatedStores (trackerOf disk) number =
-        ran .listed ∙ sym (simulatedStores-is disk accepted number (place .known) earlier rounds) in
+        ran .listed ∙ sym (simulatedStores-is disk accepted number known earlier rounds) in
         let count : length (run .trace) ≡ length (addresses (run .trace)) =
         sym (length-addresses (run .trace)) in
         let counted =
-        length-ran (geometryIn disk) number content (headIn disk) _ (allowed .some-rounds) disk run ran in
-        let fits : length (addresses (run .trace)) ≤ length list = omega (arith, allowed .enough-room) in
+        length-ran (geometryIn disk) number content (headIn disk) _ (good .some-rounds) disk run ran in
+        let fits : length (addresses (run .trace)) ≤ length list = omega (arith, good .enough-room) in
         record {
           told-same =
               told-ext refl
-              (ran .counted ∙ sym (simulatedRounds-suc disk accepted number (place .known) earlier rounds))
+              (ran .counted ∙ sym (simulatedRounds-suc disk accepted number known earlier rounds))
               (count ∙ ap length stores)
               (ap (λ (n : ℕ). take n (over 0 (addresses (run .trace)) list)) count
               ∙ take-over (addresses (run .trace)) list fits ∙ stores)
               ∙ sym (toldOf-done (trackerOf disk) call yes);
-          accepted-after = accepted-final disk accepted number (place .known) earlier rounds _ (ran .wrote);
-          geometry-after = geometryIn-final disk accepted number (place .known) earlier rounds _ (ran .wrote);
+          accepted-after = accepted-final disk accepted number known earlier rounds _ (ran .wrote);
+          geometry-after = geometryIn-final disk accepted number known earlier rounds _ (ran .wrote);
           tracker-after =
-              trackerOf-final disk accepted number (place .known) earlier rounds _ (ran .wrote) (place .place)
+              trackerOf-final disk accepted number known earlier rounds _ (ran .wrote) (good .accepted .in-place)
               ∙ sym (simulatorAfter-done (trackerOf disk) call yes);
         }
 
@@ -172,8 +147,5 @@ module _ (disk : Bytes) (accepted : driveRefusal disk ≡ 0) (number : ℕ) (con
       Follows disk list (writeLengths number (length content) (length random) (length list))
       (written disk number content random (length list) offer)
   written-follows =
-      ⊎-elim (λ e. subst (Follows disk list call)
-      (sym (written-done disk number content random (length list) offer e)) (done-follows e))
-      (λ ne. subst (Follows disk list call)
-      (sym (written-refused disk number content random (length list) offer ne)) (refused-follows ne))
-      (eq-cases refusal 0)
+      written-cases disk number content random (length list) offer (Follows disk list call) done-follows
+      refused-follows

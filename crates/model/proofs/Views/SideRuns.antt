@@ -18,7 +18,8 @@ use Rattle.model.specs.View.{shownOf}
 use Rattle.model.proofs.Laws.Slots.{nextSlot-lt}
 use Rattle.model.proofs.Laws.Places.{OldPlace}
 use Rattle.model.proofs.Laws.Stores.{All}
-use Rattle.model.proofs.Laws.HiddenHalf.{rowOf-public, WholeWrite, HidesHalf, hiddenHalf-hides}
+use Rattle.model.proofs.Laws.Accepted.{GoodWrite}
+use Rattle.model.proofs.Laws.HiddenHalf.{rowOf-public, HidesHalf, hiddenHalf-hides}
 use Rattle.model.proofs.Laws.RoundStores.{afterRound}
 use Rattle.model.proofs.Laws.RoundEffects.{mapEntry-kept, isAllocated-kept}
 use Rattle.model.proofs.Laws.RoundCounts.{roundsTo-zero, roundsTo-taken, OneMore, oneMore-of}
@@ -59,17 +60,17 @@ module _ (most : ℕ) (g : Geometry) (number : ℕ) (content : Bytes) (slot : �
 
 -- ---- a run ----
 
--- random bytes for so many rounds and one, and hidden writes of whole blocks
+-- random bytes for so many rounds and one, and good hidden writes
 pub record Supplied (g : Geometry) (earlier : ℕ) (random : Bytes) (state : HiddenState) : Type 0 where
   pub enough : suc earlier * (g .height * g .blockSize) ≤ length random
-  pub whole-writes : All (WholeWrite g) (state .waiting)
+  pub good-writes : All (GoodWrite g) (state .waiting)
 
 supplied-later :
     (g : Geometry) (earlier : ℕ) (random : Bytes) (state : HiddenState) →
     suc (suc earlier) * (g .height * g .blockSize) ≤ length random →
-    All (WholeWrite g) (state .waiting) → Supplied g earlier (drop (g .height * g .blockSize) random) state
+    All (GoodWrite g) (state .waiting) → Supplied g earlier (drop (g .height * g .blockSize) random) state
 supplied-later g earlier random state enough writes =
-    record { enough = simp length-drop (omega arith); whole-writes = writes }
+    record { enough = simp length-drop (omega arith); good-writes = writes }
 
 module _ (g : Geometry) (f : Fits g) (number : ℕ) (content : Bytes) (known : number < g .publics)
     (sized : length content ≡ g .blockSize) where
@@ -91,13 +92,13 @@ module _ (g : Geometry) (f : Fits g) (number : ℕ) (content : Bytes) (known : n
       here : HidesHalf g slot (hiddenHalf g disk slot random state)
       here =
           hiddenHalf-hides g f disk (same .whole) slot inside random (omega (arith, supply .enough)) state
-          (supply .whole-writes)
+          (supply .good-writes)
 
       there : HidesHalf g slot (hiddenHalf g other slot others stateOther)
       there =
           hiddenHalf-hides g f other (same .other-whole) slot inside others
           (omega (arith, supplyOther .enough)) stateOther
-          (supplyOther .whole-writes)
+          (supplyOther .good-writes)
 
       round : (choice : PublicChoice) →
           TraceSame g

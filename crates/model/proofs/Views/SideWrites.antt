@@ -23,12 +23,12 @@ use Rattle.model.specs.Simulator.{Simulator, simulatedAnswer}
 use Rattle.model.proofs.Laws.Places.{old-of-placed}
 use Rattle.model.proofs.Laws.Stores.{apply-nil}
 use Rattle.model.proofs.Laws.Refusals.{Accepted, accepted-of-refusal}
-use Rattle.model.proofs.Laws.WriteRuns.{offeredWrites-whole}
+use Rattle.model.proofs.Laws.Accepted.{AcceptedWrite, accepted-of-write, offeredWrites-good}
+use Rattle.model.proofs.Laws.Calls.{written-done, written-refused}
 use Rattle.model.proofs.Views.Agreement.{agree-apply}
 use Rattle.model.proofs.Views.Shown.{ShowSame, TraceSame}
 use Rattle.model.proofs.Views.Answers.{writeLengths, simulatedAnswer-write}
-use Rattle.model.proofs.Views.Allowed.{PlaceAllowed, RoundsAllowed, place-of-write, rounds-of-write}
-use Rattle.model.proofs.Views.Follows.{written-done, written-refused, written-follows}
+use Rattle.model.proofs.Views.Follows.{written-follows}
 use Rattle.model.proofs.Views.Sides.{entryAt-alike}
 use Rattle.model.proofs.Views.SideRuns.{Supplied, runFrom-alike}
 use Rattle.model.proofs.Views.Drives.{Twins, geometryIn-twins, trackerOf-twins}
@@ -56,17 +56,14 @@ module _ (disk other : Bytes) (twins : Twins disk other) (number : ℕ) (content
     abbrev runOther : Run
     runOther = writeRun (geometryIn other) other number content others offerOther
 
-    place : PlaceAllowed g disk number (length content)
-    place = place-of-write disk (twins .accepted) number content (length random) room free
-
-    allowed : RoundsAllowed g disk number (length random) room
-    allowed = rounds-of-write disk (twins .accepted) number content (length random) room free
+    good : AcceptedWrite g disk number (length content) (length random) room
+    good = accepted-of-write disk number content (length random) room free
 
     sound : Accepted disk
     sound = accepted-of-refusal disk (twins .accepted)
 
     rounds : roundCount g disk ≡ suc (roundCount g disk - 1)
-    rounds = omega (arith, allowed .some-rounds)
+    rounds = omega (arith, good .some-rounds)
 
     supplied :
         (bytes : Bytes) → roundCount g disk * g .height * g .blockSize ≤ length bytes →
@@ -75,7 +72,7 @@ module _ (disk other : Bytes) (twins : Twins disk other) (number : ℕ) (content
     supplied bytes enough offered =
         record {
           enough = rw (← rounds) (omega (arith, mul-assoc (roundCount g disk) (g .height) (g .blockSize)));
-          whole-writes = offeredWrites-whole g offered;
+          good-writes = offeredWrites-good g offered;
         }
 
     -- the other run, over the first drive's geometry and from its head
@@ -94,13 +91,13 @@ module _ (disk other : Bytes) (twins : Twins disk other) (number : ℕ) (content
     unfolding writeRun
     trace-alike =
         subst (λ (r : Run). TraceSame g (run .trace) (r .trace)) runOther-is
-        (runFrom-alike g (sound .sized .fits) number content (place .known) (place .sized)
+        (runFrom-alike g (sound .sized .fits) number content (good .accepted .number-inside) (good .accepted .block-sized)
         (g .slots) disk other
         (headIn disk) random others (startState (offeredWrites g offer))
         (startState (offeredWrites g offerOther)) (roundCount g disk - 1) (twins .show-same)
-        (sound .head-inside) (old-of-placed g disk number (place .place)) rounds
-        (supplied random (allowed .enough-random) offer)
-        (supplied others (rw same-random at (allowed .enough-random)) offerOther))
+        (sound .head-inside) (old-of-placed g disk number (good .accepted .in-place)) rounds
+        (supplied random (good .enough-random) offer)
+        (supplied others (rw same-random at (good .enough-random)) offerOther))
 
     -- the disks that the two runs leave
     final-alike :

@@ -12,23 +12,18 @@ use Rattle.laws.proofs.Cases.{eq-cases, cond-true, cond-false}
 use Rattle.model.specs.Geometry.{Geometry, Fits, blockCount}
 use Rattle.model.specs.Blocks.{Bytes}
 use Rattle.model.specs.Table.{PublicChoice}
-use Rattle.model.specs.HiddenHalf.{HiddenWrite, HiddenState, HiddenHalf, hiddenHalf}
+use Rattle.model.specs.HiddenHalf.{HiddenState, HiddenHalf, hiddenHalf}
 use Rattle.model.proofs.Laws.Places.{Placed, old-of-placed}
 use Rattle.model.proofs.Laws.Stores.{All}
+use Rattle.model.proofs.Laws.Accepted.{GoodWrite}
 use Rattle.model.proofs.Laws.Paths.{Hides}
-use Rattle.model.proofs.Laws.HiddenHalf.{WholeWrite, hiddenHalf-hides}
-use Rattle.model.proofs.Laws.PublicHalf.{all-map}
+use Rattle.model.proofs.Laws.HiddenHalf.{hiddenHalf-hides}
 use Rattle.model.proofs.Laws.RoundStores.{afterRound}
 use Rattle.model.proofs.Laws.Rounds.{blockAt-round-root, blockAt-round-place}
 use Rattle.model.proofs.Tree.Ghost.{Tree, Ghost, valueOf}
 use Rattle.model.proofs.Tree.Stored.{Follows}
 use Rattle.model.proofs.Tree.Turns.{Turn, still, places, hiddenHalf-turns}
 use Rattle.model.proofs.Volumes.Progress.{shownAfter, Progress, progress-then}
-
--- a hidden write that is not refused
-pub record GoodWrite (g : Geometry) (write : HiddenWrite) : Type 0 where
-  pub number-inside : write .number < g .hidden
-  pub whole : WholeWrite g write
 
 -- ---- the tree after rounds ----
 
@@ -93,8 +88,7 @@ module _ (g : Geometry) (f : Fits g) (number : ℕ) (counted : number < g .publi
 
   pub round-hides : Hides g slot (part .trace)
   round-hides =
-      hiddenHalf-hides g f disk whole slot here random enough state
-      (all-map (GoodWrite g) (WholeWrite g) (state .waiting) (λ write h. h .whole) good) .hides
+      hiddenHalf-hides g f disk whole slot here random enough state good .hides
 
   follows : (choice : PublicChoice) → Follows g disk (after choice) (part .trace)
   follows choice =
@@ -112,11 +106,8 @@ module _ (g : Geometry) (f : Fits g) (number : ℕ) (counted : number < g .publi
       (choice : PublicChoice) (tree : Tree) → Ghost g disk tree →
       Grew g disk (after choice) tree state (part .state)
   round-grew choice tree ghost =
-      let inside =
-      all-map (GoodWrite g) (λ (write : HiddenWrite). write .number < g .hidden) (state .waiting)
-      (λ write h. h .number-inside) good in
       let turned =
-      hiddenHalf-turns g f disk tree whole ghost slot here state random inside (after choice)
+      hiddenHalf-turns g f disk tree whole ghost slot here state random good (after choice)
       (follows choice) in
       record {
         grown = turned .grown;

@@ -18,13 +18,14 @@ use Rattle.model.specs.Refusals.{roundsTo}
 use Rattle.model.proofs.Laws.Slots.{nextSlot-lt}
 use Rattle.model.proofs.Laws.Places.{Placed, old-of-placed}
 use Rattle.model.proofs.Laws.Stores.{All, apply-append}
+use Rattle.model.proofs.Laws.Accepted.{GoodWrite}
 use Rattle.model.proofs.Laws.HiddenHalf.{rowOf-public}
 use Rattle.model.proofs.Laws.RoundStores.{afterRound, length-round}
 use Rattle.model.proofs.Laws.RoundEffects.{isAllocated-kept}
 use Rattle.model.proofs.Laws.Wrote.{placed-kept}
 use Rattle.model.proofs.Laws.RoundCounts.{roundsTo-zero, roundsTo-taken, oneMore-of, roundsTo-ext}
 use Rattle.model.proofs.Tree.Ghost.{Tree, Ghost}
-use Rattle.model.proofs.Volumes.Growth.{GoodWrite, Grew, grew-then, round-hides, round-grew}
+use Rattle.model.proofs.Volumes.Growth.{Grew, grew-then, round-hides, round-grew}
 
 all-rest : {A : Type 0} (P : A → Type 0) (xs ys : List A) → All P (xs ++ ys) → All P ys
 all-rest P [] ys h = h

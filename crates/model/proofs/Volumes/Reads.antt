@@ -8,18 +8,18 @@ use Prim.Native.Nat.{ℕ, _<_}
 use native.Mathlib.Omega.{arith}
 use lib.Dec.{eqb}
 use lib.ListN.{length}
-use borrow.Author.Tests.{eq-eqb}
-use Rattle.laws.proofs.Cases.{eq-cases, cond-true}
+use Rattle.laws.proofs.Cases.{eq-cases}
 use Rattle.model.specs.Geometry.{Geometry, Fits, treeCapacity}
-use Rattle.model.specs.Blocks.{Bytes, DiskAddress, blockAt}
+use Rattle.model.specs.Blocks.{Bytes, blockAt}
 use Rattle.model.specs.Layout.{geometryIn, mapEntry}
 use Rattle.model.specs.HiddenTree.{walk}
 use Rattle.model.specs.Refusals.{driveRefusal, publicReadRefusal, hiddenReadRefusal}
 use Rattle.model.specs.Calls.{publicRead, hiddenRead, shownAt}
 use Rattle.model.specs.Invariants.{PublicInvariant}
 use Rattle.model.specs.Promises.ReadAfterWrite.{orElse}
-use Rattle.model.proofs.Laws.Calls.{AcceptedNumber, publicReadRefusal-of-accepted}
-use Rattle.model.proofs.Laws.Calls.{hiddenReadRefusal-of-accepted}
+use Rattle.model.proofs.Laws.Accepted.{AcceptedNumber}
+use Rattle.model.proofs.Laws.Calls.{publicReadRefusal-of-accepted, hiddenReadRefusal-of-accepted}
+use Rattle.model.proofs.Laws.Calls.{entryShown, hiddenRead-done, publicRead-done}
 use Rattle.model.proofs.Tree.Ghost.{Tree, Ghost, valueOf}
 use Rattle.model.proofs.Tree.Walks.{isDamaged-walk}
 use Rattle.model.proofs.Tree.Shown.{shownAt-walk}
@@ -41,18 +41,14 @@ module _ (g : Geometry) (disk : Bytes) (states : geometryIn disk ≡ g) (accepte
         }
 
     pub public-read-accepted : publicReadRefusal disk number blank ≡ 0
-    public-read-accepted = publicReadRefusal-of-accepted g disk states accepted number blank good-number
+    public-read-accepted = publicReadRefusal-of-accepted disk number blank g states accepted good-number
 
     pub publicRead-shows : publicRead disk number blank ≡ orElse (publicValue g disk number) blank
-    unfolding publicRead
     publicRead-shows =
-        cond-true _ _ (eq-eqb (publicReadRefusal disk number blank) 0 public-read-accepted)
-        ∙ ap (λ (stated : Geometry). shownBy stated (mapEntry stated disk number)) states
+        publicRead-done disk number blank public-read-accepted
+        ∙ ap (λ (stated : Geometry). entryShown stated disk blank (mapEntry stated disk number)) states
         ∙ by (eqb (mapEntry g disk number) 0) (blockAt (g .blockSize) disk (mapEntry g disk number))
       where
-        shownBy : Geometry → (entry : DiskAddress) → Bytes
-        shownBy stated entry = cond (eqb entry 0) blank (blockAt (stated .blockSize) disk entry)
-
         by : (isNone : Bool) (block : Bytes) →
             cond isNone blank block ≡ orElse (cond isNone none (some block)) blank
         by true block = refl
@@ -66,13 +62,12 @@ module _ (g : Geometry) (disk : Bytes) (states : geometryIn disk ≡ g) (accepte
 
     pub hidden-read-accepted : hiddenReadRefusal disk number blank ≡ 0
     hidden-read-accepted =
-        hiddenReadRefusal-of-accepted g disk states accepted number blank
+        hiddenReadRefusal-of-accepted disk number blank g states accepted
         (record { number-inside = counted; block-sized = sized })
         (isDamaged-walk g disk tree (ghost .links) number low f)
 
     pub hiddenRead-shows : hiddenRead disk number blank ≡ orElse (valueOf g disk tree number) blank
-    unfolding hiddenRead
     hiddenRead-shows =
-        cond-true _ _ (eq-eqb (hiddenReadRefusal disk number blank) 0 hidden-read-accepted)
+        hiddenRead-done disk number blank hidden-read-accepted
         ∙ ap (λ (stated : Geometry). shownAt stated disk blank (walk stated disk number .end)) states
         ∙ shownAt-walk g disk blank tree number f (ghost .links) low

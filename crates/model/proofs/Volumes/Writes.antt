@@ -1,34 +1,30 @@
 -- A write on a drive of a geometry: a refused one leaves it as it was; any other leaves a drive of that
 -- geometry, with the effect of a run on the public volume and the ghost tree kept. Assumes nothing.
 use mathlib.Core.Path.{_≡_, sym, ap, _∙_, subst}
-use mathlib.Core.Logic.{_≢_, ⊎-elim}
-use mathlib.Core.Option.{Option, none, some}
+use mathlib.Core.Logic.{_≢_}
+use mathlib.Core.Option.{Option}
 use Prim.Native.Nat.{ℕ, suc, _*_, _-_, _<_}
 use native.Mathlib.Nat.{mul-assoc}
 use native.Mathlib.Omega.{arith}
-use lib.Dec.{eqb}
 use lib.ListN.{length}
-use borrow.Author.Tests.{eqb-true}
-use Rattle.laws.proofs.Cases.{cond-cases, eq-cases}
 use Rattle.model.specs.Geometry.{Geometry, Fits, blockCount, driveSize, isGeometry}
 use Rattle.model.specs.Blocks.{Bytes, entryAt}
 use Rattle.model.specs.Layout.{geometryIn, headIn}
 use Rattle.model.specs.Stores.{apply}
 use Rattle.model.specs.HiddenHalf.{HiddenWrite}
 use Rattle.model.specs.Rounds.{Run}
-use Rattle.model.specs.Refusals.{roundCount, driveRefusal, writeRefusal, hiddenWriteRefusal}
+use Rattle.model.specs.Refusals.{roundCount, driveRefusal, writeRefusal}
 use Rattle.model.specs.Calls.{offerRefusal, offeredWrites, startState, writeRun, Written, refusedWrite}
 use Rattle.model.specs.Calls.{doneWrite, written, writtenDisk}
 use Rattle.model.proofs.Laws.Slots.{nextSlot-lt}
-use Rattle.model.proofs.Laws.Stores.{All}
 use Rattle.model.proofs.Laws.Refusals.{Accepted, accepted-of-refusal, refusal-of-accepted}
+use Rattle.model.proofs.Laws.Accepted.{AcceptedWrite, accepted-of-write, offeredWrites-good}
 use Rattle.model.proofs.Laws.Wrote.{Wrote}
 use Rattle.model.proofs.Laws.Runs.{slotAfter}
 use Rattle.model.proofs.Laws.WriteRuns.{writeRun-ran}
-use Rattle.model.proofs.Laws.Calls.{AcceptedWrite, accepted-write, accepted-hidden-write, written-done}
-use Rattle.model.proofs.Laws.Calls.{written-refused}
+use Rattle.model.proofs.Laws.Calls.{written-cases}
 use Rattle.model.proofs.Tree.Ghost.{Tree, Ghost}
-use Rattle.model.proofs.Volumes.Growth.{GoodWrite, Grew}
+use Rattle.model.proofs.Volumes.Growth.{Grew}
 use Rattle.model.proofs.Volumes.Hidden.{Ready, runFrom-grows}
 
 -- the disk after a run
@@ -46,18 +42,6 @@ pub record Leaves (g : Geometry) (disk : Bytes) (number : ℕ) (content : Bytes)
   pub grew :
       (tree : Tree) → Ghost g disk tree →
       Grew g disk (finalDisk g disk run) tree (startState (offeredWrites g offer)) (run .state)
-
--- what a call offers to its rounds is good
-offeredWrites-good : (g : Geometry) (offer : Option HiddenWrite) → All (GoodWrite g) (offeredWrites g offer)
-unfolding offeredWrites
-offeredWrites-good g none = tt
-offeredWrites-good g (some write) =
-    let refusal = hiddenWriteRefusal g (write .number) (write .content) in
-    cond-cases (All (GoodWrite g)) (eqb refusal 0)
-    (λ e.
-    let good = accepted-hidden-write g (write .number) (write .content) (eqb-true refusal 0 e) in
-    (record { number-inside = good .number-inside; whole = good .block-sized }, tt))
-    (λ e. tt)
 
 geometry-of-fields :
     (disk other : Bytes) → ((i : ℕ) → i < 5 → entryAt i disk ≡ entryAt i other) →
@@ -95,7 +79,9 @@ module _ (g : Geometry) (disk : Bytes) (states : geometryIn disk ≡ g) (accepte
 
     module _ (good : refusal ≡ 0) where
       facts : AcceptedWrite g disk number (length content) (length random) room
-      facts = accepted-write g disk states accepted number content random room offer good
+      facts =
+          subst (λ (stated : Geometry). AcceptedWrite stated disk number (length content) (length random) room)
+          states (accepted-of-write disk number content (length random) room good)
 
       f : Fits g
       f = fits-of-accepted
@@ -105,9 +91,10 @@ module _ (g : Geometry) (disk : Bytes) (states : geometryIn disk ≡ g) (accepte
 
       run-wrote : Wrote g number content lastSlot disk (finalDisk g disk run)
       run-wrote =
-          writeRun-ran g f disk whole head-inside number (facts .accepted .number-inside) content
-          (facts .accepted .block-sized) (facts .accepted .in-place) random (facts .some-rounds)
-          (facts .enough-random) offer .wrote
+          subst (λ (stated : Geometry). Wrote stated number content
+          (slotAfter stated (headIn disk) (roundCount stated disk - 1)) disk
+          (finalDisk stated disk (writeRun stated disk number content random offer))) states
+          (writeRun-ran disk number content random room offer good .wrote)
 
       run-geometry : geometryIn (finalDisk g disk run) ≡ g
       run-geometry = geometry-of-fields (finalDisk g disk run) disk (run-wrote .fields) ∙ states
@@ -167,13 +154,12 @@ module _ (g : Geometry) (disk : Bytes) (states : geometryIn disk ≡ g) (accepte
         P (doneWrite (offerRefusal g offer) run) (finalDisk g disk run)) →
         P result (writtenDisk result disk)
     unfolding apply
-    write-cases P refused done = ⊎-elim
+    write-cases P refused done =
+        written-cases disk number content random room offer
+        (λ (made : Written). P made (writtenDisk made disk))
         (λ e.
-        subst (λ (made : Written). P made (writtenDisk made disk))
-        (sym (written-done g disk states accepted number content random room offer e))
-        (subst (λ (stated : Geometry). P (doneWrite (offerRefusal g offer) run) (finalDisk stated disk run))
-        (sym states) (done run (run-leaves e))))
-        (λ ne.
-        subst (λ (made : Written). P made (writtenDisk made disk))
-        (sym (written-refused g disk states accepted number content random room offer ne)) (refused ne))
-        (eq-cases refusal 0)
+        subst (λ (stated : Geometry). P (doneWrite (offerRefusal stated offer)
+        (writeRun stated disk number content random offer))
+        (finalDisk stated disk (writeRun stated disk number content random offer)))
+        (sym states) (done run (run-leaves e)))
+        refused

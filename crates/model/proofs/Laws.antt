@@ -20,6 +20,7 @@ pub mod Rounds
 pub mod RoundEffects
 pub mod Wrote
 pub mod RoundCounts
+pub mod Ready
 pub mod Runs
 pub mod WriteRuns
 pub mod Formatting

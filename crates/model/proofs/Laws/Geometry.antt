@@ -1,4 +1,5 @@
--- Laws of the geometry: what an accepted one says, and where its areas lie. Assumes nothing.
+-- Laws of the geometry: what an accepted one says, where its areas lie, and when two disks state the same.
+-- Assumes nothing.
 use mathlib.Core.Path.{_≡_, refl, sym, subst}
 use mathlib.Core.Logic.{⊎-elim}
 use mathlib.Core.Bool.{true, _&&_}
@@ -12,7 +13,8 @@ use Rattle.laws.proofs.Cases.{and-left, and-right, or-cases, true-is-not-false}
 use Rattle.laws.proofs.Division.{div-ceilDiv-lt}
 use Rattle.model.specs.Geometry.{Geometry, Fits, fanout, mapBlocks, areaBlocks, rootAddress, blockCount}
 use Rattle.model.specs.Geometry.{treeCapacity, blockSizes, isOneOf, isGeometry}
-use Rattle.model.specs.Layout.{slotStart, areaPlace, bitAddress, mapAddress}
+use Rattle.model.specs.Blocks.{Bytes, entryAt}
+use Rattle.model.specs.Layout.{slotStart, areaPlace, bitAddress, mapAddress, geometryIn}
 
 -- ---- an accepted geometry ----
 
@@ -108,3 +110,12 @@ slot-block-lt g slot place h k = omega (arith, slot-place-lt g slot place h k)
 
 pub rootAddress-lt : (g : Geometry) → rootAddress g < blockCount g
 rootAddress-lt g = omega arith
+
+-- ---- the geometry that a disk states ----
+
+-- it is five entries
+pub geometry-ext :
+    (disk other : Bytes) → ((index : ℕ) → index < 5 → entryAt index disk ≡ entryAt index other) →
+    geometryIn disk ≡ geometryIn other
+geometry-ext disk other e =
+    cc (e 0 (omega arith), e 1 (omega arith), e 2 (omega arith), e 3 (omega arith), e 4 (omega arith))

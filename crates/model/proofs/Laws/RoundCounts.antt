@@ -1,5 +1,6 @@
 -- Laws of the number of rounds that a write takes, and of how many stores these have. Assumes nothing.
 use mathlib.Core.Path.{_≡_, refl, ap, ap₂, _∙_}
+use mathlib.Core.Logic.{_≢_}
 use mathlib.Core.Bool.{Bool, true, false, cond}
 use mathlib.Core.List.{List, [], _∷_, _++_}
 use Prim.Native.Nat.{ℕ, zero, suc, _+_, _*_, _<_}
@@ -32,15 +33,14 @@ pub roundsTo-taken :
 unfolding roundsTo
 roundsTo-taken most isTaken g slot e = cond-true _ _ e
 
--- a taken slot has a round before the others
-pub record OneMore (rounds earlier : ℕ) : Type 0 where
-  pub before : ℕ
-  pub earlier-is : earlier ≡ suc before
-  pub rounds-is : rounds ≡ suc before
+-- one round more than some is the next number
+pub record OneMore (rounds : ℕ) : Type 0 where
+  pub some-rounds : rounds ≢ 0
+  pub one-more : oneMore rounds ≡ suc rounds
 
-pub oneMore-of : (rounds earlier : ℕ) → oneMore rounds ≡ suc earlier → OneMore rounds earlier
-oneMore-of zero earlier e = absurd (omega arith)
-oneMore-of (suc rounds) earlier e = record { before = rounds; earlier-is = omega arith; rounds-is = refl }
+pub oneMore-of : (rounds : ℕ) → oneMore rounds ≢ 0 → OneMore rounds
+oneMore-of zero ne = absurd (ne refl)
+oneMore-of (suc rounds) ne = record { some-rounds = λ e. omega arith; one-more = refl }
 
 -- only the slots of the drive count
 pub roundsTo-ext :

@@ -9,7 +9,7 @@ use native.Mathlib.Omega.{arith}
 use lib.ListN.{length}
 use Rattle.model.specs.Geometry.{Geometry, Fits, areaStart, rootAddress, blockCount}
 use Rattle.model.specs.Blocks.{Bytes, DiskAddress, blockAt, entryAt, setEntry}
-use Rattle.model.specs.Layout.{geometryIn, headIn, slotStart, slotOf, nextSlot, mapEntry}
+use Rattle.model.specs.Layout.{headIn, slotStart, slotOf, nextSlot, mapEntry}
 use Rattle.model.specs.Stores.{Store, Trace, addresses}
 use Rattle.model.specs.Table.{PublicChoice}
 use Rattle.model.specs.Rounds.{publicStore, headerStore, mapStores, roundTrace}
@@ -205,16 +205,6 @@ module _ (g : Geometry) (f : Fits g) (disk : Bytes) (whole : length disk ≡ blo
       ∙ entryAt-setEntry-other 5 (nextSlot g slot) (blockAt (g .blockSize) disk 0)
       (header-fits g f disk whole) i (omega arith)
       ∙ sym (entryAt-header (g .blockSize) disk i (omega (arith, f .size-low)))
-
-  pub geometryIn-round : geometryIn after ≡ geometryIn disk
-  geometryIn-round =
-      cc (
-        entryAt-round 0 (omega arith),
-        entryAt-round 1 (omega arith),
-        entryAt-round 2 (omega arith),
-        entryAt-round 3 (omega arith),
-        entryAt-round 4 (omega arith),
-      )
 
   pub headIn-round : headIn after ≡ nextSlot g slot
   headIn-round =

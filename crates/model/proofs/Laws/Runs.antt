@@ -2,37 +2,33 @@
 -- addresses of all stores in order, that these are whole and inside the disk, and the whole effect on header,
 -- map, bitmap and public blocks. Assumes nothing.
 use mathlib.Core.Path.{_≡_, refl, sym, ap, ap₂, _∙_, subst}
-use mathlib.Core.Logic.{_≢_}
-use mathlib.Core.Bool.{true, false, cond}
+use mathlib.Core.Logic.{_≢_, ⊎-elim}
+use mathlib.Core.Bool.{true, false}
 use mathlib.Core.List.{List, [], _∷_, _++_, append-assoc, append-nil}
-use Prim.Native.Nat.{ℕ, zero, suc, _+_, _*_, _-_, _%_, _≤_, _<_}
+use Prim.Native.Nat.{ℕ, zero, suc, _+_, _*_, _-_, _%_, _<_}
 use native.Mathlib.Nat.{add-zero, mod-add-mod, mod-eq-of-lt}
 use native.Mathlib.Omega.{arith}
-use lib.ListN.{length, drop, length-drop}
+use lib.ListN.{drop, length}
 use lib.Seq.{append-snoc}
-use Rattle.laws.proofs.Cases.{cond-cases}
+use Rattle.laws.proofs.Cases.{bool-cases}
 use Rattle.model.specs.Geometry.{Geometry, Fits, blockCount}
 use Rattle.model.specs.Blocks.{Bytes}
 use Rattle.model.specs.Layout.{nextSlot, mapEntry, isAllocated}
 use Rattle.model.specs.Stores.{Trace, apply, addresses}
 use Rattle.model.specs.Table.{PublicChoice, keepPublic, writePublic}
 use Rattle.model.specs.HiddenHalf.{HiddenState, HiddenHalf, hiddenHalf}
-use Rattle.model.specs.Rounds.{Run, stopped, followedBy, goesOn, roundTrace, runFrom}
+use Rattle.model.specs.Rounds.{Run, stopped, followedBy, roundTrace, runFrom}
 use Rattle.model.specs.Refusals.{roundsTo, storeCount}
 use Rattle.model.specs.Simulator.{slotAddresses, keptRounds, lastRound}
-use Rattle.model.proofs.Laws.Slots.{nextSlot-lt}
 use Rattle.model.proofs.Laws.Places.{Placed, old-of-placed}
 use Rattle.model.proofs.Laws.Stores.{All, all-append, Stored, apply-append, addresses-append}
 use Rattle.model.proofs.Laws.Stores.{length-addresses}
-use Rattle.model.proofs.Laws.Accepted.{GoodWrite}
 use Rattle.model.proofs.Laws.Paths.{Hides}
-use Rattle.model.proofs.Laws.HiddenHalf.{HidesHalf, rowOf-public, hiddenHalf-hides}
 use Rattle.model.proofs.Laws.RoundStores.{afterRound, addresses-kept, addresses-last, round-stored}
-use Rattle.model.proofs.Laws.RoundStores.{length-round}
-use Rattle.model.proofs.Laws.RoundEffects.{isAllocated-kept}
-use Rattle.model.proofs.Laws.Wrote.{Wrote, last-wrote, entry-kept, placed-kept, kept-wrote}
-use Rattle.model.proofs.Laws.RoundCounts.{roundsTo-zero, roundsTo-free, roundsTo-taken, oneMore-of}
-use Rattle.model.proofs.Laws.RoundCounts.{roundsTo-ext, length-rounds}
+use Rattle.model.proofs.Laws.Wrote.{Wrote, last-wrote, entry-kept, kept-wrote}
+use Rattle.model.proofs.Laws.RoundCounts.{roundsTo-zero, roundsTo-free, length-rounds}
+use Rattle.model.proofs.Laws.Ready.{Ready, ready-hides, ready-kept, rounds-kept, runFrom-kept}
+use Rattle.model.proofs.Laws.Ready.{runFrom-last}
 
 -- the slot of the round after so many earlier ones from a slot on
 abbrev pub slotAfter : Geometry → (slot earlier : ℕ) → ℕ
@@ -123,81 +119,56 @@ module _ (g : Geometry) (f : Fits g) (number : ℕ) (inside : number < g .public
   -- ---- all rounds ----
 
   -- what a run of at most so many rounds does, from any slot of any disk
-  abbrev pub RanBy : (most : ℕ) → Type 0
+  abbrev RanBy : (most : ℕ) → Type 0
   RanBy most =
-      (disk : Bytes) → length disk ≡ blockCount g * g .blockSize → (slot : ℕ) → slot < g .slots →
-      Placed g disk number → (random : Bytes) (state : HiddenState) (earlier : ℕ) →
-      roundsTo most (isAllocated g disk) g slot ≡ suc earlier →
-      suc earlier * (g .height * g .blockSize) ≤ length random → All (GoodWrite g) (state .waiting) →
-      Ran g number content slot earlier disk (runFrom most g number content slot random disk state)
-
-  -- one round more, whatever its hidden half
-  module _ (most : ℕ) (later : RanBy most) (disk : Bytes) (whole : length disk ≡ blockCount g * g .blockSize)
-      (slot : ℕ) (here : slot < g .slots) (placed : Placed g disk number) (random : Bytes) (earlier : ℕ)
-      (rounds : roundsTo (suc most) (isAllocated g disk) g slot ≡ suc earlier)
-      (enough : suc earlier * (g .height * g .blockSize) ≤ length random) (part : HiddenHalf)
-      (hides : HidesHalf g slot part) where
-    -- the run by the public choice
-    abbrev runBy : PublicChoice → Run
-    runBy choice =
-        followedBy (roundTrace choice g disk number slot content (part .trace))
-        (cond (goesOn choice)
-        (runFrom most g number content (nextSlot g slot) (drop (g .height * g .blockSize) random)
-        (afterRound choice g disk number slot content (part .trace)) (part .state))
-        (stopped (part .state)))
-
-    ran-last : isAllocated g disk slot ≡ false → Ran g number content slot earlier disk (runBy writePublic)
-    ran-last free =
-        let e : 0 ≡ earlier = omega (arith, roundsTo-free most (isAllocated g disk) g slot free, rounds) in
-        subst (λ (n : ℕ). Ran g number content slot n disk (runBy writePublic)) e
-        (last-ran disk whole slot here placed (part .trace) (hides .hides) free (part .state))
-
-    ran-kept : isAllocated g disk slot ≡ true → Ran g number content slot earlier disk (runBy keepPublic)
-    ran-kept taken =
-        let old = old-of-placed g disk number placed in
-        let kept = afterRound keepPublic g disk number slot content (part .trace) in
-        let more = oneMore-of (roundsTo most (isAllocated g disk) g (nextSlot g slot)) earlier
-        (sym (roundsTo-taken most (isAllocated g disk) g slot taken) ∙ rounds) in
-        let same = roundsTo-ext most (isAllocated g kept) (isAllocated g disk) g f (nextSlot g slot)
-        (nextSlot-lt g slot f)
-        (isAllocated-kept g f disk whole number inside slot here content sized old (part .trace)
-        (hides .hides)) in
-        let e : suc (more .before) ≡ earlier = sym (more .earlier-is) in
-        let rest : suc (more .before) * (g .height * g .blockSize) ≤
-        length (drop (g .height * g .blockSize) random) =
-        simp length-drop (omega (arith, rw (more .earlier-is) at enough)) in
-        subst (λ (n : ℕ). Ran g number content slot n disk (runBy keepPublic)) e
-        (kept-ran disk whole slot here placed (part .trace) (hides .hides) (more .before) _
-        (later kept
-        (length-round g f disk whole number inside slot here content sized old (part .trace)
-        (hides .hides) keepPublic ∙ whole)
-        (nextSlot g slot) (nextSlot-lt g slot f)
-        (placed-kept g f disk whole number inside slot here content sized placed (part .trace) (hides .hides))
-        (drop (g .height * g .blockSize) random) (part .state) (more .before) (same ∙ more .rounds-is) rest
-        (hides .waiting)))
+      (disk : Bytes) (slot : ℕ) (random : Bytes) (state : HiddenState) →
+      Ready g number most disk slot random state →
+      Ran g number content slot (roundsTo most (isAllocated g disk) g slot - 1) disk
+      (runFrom most g number content slot random disk state)
 
   one-more : (most : ℕ) → RanBy most → RanBy (suc most)
-  unfolding runFrom
-  one-more most later disk whole slot here placed random state earlier rounds enough writes =
-      subst (λ (choice : PublicChoice). Ran g number content slot earlier disk
-      (runBy most later disk whole slot here placed random earlier rounds enough part hides choice))
-      (sym (rowOf-public g disk slot (state .waiting)))
-      (cond-cases (λ (choice : PublicChoice). Ran g number content slot earlier disk
-      (runBy most later disk whole slot here placed random earlier rounds enough part hides choice))
-      (isAllocated g disk slot)
-      (ran-kept most later disk whole slot here placed random earlier rounds enough part hides)
-      (ran-last most later disk whole slot here placed random earlier rounds enough part hides))
+  one-more most later disk slot random state ready = ⊎-elim kept last (bool-cases (isAllocated g disk slot))
     where
       part : HiddenHalf
       part = hiddenHalf g disk slot random state
 
-      hides : HidesHalf g slot part
-      hides = hiddenHalf-hides g f disk whole slot here random (omega arith) state writes
+      hides : Hides g slot (part .trace)
+      hides = ready-hides g f number inside content sized most disk slot random state ready .hides
+
+      kept : isAllocated g disk slot ≡ true →
+          Ran g number content slot (roundsTo (suc most) (isAllocated g disk) g slot - 1) disk
+          (runFrom (suc most) g number content slot random disk state)
+      kept taken =
+          let next = ready-kept g f number inside content sized most disk slot random state ready taken in
+          let fewer = rounds-kept g f number inside content sized most disk slot random state ready taken in
+          let rest =
+          runFrom most g number content (nextSlot g slot) (drop (g .height * g .blockSize) random)
+          (afterRound keepPublic g disk number slot content (part .trace)) (part .state) in
+          rw (runFrom-kept most g number content slot random disk state taken)
+          (subst (λ (n : ℕ). Ran g number content slot n disk
+          (followedBy (roundTrace keepPublic g disk number slot content (part .trace)) rest))
+          (omega (arith, fewer, next .some-rounds))
+          (kept-ran disk (ready .whole) slot (ready .here) (ready .placed) (part .trace) hides _ rest
+          (later _ _ _ _ next)))
+
+      last : isAllocated g disk slot ≡ false →
+          Ran g number content slot (roundsTo (suc most) (isAllocated g disk) g slot - 1) disk
+          (runFrom (suc most) g number content slot random disk state)
+      last free =
+          let e : 0 ≡ roundsTo (suc most) (isAllocated g disk) g slot - 1 =
+          omega (arith, roundsTo-free most (isAllocated g disk) g slot free) in
+          rw (runFrom-last most g number content slot random disk state free)
+          (subst (λ (n : ℕ). Ran g number content slot n disk
+          (followedBy (roundTrace writePublic g disk number slot content (part .trace)) (stopped (part .state))))
+          e
+          (last-ran disk (ready .whole) slot (ready .here) (ready .placed) (part .trace) hides free
+          (part .state)))
 
   pub runFrom-ran : (most : ℕ) → RanBy most
-  runFrom-ran zero = λ disk whole slot here placed random state earlier rounds enough writes.
-      absurd (omega (arith, rounds, roundsTo-zero (isAllocated g disk) g slot))
-  runFrom-ran (suc most) = one-more most (runFrom-ran most)
+  runFrom-ran zero disk slot random state ready =
+      absurd (ready .some-rounds (roundsTo-zero (isAllocated g disk) g slot))
+  runFrom-ran (suc most) disk slot random state ready =
+      one-more most (runFrom-ran most) disk slot random state ready
 
 -- ---- by the number of rounds ----
 

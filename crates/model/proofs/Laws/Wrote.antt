@@ -1,19 +1,24 @@
 -- What a run of rounds leaves in header, map, bitmap and public blocks: after its last round, and with one
 -- more kept round before. Assumes nothing.
-use mathlib.Core.Path.{_≡_, sym, ap, _∙_}
+use mathlib.Core.Path.{_≡_, sym, ap, _∙_, subst}
 use mathlib.Core.Logic.{_≢_, inl, inr}
 use mathlib.Core.Bool.{true, false}
 use Prim.Native.Nat.{ℕ, _*_, _<_}
+use native.Mathlib.Omega.{arith}
 use lib.ListN.{length}
-use Rattle.model.specs.Geometry.{Geometry, Fits, bitmapBlocks, blockCount}
+use Rattle.model.specs.Geometry.{Geometry, Fits, bitmapBlocks, blockCount, driveSize, isGeometry}
 use Rattle.model.specs.Blocks.{Bytes, blockAt, entryAt}
 use Rattle.model.specs.Layout.{headIn, slotStart, slotOf, nextSlot, areaPlace, mapEntry, isAllocated}
-use Rattle.model.specs.Layout.{isPlace}
+use Rattle.model.specs.Layout.{isPlace, geometryIn}
 use Rattle.model.specs.Stores.{Trace}
 use Rattle.model.specs.Table.{keepPublic, writePublic}
+use Rattle.model.specs.Refusals.{driveRefusal}
 use Rattle.model.specs.Invariants.{bitmapBit}
+use Rattle.model.proofs.Laws.Geometry.{geometry-ext}
+use Rattle.model.proofs.Laws.Slots.{nextSlot-lt}
 use Rattle.model.proofs.Laws.Places.{OldPlace, Placed, isPlace-slotStart, old-of-placed}
 use Rattle.model.proofs.Laws.Places.{place-of-isPlace, placed-apart}
+use Rattle.model.proofs.Laws.Refusals.{accepted-of-refusal, refusal-of-accepted}
 use Rattle.model.proofs.Laws.Paths.{Hides}
 use Rattle.model.proofs.Laws.RoundStores.{afterRound, length-round}
 use Rattle.model.proofs.Laws.Rounds.{entryAt-round, headIn-round, blockAt-round-start-other}
@@ -152,3 +157,20 @@ module _ (g : Geometry) (f : Fits g) (disk : Bytes) (whole : length disk ≡ blo
             ∙ blockAt-kept-start g f disk whole number counted slot inside content sized
             old hidden hides other;
       }
+
+-- ---- the drive after it ----
+
+module _ (disk : Bytes) (accepted : driveRefusal disk ≡ 0) {number : ℕ} {content : Bytes} {last : ℕ}
+    (final : Bytes) (wrote : Wrote (geometryIn disk) number content last disk final) where
+  pub geometryIn-wrote : geometryIn final ≡ geometryIn disk
+  geometryIn-wrote = geometry-ext final disk (wrote .fields)
+
+  pub driveRefusal-wrote : driveRefusal final ≡ 0
+  driveRefusal-wrote =
+      let drive = accepted-of-refusal disk accepted in
+      let e = geometryIn-wrote in
+      let same : length final ≡ length disk = wrote .whole ∙ sym (drive .sized .whole) in
+      refusal-of-accepted final (omega (arith, drive .sized .long)) (ap isGeometry e ∙ drive .sized .accepted)
+      (wrote .whole ∙ sym (ap driveSize e))
+      (subst (λ (h : Geometry). headIn final < h .slots) (sym e)
+      (rw (wrote .head) (nextSlot-lt (geometryIn disk) last (drive .sized .fits))))

@@ -16,12 +16,13 @@ use Rattle.model.specs.Refusals.{driveRefusal, publicReadRefusal}
 use Rattle.model.specs.Calls.{publicRead}
 use Rattle.model.specs.View.{viewFrom, viewOf, Alike}
 use Rattle.model.specs.Simulator.{Simulator, simulatorOf, simulatedAnswer}
+use Rattle.model.proofs.Laws.Geometry.{geometry-ext}
 use Rattle.model.proofs.Laws.Places.{Placed}
 use Rattle.model.proofs.Laws.Refusals.{drive-of-refusal}
 use Rattle.model.proofs.Laws.Accepted.{accepted-of-read}
 use Rattle.model.proofs.Laws.Calls.{entryShown, publicRead-done, publicRead-refused}
 use Rattle.model.proofs.Views.Shown.{ShowSame, blockAt-alike, isShown-slotBlock}
-use Rattle.model.proofs.Views.View.{entryAt-viewOf, geometry-ext, viewFrom-alike, showSame-of-viewFrom}
+use Rattle.model.proofs.Views.View.{entryAt-viewOf, viewFrom-alike, showSame-of-viewFrom}
 use Rattle.model.proofs.Views.Tracking.{trackerOf, simulatorOf-viewOf}
 use Rattle.model.proofs.Views.Answers.{readLengths, simulatedAnswer-read}
 use Rattle.model.proofs.Views.Sides.{entryAt-alike, mapEntry-alike}

@@ -24,13 +24,13 @@ use Rattle.model.specs.Simulator.{simulatedAnswer, Told, toldStores, isD
 use Rattle.model.specs.Simulator.{simulatorAfter, reportOf}
 use Rattle.model.proofs.Laws.Stores.{apply-nil, length-addresses}
 use Rattle.model.proofs.Laws.Accepted.{AcceptedWrite, accepted-of-write}
+use Rattle.model.proofs.Laws.Wrote.{driveRefusal-wrote, geometryIn-wrote}
 use Rattle.model.proofs.Laws.Runs.{Ran, length-ran}
 use Rattle.model.proofs.Laws.WriteRuns.{writeRun-ran}
 use Rattle.model.proofs.Laws.Calls.{doneWith, written-cases}
 use Rattle.model.proofs.Views.Tracking.{trackerOf}
 use Rattle.model.proofs.Views.Answers.{writeLengths, simulatedAnswer-write}
-use Rattle.model.proofs.Views.Writes.{simulatedRounds-suc, simulatedStores-is, geometryIn-final}
-use Rattle.model.proofs.Views.Writes.{accepted-final, trackerOf-final}
+use Rattle.model.proofs.Views.Writes.{simulatedRounds-suc, simulatedStores-is, trackerOf-final}
 
 -- ---- the two ways of the simulator ----
 
@@ -136,8 +136,8 @@ module _ (disk : Bytes) (accepted : driveRefusal disk ≡ 0) (number : ℕ) (con
               (ap (λ (n : ℕ). take n (over 0 (addresses (run .trace)) list)) count
               ∙ take-over (addresses (run .trace)) list fits ∙ stores)
               ∙ sym (toldOf-done (trackerOf disk) call yes);
-          accepted-after = accepted-final disk accepted number known earlier rounds _ (ran .wrote);
-          geometry-after = geometryIn-final disk accepted number known earlier rounds _ (ran .wrote);
+          accepted-after = driveRefusal-wrote disk accepted _ (ran .wrote);
+          geometry-after = geometryIn-wrote disk accepted _ (ran .wrote);
           tracker-after =
               trackerOf-final disk accepted number known earlier rounds _ (ran .wrote) (good .accepted .in-place)
               ∙ sym (simulatorAfter-done (trackerOf disk) call yes);

@@ -5,8 +5,7 @@ use mathlib.Core.Path.{_≡_, sym, ap, ap₂, _∙_, subst}
 use mathlib.Core.Logic.{_≢_, ⊎-elim}
 use mathlib.Core.List.{List}
 use mathlib.Core.Option.{Option}
-use Prim.Native.Nat.{ℕ, suc, _*_, _-_, _≤_}
-use native.Mathlib.Nat.{mul-assoc}
+use Prim.Native.Nat.{ℕ}
 use native.Mathlib.Omega.{arith}
 use lib.ListN.{length}
 use Rattle.laws.proofs.Cases.{eq-cases}
@@ -16,21 +15,22 @@ use Rattle.model.specs.Layout.{geometryIn, headIn}
 use Rattle.model.specs.Stores.{apply}
 use Rattle.model.specs.HiddenHalf.{HiddenWrite}
 use Rattle.model.specs.Rounds.{Run, runFrom}
-use Rattle.model.specs.Refusals.{roundCount, writeRefusal}
+use Rattle.model.specs.Refusals.{writeRefusal}
 use Rattle.model.specs.Calls.{offeredWrites, startState, writeRun, written, writtenDisk}
 use Rattle.model.specs.View.{shownOf}
 use Rattle.model.specs.Simulator.{Simulator, simulatedAnswer}
-use Rattle.model.proofs.Laws.Places.{old-of-placed}
 use Rattle.model.proofs.Laws.Stores.{apply-nil}
 use Rattle.model.proofs.Laws.Refusals.{Accepted, accepted-of-refusal}
-use Rattle.model.proofs.Laws.Accepted.{AcceptedWrite, accepted-of-write, offeredWrites-good}
+use Rattle.model.proofs.Laws.Accepted.{AcceptedWrite, accepted-of-write}
+use Rattle.model.proofs.Laws.Ready.{Ready}
+use Rattle.model.proofs.Laws.WriteRuns.{ready-of-write}
 use Rattle.model.proofs.Laws.Calls.{written-done, written-refused}
 use Rattle.model.proofs.Views.Agreement.{agree-apply}
 use Rattle.model.proofs.Views.Shown.{ShowSame, TraceSame}
 use Rattle.model.proofs.Views.Answers.{writeLengths, simulatedAnswer-write}
 use Rattle.model.proofs.Views.Follows.{written-follows}
 use Rattle.model.proofs.Views.Sides.{entryAt-alike}
-use Rattle.model.proofs.Views.SideRuns.{Supplied, runFrom-alike}
+use Rattle.model.proofs.Views.SideRuns.{runFrom-alike}
 use Rattle.model.proofs.Views.Drives.{Twins, geometryIn-twins, trackerOf-twins}
 
 module _ (disk other : Bytes) (twins : Twins disk other) (number : ℕ) (content random others : Bytes)
@@ -62,18 +62,17 @@ module _ (disk other : Bytes) (twins : Twins disk other) (number : ℕ) (content
     sound : Accepted disk
     sound = accepted-of-refusal disk (twins .accepted)
 
-    rounds : roundCount g disk ≡ suc (roundCount g disk - 1)
-    rounds = omega (arith, good .some-rounds)
+    -- the other drive's head is this one's
+    heads : headIn disk ≡ headIn other
+    heads = entryAt-alike g (sound .sized .fits) disk other (twins .show-same) 5 (omega arith)
 
-    supplied :
-        (bytes : Bytes) → roundCount g disk * g .height * g .blockSize ≤ length bytes →
-        (offered : Option HiddenWrite) →
-        Supplied g (roundCount g disk - 1) bytes (startState (offeredWrites g offered))
-    supplied bytes enough offered =
-        record {
-          enough = rw (← rounds) (omega (arith, mul-assoc (roundCount g disk) (g .height) (g .blockSize)));
-          good-writes = offeredWrites-good g offered;
-        }
+    -- what the other run needs, over the first drive's geometry and from its head
+    ready-other :
+        Ready g number (g .slots) other (headIn disk) others (startState (offeredWrites g offerOther))
+    ready-other =
+        subst (λ (h : Geometry). Ready h number (h .slots) other (headIn disk) others
+        (startState (offeredWrites h offerOther))) (sym (geometryIn-twins disk other twins))
+        (rw heads (ready-of-write other number content others room offerOther (sym writeRefusal-twins ∙ free)))
 
     -- the other run, over the first drive's geometry and from its head
     runOther-is :
@@ -84,8 +83,7 @@ module _ (disk other : Bytes) (twins : Twins disk other) (number : ℕ) (content
     runOther-is =
         ap₂ (λ (h : Geometry) (head : ℕ). runFrom (h .slots) h number content head others other
         (startState (offeredWrites h offerOther)))
-        (geometryIn-twins disk other twins)
-        (entryAt-alike g (sound .sized .fits) disk other (twins .show-same) 5 (omega arith))
+        (geometryIn-twins disk other twins) heads
 
     trace-alike : TraceSame g (run .trace) (runOther .trace)
     unfolding writeRun
@@ -94,10 +92,8 @@ module _ (disk other : Bytes) (twins : Twins disk other) (number : ℕ) (content
         (runFrom-alike g (sound .sized .fits) number content (good .accepted .number-inside) (good .accepted .block-sized)
         (g .slots) disk other
         (headIn disk) random others (startState (offeredWrites g offer))
-        (startState (offeredWrites g offerOther)) (roundCount g disk - 1) (twins .show-same)
-        (sound .head-inside) (old-of-placed g disk number (good .accepted .in-place)) rounds
-        (supplied random (good .enough-random) offer)
-        (supplied others (rw same-random at (good .enough-random)) offerOther))
+        (startState (offeredWrites g offerOther)) (twins .show-same)
+        (ready-of-write disk number content random room offer free) ready-other)
 
     -- the disks that the two runs leave
     final-alike :

@@ -14,7 +14,7 @@ use Rattle.model.specs.Geometry.{Geometry, rootAddress, blockCount}
 use Rattle.model.specs.Blocks.{Bytes, DiskAddress, blockAt, entryAt}
 use Rattle.model.specs.Layout.{Drive, geometryIn, mapAddress, mapEntry, bitAddress, isAllocated}
 use Rattle.model.specs.View.{isShown, shownOf, viewFrom, viewOf}
-use Rattle.model.proofs.Laws.Geometry.{mapAddress-lt, bitAddress-lt}
+use Rattle.model.proofs.Laws.Geometry.{mapAddress-lt, bitAddress-lt, geometry-ext}
 use Rattle.model.proofs.Laws.Blocks.{length-blockAt}
 use Rattle.model.proofs.Laws.Entries.{entryAt-header}
 use Rattle.model.proofs.Laws.Bitmap.{isAllocated-block}
@@ -162,13 +162,6 @@ module _ (disk : Bytes) (drive : Drive (geometryIn disk) disk) where
       isAllocated-block (geometryIn disk) (viewOf disk) disk slot
       (blockAt-viewOf (bitAddress (geometryIn disk) slot)
       (bitAddress-lt (geometryIn disk) (drive .fits) slot h))
-
--- a geometry by its five numbers
-pub geometry-ext :
-    (disk other : Bytes) → ((index : ℕ) → index < 5 → entryAt index disk ≡ entryAt index other) →
-    geometryIn disk ≡ geometryIn other
-geometry-ext disk other e =
-    cc (e 0 (omega arith), e 1 (omega arith), e 2 (omega arith), e 3 (omega arith), e 4 (omega arith))
 
 pub geometryIn-viewOf :
     (disk : Bytes) → Drive (geometryIn disk) disk → geometryIn (viewOf disk) ≡ geometryIn disk

@@ -1,25 +1,23 @@
 -- A write on an accepted drive and the simulator that tracks it: its rounds, its stores, and what it keeps of
 -- the drive that the write leaves. Assumes nothing.
-use mathlib.Core.Path.{_≡_, refl, sym, ap, ap₂, _∙_, subst}
+use mathlib.Core.Path.{_≡_, refl, sym, ap, ap₂, _∙_}
 use mathlib.Core.Logic.{_≢_, ⊎-elim}
 use mathlib.Core.Bool.{true, false, cond}
 use mathlib.Core.List.{_++_}
 use Prim.Native.Nat.{ℕ, suc, _+_, _-_, _%_, _<_}
 use native.Mathlib.Omega.{arith}
 use lib.Dec.{eqb}
-use lib.ListN.{length, set}
-use Rattle.model.specs.Geometry.{Geometry, driveSize, isGeometry}
+use lib.ListN.{set}
+use Rattle.model.specs.Geometry.{Geometry}
 use Rattle.model.specs.Blocks.{Bytes}
 use Rattle.model.specs.Layout.{geometryIn, headIn, slotStart, slotOf, nextSlot, mapEntry}
 use Rattle.model.specs.Refusals.{driveRefusal, roundCount}
 use Rattle.model.specs.Simulator.{entryFor, simulatedRounds, slotOfRound, keptRounds, lastRound}
 use Rattle.model.specs.Simulator.{simulatedStores, simulatedWrite}
-use Rattle.model.proofs.Laws.Slots.{nextSlot-lt}
 use Rattle.model.proofs.Laws.Places.{Placed, old-of-placed}
-use Rattle.model.proofs.Laws.Refusals.{Accepted, accepted-of-refusal, refusal-of-accepted}
-use Rattle.model.proofs.Laws.Wrote.{Wrote}
+use Rattle.model.proofs.Laws.Refusals.{Accepted, accepted-of-refusal}
+use Rattle.model.proofs.Laws.Wrote.{Wrote, geometryIn-wrote}
 use Rattle.model.proofs.Laws.Runs.{slotAfter}
-use Rattle.model.proofs.Views.View.{geometry-ext}
 use Rattle.model.proofs.Views.Tracking.{tracked, trackerOf, simulator-ext, getD-entries}
 use Rattle.model.proofs.Views.Answers.{simulatedRounds-is}
 use Rattle.model.proofs.Views.Updates.{entriesFrom-after, allocatedFrom-after}
@@ -65,25 +63,12 @@ module _ (disk : Bytes) (accepted : driveRefusal disk ≡ 0) (number : ℕ)
   module _ {content : Bytes} (final : Bytes)
       (wrote : Wrote (geometryIn disk) number content
       (slotAfter (geometryIn disk) (headIn disk) earlier) disk final) where
-    pub geometryIn-final : geometryIn final ≡ geometryIn disk
-    geometryIn-final = geometry-ext final disk (wrote .fields)
-
-    pub accepted-final : driveRefusal final ≡ 0
-    accepted-final =
-        let e = geometryIn-final in
-        let same : length final ≡ length disk = wrote .whole ∙ sym (sound .sized .whole) in
-        refusal-of-accepted final (omega (arith, sound .sized .long))
-        (ap isGeometry e ∙ sound .sized .accepted)
-        (wrote .whole ∙ sym (ap driveSize e))
-        (subst (λ (h : Geometry). headIn final < h .slots) (sym e)
-        (rw (wrote .head) (nextSlot-lt g last (sound .sized .fits))))
-
     pub trackerOf-final :
         Placed (geometryIn disk) disk number → trackerOf final ≡ simulatedWrite (trackerOf disk) number
     trackerOf-final place =
         let entries = trackerOf disk .entries in
         let marks = trackerOf disk .allocated in
-        ap (λ (h : Geometry). tracked h (headIn final) final) geometryIn-final
+        ap (λ (h : Geometry). tracked h (headIn final) final) (geometryIn-wrote disk accepted final wrote)
         ∙ simulator-ext refl (wrote .head ∙ ap (nextSlot g) (sym slotOfRound-last))
         (entriesFrom-after g disk final number (slotStart g last) known (wrote .map-same) (wrote .map-other)
         ∙ ap (λ (slot : ℕ). set entries number (slotStart g slot)) (sym slotOfRound-last))

@@ -4,22 +4,19 @@ use mathlib.Core.Path.{_≡_, sym, ap, _∙_}
 use mathlib.Core.Logic.{⊎-elim}
 use mathlib.Core.List.{[], _∷_}
 use mathlib.Core.Option.{Option}
-use Prim.Native.Nat.{ℕ, _*_, _≤_, _<_}
+use Prim.Native.Nat.{suc, ℕ, _<_}
 use native.Mathlib.Omega.{arith}
 use lib.ListN.{length}
 use borrow.Author.Tests.{eq-eqb, ne-eqb}
 use Rattle.laws.proofs.Cases.{eq-cases, cond-true, cond-false}
-use Rattle.model.specs.Geometry.{Geometry, Fits, blockCount}
+use Rattle.model.specs.Geometry.{Geometry, Fits}
 use Rattle.model.specs.Blocks.{Bytes}
 use Rattle.model.specs.Table.{PublicChoice}
 use Rattle.model.specs.HiddenHalf.{HiddenState, HiddenHalf, hiddenHalf}
-use Rattle.model.proofs.Laws.Places.{Placed, old-of-placed}
-use Rattle.model.proofs.Laws.Stores.{All}
-use Rattle.model.proofs.Laws.Accepted.{GoodWrite}
-use Rattle.model.proofs.Laws.Paths.{Hides}
-use Rattle.model.proofs.Laws.HiddenHalf.{hiddenHalf-hides}
+use Rattle.model.proofs.Laws.Places.{old-of-placed}
 use Rattle.model.proofs.Laws.RoundStores.{afterRound}
 use Rattle.model.proofs.Laws.Rounds.{blockAt-round-root, blockAt-round-place}
+use Rattle.model.proofs.Laws.Ready.{Ready, ready-hides}
 use Rattle.model.proofs.Tree.Ghost.{Tree, Ghost, valueOf}
 use Rattle.model.proofs.Tree.Stored.{Follows}
 use Rattle.model.proofs.Tree.Turns.{Turn, still, places, hiddenHalf-turns}
@@ -76,30 +73,25 @@ progress-of-turn g f state result old new (places write later e q now same) =
 -- ---- one round ----
 
 module _ (g : Geometry) (f : Fits g) (number : ℕ) (counted : number < g .publics) (content : Bytes)
-    (sized : length content ≡ g .blockSize) (disk : Bytes) (whole : length disk ≡ blockCount g * g .blockSize)
-    (slot : ℕ) (here : slot < g .slots) (placed : Placed g disk number) (random : Bytes)
-    (enough : g .height * g .blockSize ≤ length random) (state : HiddenState)
-    (good : All (GoodWrite g) (state .waiting)) where
+    (sized : length content ≡ g .blockSize) (most : ℕ) (disk : Bytes) (slot : ℕ) (random : Bytes)
+    (state : HiddenState) (ready : Ready g number (suc most) disk slot random state) where
   abbrev part : HiddenHalf
   part = hiddenHalf g disk slot random state
 
   abbrev after : PublicChoice → Bytes
   after choice = afterRound choice g disk number slot content (part .trace)
 
-  pub round-hides : Hides g slot (part .trace)
-  round-hides =
-      hiddenHalf-hides g f disk whole slot here random enough state good .hides
-
   follows : (choice : PublicChoice) → Follows g disk (after choice) (part .trace)
   follows choice =
-      let old = old-of-placed g disk number placed in
+      let old = old-of-placed g disk number (ready .placed) in
+      let hides = ready-hides g f number counted content sized most disk slot random state ready .hides in
       record {
         in-root =
-            blockAt-round-root g f disk whole number counted slot here content sized old (part .trace)
-            round-hides choice;
+            blockAt-round-root g f disk (ready .whole) number counted slot (ready .here) content sized old
+            (part .trace) hides choice;
         in-slot = λ other place h.
-            blockAt-round-place g f disk whole number counted slot here content sized old (part .trace)
-            round-hides choice other place;
+            blockAt-round-place g f disk (ready .whole) number counted slot (ready .here) content sized old
+            (part .trace) hides choice other place;
       }
 
   pub round-grew :
@@ -107,8 +99,8 @@ module _ (g : Geometry) (f : Fits g) (number : ℕ) (counted : number < g .publi
       Grew g disk (after choice) tree state (part .state)
   round-grew choice tree ghost =
       let turned =
-      hiddenHalf-turns g f disk tree whole ghost slot here state random good (after choice)
-      (follows choice) in
+      hiddenHalf-turns g f disk tree (ready .whole) ghost slot (ready .here) state random (ready .good)
+      (after choice) (follows choice) in
       record {
         grown = turned .grown;
         ghost = turned .ghost;

@@ -7,9 +7,9 @@ pub mod Invariant
 pub mod FromInvariant
 pub mod Nodes
 pub mod Planted
+pub mod Stored
 pub mod Linking
 pub mod Planting
-pub mod Stored
 pub mod Unused
 pub mod Placing
 pub mod Turns

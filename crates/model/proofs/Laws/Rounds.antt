@@ -4,18 +4,17 @@
 use mathlib.Core.Path.{_≡_, refl, sym, ap, _∙_}
 use mathlib.Core.Logic.{_≢_, inl, inr}
 use mathlib.Core.List.{[], _∷_, _++_}
-use Prim.Native.Nat.{ℕ, _+_, _*_, _-_, _%_, _≤_, _<_}
+use Prim.Native.Nat.{ℕ, _+_, _*_, _≤_, _<_}
 use native.Mathlib.Omega.{arith}
 use lib.ListN.{length}
-use Rattle.model.specs.Geometry.{Geometry, Fits, areaStart, rootAddress, blockCount}
+use Rattle.model.specs.Geometry.{Geometry, Fits, rootAddress, blockCount}
 use Rattle.model.specs.Blocks.{Bytes, DiskAddress, blockAt, entryAt, setEntry}
 use Rattle.model.specs.Layout.{headIn, slotStart, slotOf, nextSlot, mapEntry}
 use Rattle.model.specs.Stores.{Store, Trace, addresses}
 use Rattle.model.specs.Table.{PublicChoice}
 use Rattle.model.specs.Rounds.{publicStore, headerStore, mapStores, roundTrace}
 use Rattle.model.proofs.Laws.Entries.{entryAt-setEntry-same, entryAt-setEntry-other, entryAt-header}
-use Rattle.model.proofs.Laws.Slots.{place-of-slot-block, slotOf-slot-block, slotOf-slotStart}
-use Rattle.model.proofs.Laws.Slots.{nextSlot-lt}
+use Rattle.model.proofs.Laws.Slots.{slotOf-slotStart, nextSlot-lt, place-apart, slot-apart}
 use Rattle.model.proofs.Laws.Places.{OldPlace}
 use Rattle.model.proofs.Laws.Stores.{lastAt, lastAt-nil, lastAt-append, lastAt-same, lastAt-other}
 use Rattle.model.proofs.Laws.Stores.{lastAt-outside, blockAt-apply}
@@ -25,21 +24,7 @@ use Rattle.model.proofs.Laws.MapStores.{InFront, mapStores-inFront}
 use Rattle.model.proofs.Laws.RoundStores.{HiddenAddress, hides-addresses, publicStore-address}
 use Rattle.model.proofs.Laws.RoundStores.{afterRound, header-fits, round-stored}
 
--- ---- addresses and stores apart ----
-
--- blocks of two slots, or of two places, are apart
-pub slot-apart :
-    (g : Geometry) (slot other place at : ℕ) → place ≤ g .height → at ≤ g .height → other ≢ slot →
-    slotStart g other + at ≢ slotStart g slot + place
-slot-apart g slot other place at h k ne e =
-    ne (sym (slotOf-slot-block g other at k) ∙ ap (slotOf g) e ∙ slotOf-slot-block g slot place h)
-
-pub place-apart :
-    (g : Geometry) (slot other place at : ℕ) → place ≤ g .height → at ≤ g .height → at ≢ place →
-    slotStart g other + at ≢ slotStart g slot + place
-place-apart g slot other place at h k ne e =
-    ne (sym (place-of-slot-block g other at k) ∙ ap (λ (n : ℕ). (n - areaStart g) % (g .height + 1)) e
-    ∙ place-of-slot-block g slot place h)
+-- ---- stores apart ----
 
 -- the four parts of a round, the last one first
 lastAt-parts :

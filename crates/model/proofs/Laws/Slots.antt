@@ -58,6 +58,20 @@ isSlotBlock-slotStart g slot h =
     let e : slotStart g slot + 0 ≡ slotStart g slot = omega arith in
     ap (isSlotBlock g 0) (sym e) ∙ isSlotBlock-same g slot 0 (omega arith) h
 
+-- blocks of two slots, or of two places, are apart
+pub slot-apart :
+    (g : Geometry) (slot other place at : ℕ) → place ≤ g .height → at ≤ g .height → other ≢ slot →
+    slotStart g other + at ≢ slotStart g slot + place
+slot-apart g slot other place at h k ne e =
+    ne (sym (slotOf-slot-block g other at k) ∙ ap (slotOf g) e ∙ slotOf-slot-block g slot place h)
+
+pub place-apart :
+    (g : Geometry) (slot other place at : ℕ) → place ≤ g .height → at ≤ g .height → at ≢ place →
+    slotStart g other + at ≢ slotStart g slot + place
+place-apart g slot other place at h k ne e =
+    ne (sym (place-of-slot-block g other at k) ∙ ap (λ (n : ℕ). (n - areaStart g) % (g .height + 1)) e
+    ∙ place-of-slot-block g slot place h)
+
 -- ---- which addresses are slot blocks ----
 
 -- such an address is at its place in its slot, which is one of the drive's

@@ -7,21 +7,21 @@ use mathlib.Core.List.{List, [], _∷_}
 use mathlib.Core.Option.{Option, some}
 use Prim.Native.Nat.{ℕ, _*_, _<_}
 use lib.ListN.{length}
-use Rattle.laws.proofs.Cases.{true-is-not-false, bool-cases, eq-cases, cond-false}
+use Rattle.laws.proofs.Cases.{true-is-not-false, bool-cases, eq-cases, cond-false, cond-true}
 use Rattle.model.specs.Geometry.{Geometry, Fits, blockCount, treeCapacity}
 use Rattle.model.specs.Blocks.{Bytes, blockAt}
-use Rattle.model.specs.Layout.{levelAddress, isAllocated}
-use Rattle.model.specs.Table.{Row, HiddenChoice, keepHidden, placeHidden, fillHidden}
+use Rattle.model.specs.Layout.{levelAddress}
+use Rattle.model.specs.Table.{HiddenChoice, keepHidden, placeHidden, fillHidden}
 use Rattle.model.specs.Paths.{currentPath, writtenBack, dummyStores}
 use Rattle.model.specs.HiddenHalf.{HiddenWrite, HiddenState, HiddenHalf, half, isWaiting, ownerOf}
 use Rattle.model.specs.HiddenHalf.{isLive, placedState, blockedState, hiddenBy, rowOf, hiddenHalf}
 use Rattle.model.proofs.Laws.Stores.{All}
-use Rattle.model.proofs.Laws.Table.{rowAt-ruled}
 use Rattle.model.proofs.Laws.Accepted.{GoodWrite}
+use Rattle.model.proofs.Laws.HiddenHalf.{rowOf-hidden}
 use Rattle.model.proofs.Tree.Ghost.{Tree, Ghost, blockIn, valueOf}
 use Rattle.model.proofs.Tree.Live.{owner-lt-of-isLive, holds-of-isLive, isBlocked-false}
-use Rattle.model.proofs.Tree.Planted.{placedTree}
-use Rattle.model.proofs.Tree.Stored.{Follows}
+use Rattle.model.proofs.Tree.Planted.{planted}
+use Rattle.model.proofs.Tree.Stored.{StoredBy}
 use Rattle.model.proofs.Tree.Placing.{placement, ghost-dummy, valueOf-dummy}
 
 -- what a half changes of what the numbers show: nothing, or the number of the hidden write that it places
@@ -42,25 +42,25 @@ pub record Turned (g : Geometry) (disk after : Bytes) (tree : Tree) (state next 
 module _ (g : Geometry) (f : Fits g) (disk : Bytes) (tree : Tree)
     (whole : length disk ≡ blockCount g * g .blockSize)
     (start : Ghost g disk tree) (slot : ℕ) (here : slot < g .slots) (state : HiddenState) where
-  -- a half after which every disk that follows it has its tree
+  -- a half after which every disk that it leaves has its tree
   abbrev Turns : HiddenHalf → Type 0
   Turns part =
-      (after : Bytes) → Follows g disk after (part .trace) → Turned g disk after tree state (part .state)
+      (after : Bytes) → StoredBy g slot disk after (part .trace) → Turned g disk after tree state (part .state)
 
   -- a live slot: its owner's path anew, the data kept
   turns-live : isLive g disk slot ≡ true →
       Turns
       (half (currentPath g disk (ownerOf g disk slot) slot
       (blockAt (g .blockSize) disk (levelAddress g slot 0))) state)
-  turns-live live after follows =
-      let placed = placement g f disk after tree whole start owner slot _ low here (λ e. refl) follows in
+  turns-live live after stored =
+      let placed = placement g f disk after tree whole start owner slot _ low here (λ e. refl) stored in
       record {
-        grown = placedTree g tree owner slot;
+        grown = planted g tree owner slot;
         ghost = placed .ghost;
         turn = still refl (λ number h.
             ⊎-elim
             (λ e.
-            ap (valueOf g after (placedTree g tree owner slot)) e ∙ placed .value-same
+            ap (valueOf g after (planted g tree owner slot)) e ∙ placed .value-same
             ∙ sym (ap (blockIn g disk) (holds-of-isLive g f disk tree start slot live))
             ∙ ap (valueOf g disk tree) (sym e))
             (placed .value-other number h) (eq-cases number owner));
@@ -75,37 +75,33 @@ module _ (g : Geometry) (f : Fits g) (disk : Bytes) (tree : Tree)
   -- a slot that is not live and no hidden write waiting
   turns-dummy : isLive g disk slot ≡ false → (random : Bytes) →
       Turns (half (dummyStores g disk slot random) state)
-  turns-dummy free random after follows =
+  turns-dummy free random after stored =
       record {
         grown = tree;
-        ghost = ghost-dummy g f disk after tree start slot random free follows;
-        turn = still refl (valueOf-dummy g f disk after tree start slot random free follows);
+        ghost = ghost-dummy g f disk after tree start slot random free stored;
+        turn = still refl (valueOf-dummy g f disk after tree start slot random free stored);
       }
 
   -- a hidden write placed
   turns-placed : isLive g disk slot ≡ false → (write : HiddenWrite) (later : List HiddenWrite) →
       state .waiting ≡ write ∷ later → write .number < g .hidden →
       Turns (half (currentPath g disk (write .number) slot (write .content)) (placedState state later))
-  turns-placed free write later e low after follows =
+  turns-placed free write later e low after stored =
       let placed = placement g f disk after tree whole start (write .number) slot (write .content) low here
-      (λ live. true-is-not-false live free) follows in
+      (λ live. true-is-not-false live free) stored in
       record {
-        grown = placedTree g tree (write .number) slot;
+        grown = planted g tree (write .number) slot;
         ghost = placed .ghost;
         turn = places write later e refl (placed .value-same) (placed .value-other);
       }
 
   -- the table's choice for the slot
   choice-live : isLive g disk slot ≡ true → rowOf g disk slot (state .waiting) .hidden ≡ keepHidden
-  choice-live live =
-      ap (λ (chosen : Row). chosen .hidden)
-      (rowAt-ruled (isWaiting (state .waiting)) (isAllocated g disk slot) (isLive g disk slot)) ∙ rw live
+  choice-live live = rowOf-hidden g disk slot (state .waiting) ∙ cond-true _ _ live
 
   choice-free : isLive g disk slot ≡ false →
       rowOf g disk slot (state .waiting) .hidden ≡ cond (isWaiting (state .waiting)) placeHidden fillHidden
-  choice-free free =
-      ap (λ (chosen : Row). chosen .hidden)
-      (rowAt-ruled (isWaiting (state .waiting)) (isAllocated g disk slot) (isLive g disk slot)) ∙ rw free
+  choice-free free = rowOf-hidden g disk slot (state .waiting) ∙ cond-false _ _ free
 
   turns-free : isLive g disk slot ≡ false → (random : Bytes) (waiting : List HiddenWrite) →
       state .waiting ≡ waiting → All (GoodWrite g) waiting →
@@ -116,7 +112,7 @@ module _ (g : Geometry) (f : Fits g) (disk : Bytes) (tree : Tree)
 
   pub hiddenHalf-turns :
       (random : Bytes) → All (GoodWrite g) (state .waiting) → (after : Bytes) →
-      Follows g disk after (hiddenHalf g disk slot random state .trace) →
+      StoredBy g slot disk after (hiddenHalf g disk slot random state .trace) →
       Turned g disk after tree state (hiddenHalf g disk slot random state .state)
   unfolding hiddenHalf hiddenBy
   hiddenHalf-turns random h =

@@ -16,9 +16,10 @@ use Rattle.model.specs.HiddenHalf.{HiddenState, HiddenHalf, hiddenHalf}
 use Rattle.model.proofs.Laws.Places.{old-of-placed}
 use Rattle.model.proofs.Laws.RoundStores.{afterRound}
 use Rattle.model.proofs.Laws.Rounds.{blockAt-round-root, blockAt-round-place}
+use Rattle.model.proofs.Laws.Rounds.{blockAt-round-place-other}
 use Rattle.model.proofs.Laws.Ready.{Ready, ready-hides}
 use Rattle.model.proofs.Tree.Ghost.{Tree, Ghost, valueOf}
-use Rattle.model.proofs.Tree.Stored.{Follows}
+use Rattle.model.proofs.Tree.Stored.{StoredBy}
 use Rattle.model.proofs.Tree.Turns.{Turn, still, places, hiddenHalf-turns}
 use Rattle.model.proofs.Volumes.Progress.{shownAfter, Progress, progress-then}
 
@@ -81,17 +82,20 @@ module _ (g : Geometry) (f : Fits g) (number : ℕ) (counted : number < g .publi
   abbrev after : PublicChoice → Bytes
   after choice = afterRound choice g disk number slot content (part .trace)
 
-  follows : (choice : PublicChoice) → Follows g disk (after choice) (part .trace)
-  follows choice =
+  stored : (choice : PublicChoice) → StoredBy g slot disk (after choice) (part .trace)
+  stored choice =
       let old = old-of-placed g disk number (ready .placed) in
       let hides = ready-hides g f number counted content sized most disk slot random state ready .hides in
       record {
         in-root =
             blockAt-round-root g f disk (ready .whole) number counted slot (ready .here) content sized old
             (part .trace) hides choice;
-        in-slot = λ other place h.
+        in-slot =
             blockAt-round-place g f disk (ready .whole) number counted slot (ready .here) content sized old
-            (part .trace) hides choice other place;
+            (part .trace) hides choice slot;
+        apart = λ other place h ne low high.
+            blockAt-round-place-other g f disk (ready .whole) number counted slot (ready .here) content sized
+            old (part .trace) hides choice other place low high ne;
       }
 
   pub round-grew :
@@ -100,7 +104,7 @@ module _ (g : Geometry) (f : Fits g) (number : ℕ) (counted : number < g .publi
   round-grew choice tree ghost =
       let turned =
       hiddenHalf-turns g f disk tree (ready .whole) ghost slot (ready .here) state random (ready .good)
-      (after choice) (follows choice) in
+      (after choice) (stored choice) in
       record {
         grown = turned .grown;
         ghost = turned .ghost;

@@ -12,7 +12,6 @@ pub mod Refusals
 pub mod Accepted
 pub mod Paths
 pub mod HiddenHalf
-pub mod BitmapBits
 pub mod PublicHalf
 pub mod MapStores
 pub mod RoundStores

@@ -1,19 +1,22 @@
--- Laws of the bitmap: a slot's mark after its own bit and after another bit is set or cleared, within one
--- bitmap block and across blocks. Assumes nothing.
-use mathlib.Core.Path.{_≡_, refl, sym, ap, _∙_}
+-- Laws of the bitmap, padding included: a slot's mark as one of its bits, where bits stand, and a bit after a
+-- slot's own bit is set or cleared and after another one. Assumes nothing.
+use mathlib.Core.Path.{_≡_, refl, sym, ap, _∙_, ap₂}
 use mathlib.Core.Logic.{_≢_, ⊎-elim}
 use mathlib.Core.Bool.{Bool}
-use Prim.Native.Nat.{ℕ, _+_, _*_, _/_, _<_}
-use native.Mathlib.Nat.{mod-lt, div-add-mod', mul-div-cancel}
+use Prim.Native.Nat.{ℕ, _+_, _*_, _/_, _<_, _%_}
+use native.Mathlib.Nat.{mod-lt, div-add-mod', mul-div-cancel, div-lt-iff-lt-mul}
 use native.Mathlib.Omega.{arith}
 use lib.ListN.{length}
 use Rattle.laws.specs.Bits.{bitAt, setBit}
 use Rattle.laws.proofs.Cases.{eq-cases}
 use Rattle.laws.proofs.Bits.{length-setBit, bitAt-setBit-same, bitAt-setBit-other}
-use Rattle.model.specs.Geometry.{Geometry, Fits, blockCount}
-use Rattle.model.specs.Blocks.{Bytes, blockAt, setBlock}
+use Rattle.laws.proofs.Division.{ceilDiv-covers}
+use Rattle.model.specs.Geometry.{Geometry, Fits, blockCount, mapBlocks, areaBlocks, bitmapBlocks}
+use Rattle.model.specs.Geometry.{rootAddress}
+use Rattle.model.specs.Blocks.{Bytes, blockAt, setBlock, DiskAddress}
 use Rattle.model.specs.Layout.{areaPlace, bitAddress, bitPlace, isAllocated, bitmapWith}
-use Rattle.model.proofs.Laws.Geometry.{bitAddress-lt}
+use Rattle.model.specs.Invariants.{bitmapBit}
+use Rattle.model.proofs.Laws.Geometry.{bitAddress-lt, slot-place-lt}
 use Rattle.model.proofs.Laws.Blocks.{length-blockAt, blockAt-setBlock-same, blockAt-setBlock-other}
 
 -- ---- equations ----
@@ -39,6 +42,24 @@ pub isAllocated-block :
 unfolding isAllocated
 isAllocated-block g disk other slot e = ap (bitAt (bitPlace g slot)) e
 
+-- the bitmap block that holds a bit
+abbrev pub blockOfBit : Geometry → (place : ℕ) → DiskAddress
+blockOfBit g place = 1 + mapBlocks g + place / (8 * g .blockSize)
+
+-- a mark is the bit of its slot's public block
+pub isAllocated-bit :
+    (g : Geometry) (disk : Bytes) (slot : ℕ) → isAllocated g disk slot ≡ bitmapBit g disk (areaPlace g slot)
+unfolding isAllocated bitmapBit
+isAllocated-bit g disk slot = refl
+
+-- a bit depends on its bitmap block alone
+pub bitmapBit-block :
+    (g : Geometry) (disk other : Bytes) (place : ℕ) →
+    blockAt (g .blockSize) disk (blockOfBit g place) ≡ blockAt (g .blockSize) other (blockOfBit g place) →
+    bitmapBit g disk place ≡ bitmapBit g other place
+unfolding bitmapBit
+bitmapBit-block g disk other place e = ap (bitAt (place % (8 * g .blockSize))) e
+
 -- ---- places ----
 
 module _ (g : Geometry) (f : Fits g) where
@@ -48,76 +69,91 @@ module _ (g : Geometry) (f : Fits g) where
   pub bitPlace-byte-lt : (slot : ℕ) → bitPlace g slot / 8 < g .blockSize
   bitPlace-byte-lt slot = omega (arith, bitPlace-lt slot)
 
-  -- two slots whose bits share a block have different places there
-  pub bitPlace-apart : (slot other : ℕ) → other ≢ slot → bitAddress g other ≡ bitAddress g slot →
-      bitPlace g other ≢ bitPlace g slot
-  bitPlace-apart slot other ne e p =
-      let a = div-add-mod' (areaPlace g slot) (8 * g .blockSize) in
-      let b = div-add-mod' (areaPlace g other) (8 * g .blockSize) in
-      let q : areaPlace g other / (8 * g .blockSize) ≡ areaPlace g slot / (8 * g .blockSize) = omega arith in
-      let same : areaPlace g other ≡ areaPlace g slot =
-      sym b ∙ ap (λ (n : ℕ). n * (8 * g .blockSize) + bitPlace g other) q
-      ∙ ap (λ (n : ℕ). areaPlace g slot / (8 * g .blockSize) * (8 * g .blockSize) + n) p ∙ a in
-      let positive : 0 < g .height + 1 = omega arith in
-      ne (sym (mul-div-cancel other positive) ∙ ap (λ (n : ℕ). n / (g .height + 1)) same
-      ∙ mul-div-cancel slot positive)
+  pub blockOfBit-lt :
+      (place : ℕ) → place < bitmapBlocks g * (8 * g .blockSize) → blockOfBit g place < rootAddress g
+  blockOfBit-lt place h =
+      let p : 0 < 8 * g .blockSize = omega (arith, f .size-low) in
+      omega (arith, div-lt-iff-lt-mul p .1 h)
+
+  pub areaPlace-lt : (slot : ℕ) → slot < g .slots → areaPlace g slot < bitmapBlocks g * (8 * g .blockSize)
+  areaPlace-lt slot h =
+      let p : 0 < 8 * g .blockSize = omega (arith, f .size-low) in
+      omega (
+        arith,
+        slot-place-lt g slot 0 h (omega arith),
+        ceilDiv-covers (areaBlocks g) (8 * g .blockSize) p,
+      )
+
+pub areaPlace-apart : (g : Geometry) (slot other : ℕ) → other ≢ slot → areaPlace g other ≢ areaPlace g slot
+areaPlace-apart g slot other ne e =
+    let p : 0 < g .height + 1 = omega arith in
+    ne (sym (mul-div-cancel other p) ∙ ap (λ (n : ℕ). n / (g .height + 1)) e ∙ mul-div-cancel slot p)
 
 -- ---- a bit set or cleared on the disk ----
 
 module _ (g : Geometry) (f : Fits g) (disk : Bytes) (whole : length disk ≡ blockCount g * g .blockSize)
     (slot : ℕ) (inside : slot < g .slots) where
-  address-inside : bitAddress g slot < blockCount g
-  address-inside = omega (arith, bitAddress-lt g f slot inside)
+  bitAddress-inside : bitAddress g slot < blockCount g
+  bitAddress-inside = omega (arith, bitAddress-lt g f slot inside)
 
   pub length-bitmapWith : (isSet : Bool) → length (bitmapWith g disk slot isSet) ≡ g .blockSize
   unfolding bitmapWith
   length-bitmapWith isSet =
       length-setBit (bitPlace g slot) isSet (blockAt (g .blockSize) disk (bitAddress g slot))
-      ∙ length-blockAt (g .blockSize) disk (blockCount g) whole (bitAddress g slot) address-inside
+      ∙ length-blockAt (g .blockSize) disk (blockCount g) whole (bitAddress g slot) bitAddress-inside
 
   -- the disk with the slot's bit as asked
   abbrev pub marked : (isSet : Bool) → Bytes
   marked isSet = setBlock (g .blockSize) disk (bitAddress g slot) (bitmapWith g disk slot isSet)
 
-  block-marked : (isSet : Bool) → blockAt (g .blockSize) (marked isSet) (bitAddress g slot) ≡
+  blockAt-marked : (isSet : Bool) → blockAt (g .blockSize) (marked isSet) (bitAddress g slot) ≡
       bitmapWith g disk slot isSet
-  block-marked isSet =
-      blockAt-setBlock-same (g .blockSize) disk (blockCount g) whole (bitAddress g slot) address-inside
+  blockAt-marked isSet =
+      blockAt-setBlock-same (g .blockSize) disk (blockCount g) whole (bitAddress g slot) bitAddress-inside
       (bitmapWith g disk slot isSet) (length-bitmapWith isSet)
 
-  byte-inside : bitPlace g slot / 8 < length (blockAt (g .blockSize) disk (bitAddress g slot))
-  byte-inside =
-      rw (length-blockAt (g .blockSize) disk (blockCount g) whole (bitAddress g slot) address-inside)
+  bitPlace-inside : bitPlace g slot / 8 < length (blockAt (g .blockSize) disk (bitAddress g slot))
+  bitPlace-inside =
+      rw (length-blockAt (g .blockSize) disk (blockCount g) whole (bitAddress g slot) bitAddress-inside)
       (bitPlace-byte-lt g f slot)
 
-  pub isAllocated-marked-same : (isSet : Bool) → isAllocated g (marked isSet) slot ≡ isSet
-  unfolding isAllocated bitmapWith
-  isAllocated-marked-same isSet =
-      ap (bitAt (bitPlace g slot)) (block-marked isSet)
-      ∙ bitAt-setBit-same (bitPlace g slot) isSet (blockAt (g .blockSize) disk
-      (bitAddress g slot)) byte-inside
+  pub bitmapBit-marked-same : (isSet : Bool) → bitmapBit g (marked isSet) (areaPlace g slot) ≡ isSet
+  unfolding bitmapBit bitmapWith
+  bitmapBit-marked-same isSet =
+      ap (bitAt (bitPlace g slot)) (blockAt-marked isSet)
+      ∙ bitAt-setBit-same (bitPlace g slot) isSet (blockAt (g .blockSize) disk (bitAddress g slot))
+      bitPlace-inside
 
-  pub isAllocated-marked-other : (isSet : Bool) (other : ℕ) → other ≢ slot →
-      isAllocated g (marked isSet) other ≡ isAllocated g disk other
-  unfolding isAllocated bitmapWith
-  isAllocated-marked-other isSet other ne =
-      ⊎-elim same-block other-block (eq-cases (bitAddress g other) (bitAddress g slot))
+  pub bitmapBit-marked-other :
+      (isSet : Bool) (place : ℕ) → place ≢ areaPlace g slot →
+      bitmapBit g (marked isSet) place ≡ bitmapBit g disk place
+  unfolding bitmapBit bitmapWith
+  bitmapBit-marked-other isSet place ne =
+      ⊎-elim same-block other-block (eq-cases (blockOfBit g place) (bitAddress g slot))
     where
-      same-block : bitAddress g other ≡ bitAddress g slot →
-          bitAt (bitPlace g other) (blockAt (g .blockSize) (marked isSet) (bitAddress g other)) ≡
-          bitAt (bitPlace g other) (blockAt (g .blockSize) disk (bitAddress g other))
-      same-block e =
-          ap (λ (n : ℕ). bitAt (bitPlace g other) (blockAt (g .blockSize) (marked isSet) n)) e
-          ∙ ap (bitAt (bitPlace g other)) (block-marked isSet)
-          ∙ bitAt-setBit-other (bitPlace g slot) (bitPlace g other) isSet
-          (blockAt (g .blockSize) disk (bitAddress g slot))
-          byte-inside (bitPlace-apart g f slot other ne e)
-          ∙ ap (λ (n : ℕ). bitAt (bitPlace g other) (blockAt (g .blockSize) disk n)) (sym e)
+      at : ℕ
+      at = place % (8 * g .blockSize)
 
-      other-block : bitAddress g other ≢ bitAddress g slot →
-          bitAt (bitPlace g other) (blockAt (g .blockSize) (marked isSet) (bitAddress g other)) ≡
-          bitAt (bitPlace g other) (blockAt (g .blockSize) disk (bitAddress g other))
+      apart : blockOfBit g place ≡ bitAddress g slot → at ≢ bitPlace g slot
+      apart e r =
+          let q : place / (8 * g .blockSize) ≡ areaPlace g slot / (8 * g .blockSize) = omega arith in
+          ne (sym (div-add-mod' place (8 * g .blockSize)) ∙ ap₂ (λ (n m : ℕ). n * (8 * g .blockSize) + m) q r
+          ∙ div-add-mod' (areaPlace g slot) (8 * g .blockSize))
+
+      same-block : blockOfBit g place ≡ bitAddress g slot →
+          bitAt at (blockAt (g .blockSize) (marked isSet) (blockOfBit g place)) ≡
+          bitAt at (blockAt (g .blockSize) disk (blockOfBit g place))
+      same-block e =
+          ap (λ (n : ℕ). bitAt at (blockAt (g .blockSize) (marked isSet) n)) e
+          ∙ ap (bitAt at) (blockAt-marked isSet)
+          ∙ bitAt-setBit-other (bitPlace g slot) at isSet (blockAt (g .blockSize) disk (bitAddress g slot))
+          bitPlace-inside (apart e)
+          ∙ ap (λ (n : ℕ). bitAt at (blockAt (g .blockSize) disk n)) (sym e)
+
+      other-block : blockOfBit g place ≢ bitAddress g slot →
+          bitAt at (blockAt (g .blockSize) (marked isSet) (blockOfBit g place)) ≡
+          bitAt at (blockAt (g .blockSize) disk (blockOfBit g place))
       other-block e =
-          ap (bitAt (bitPlace g other))
-          (blockAt-setBlock-other (g .blockSize) disk (blockCount g) whole (bitAddress g slot) address-inside
-          (bitmapWith g disk slot isSet) (length-bitmapWith isSet) (bitAddress g other) e)
+          ap (bitAt at)
+          (blockAt-setBlock-other (g .blockSize) disk (blockCount g) whole (bitAddress g slot)
+          bitAddress-inside (bitmapWith g disk slot isSet) (length-bitmapWith isSet) (blockOfBit g place) e)

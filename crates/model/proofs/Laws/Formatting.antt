@@ -26,9 +26,9 @@ use Rattle.model.specs.Calls.{headerBlock, freshFront, formatted}
 use Rattle.model.specs.Invariants.{bitmapBit}
 use Rattle.model.proofs.Laws.Geometry.{mapAddress-lt}
 use Rattle.model.proofs.Laws.Entries.{length-packed, entryAt-replicate}
+use Rattle.model.proofs.Laws.Bitmap.{areaPlace-lt, isAllocated-bit}
 use Rattle.model.proofs.Laws.PublicMap.{mapEntry-is}
 use Rattle.model.proofs.Laws.Refusals.{Sized, sized-of-refusal, refusal-of-accepted}
-use Rattle.model.proofs.Laws.BitmapBits.{isAllocated-bit, areaPlace-lt}
 
 -- ---- zeros ----
 

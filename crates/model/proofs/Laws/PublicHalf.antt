@@ -20,10 +20,9 @@ use Rattle.model.proofs.Laws.Geometry.{bitAddress-lt}
 use Rattle.model.proofs.Laws.Blocks.{length-setBlock}
 use Rattle.model.proofs.Laws.Slots.{SlotBlock}
 use Rattle.model.proofs.Laws.Places.{OldPlace, entry-not-zero}
-use Rattle.model.proofs.Laws.Bitmap.{length-bitmapWith, marked}
+use Rattle.model.proofs.Laws.Bitmap.{length-bitmapWith, marked, areaPlace-apart}
+use Rattle.model.proofs.Laws.Bitmap.{bitmapBit-marked-other, bitmapBit-marked-same}
 use Rattle.model.proofs.Laws.Stores.{All, Stored}
-use Rattle.model.proofs.Laws.BitmapBits.{areaPlace-apart, bitmapBit-marked-same}
-use Rattle.model.proofs.Laws.BitmapBits.{bitmapBit-marked-other}
 
 pub all-map :
     {A : Type 0} (P Q : A → Type 0) (xs : List A) → ((x : A) → P x → Q x) → All P xs → All Q xs

@@ -16,12 +16,12 @@ use Rattle.model.specs.Rounds.{publicStore, mapStores}
 use Rattle.model.specs.Invariants.{bitmapBit}
 use Rattle.model.proofs.Laws.Geometry.{mapAddress-lt, slot-block-lt}
 use Rattle.model.proofs.Laws.Places.{OldPlace}
+use Rattle.model.proofs.Laws.Bitmap.{areaPlace-apart, areaPlace-lt, bitmapBit-block, blockOfBit}
+use Rattle.model.proofs.Laws.Bitmap.{blockOfBit-lt, isAllocated-bit}
 use Rattle.model.proofs.Laws.PublicMap.{mapEntry-block, mapped, mapEntry-mapped-same}
 use Rattle.model.proofs.Laws.PublicMap.{mapEntry-mapped-other}
 use Rattle.model.proofs.Laws.Stores.{lastAt-nil}
 use Rattle.model.proofs.Laws.Paths.{Hides}
-use Rattle.model.proofs.Laws.BitmapBits.{blockOfBit, isAllocated-bit, bitmapBit-block, blockOfBit-lt}
-use Rattle.model.proofs.Laws.BitmapBits.{areaPlace-lt, areaPlace-apart}
 use Rattle.model.proofs.Laws.PublicHalf.{withBits, bitmapBit-withBits-new, bitmapBit-withBits-old}
 use Rattle.model.proofs.Laws.PublicHalf.{bitmapBit-withBits-other}
 use Rattle.model.proofs.Laws.MapStores.{InFront, lastAt-mapStores-map, lastAt-mapStores-bit}

@@ -1,12 +1,11 @@
--- Laws of blocks, over their width: lengths, read after write at the same and at another address, a block
--- written back, and disks that agree on every block. Assumes nothing.
+-- Laws of blocks, over their width: lengths, read after write at the same and at another address. Assumes
+-- nothing.
 use mathlib.Core.Path.{_≡_, refl, sym, ap, _∙_}
 use mathlib.Core.Logic.{_≢_, ⊎-elim}
-use Prim.Native.Nat.{ℕ, suc, _+_, _*_, _/_, _%_, _≤_, _<_}
-use native.Mathlib.Nat.{mul-le-mul-right, div-add-mod', mod-lt, div-lt-iff-lt-mul}
+use Prim.Native.Nat.{ℕ, suc, _+_, _*_, _≤_, _<_}
+use native.Mathlib.Nat.{mul-le-mul-right}
 use native.Mathlib.Omega.{arith}
 use lib.ListN.{length, getD}
-use lib.Seq.{ext-getD}
 use Rattle.laws.specs.Lists.{part, over}
 use Rattle.laws.proofs.Cases.{lt-cases}
 use Rattle.laws.proofs.Lists.{length-part, getD-part, length-over, part-over-same, part-over-before}
@@ -77,23 +76,3 @@ module _ (width : ℕ) (disk : Bytes) (count : ℕ) (whole : length disk ≡ cou
             let l : suc address ≤ other = omega arith in
             part-over-after block disk (address * width) over-inside (other * width) width
             (omega (arith, mul-le-mul-right width l))
-
--- ---- disks that agree ----
-
--- two disks of one length with equal blocks are equal
-pub disk-ext :
-    (width count : ℕ) (disk other : Bytes) → 0 < width → length disk ≡ count * width →
-    length other ≡ count * width →
-    ((address : DiskAddress) → address < count → blockAt width disk address ≡ blockAt width other address) →
-    disk ≡ other
-disk-ext width count disk other positive whole there same = ext-getD 0 disk other (whole ∙ sym there) at
-  where
-    at : (index : ℕ) → index < length disk → getD disk index 0 ≡ getD other index 0
-    at index h =
-        let e : index / width * width + index % width ≡ index = div-add-mod' index width in
-        let r : index % width < width = mod-lt index positive in
-        let q : index / width < count = div-lt-iff-lt-mul positive .1 (omega arith) in
-        ap (λ (n : ℕ). getD disk n 0) (sym e) ∙ sym (getD-blockAt width disk (index / width)
-        (index % width) r)
-        ∙ ap (λ (b : Bytes). getD b (index % width) 0) (same (index / width) q)
-        ∙ getD-blockAt width other (index / width) (index % width) r ∙ ap (λ (n : ℕ). getD other n 0) e

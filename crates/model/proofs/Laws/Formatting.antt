@@ -5,7 +5,7 @@ use mathlib.Core.Logic.{_≢_}
 use mathlib.Core.Bool.{false}
 use mathlib.Core.List.{[], _∷_}
 use Prim.Native.Nat.{ℕ, _+_, _*_, _-_, _/_, _%_, _^_, _≤_, _<_}
-use native.Mathlib.Nat.{mul-le-mul-right, zero-div, div-lt-iff-lt-mul}
+use native.Mathlib.Nat.{mul-le-mul-right, zero-div}
 use native.Mathlib.Omega.{arith}
 use lib.ListN.{length, take, drop, length-append, length-replicate}
 use lib.Seq.{ext-getD, drop-append-add}
@@ -17,8 +17,8 @@ use Rattle.laws.proofs.Cases.{cond-true, cond-false}
 use Rattle.laws.proofs.Lists.{length-part, part-part, getD-zeros, getD-part-zeros, length-over}
 use Rattle.laws.proofs.Lists.{part-over-same, part-over-after}
 use Rattle.laws.proofs.Numbers.{numberOf-littleEndian}
-use Rattle.model.specs.Geometry.{Geometry, Fits, fanout, mapBlocks, bitmapBlocks, rootAddress}
-use Rattle.model.specs.Geometry.{areaStart, blockCount, driveSize, isGeometry}
+use Rattle.model.specs.Geometry.{Geometry, Fits, fanout, bitmapBlocks, rootAddress, areaStart}
+use Rattle.model.specs.Geometry.{blockCount, driveSize, isGeometry}
 use Rattle.model.specs.Blocks.{Bytes, DiskAddress, blockAt, entryAt, packed, zeroBlock}
 use Rattle.model.specs.Layout.{geometryIn, headIn, areaPlace, isAllocated, mapAddress, mapEntry}
 use Rattle.model.specs.Refusals.{formatRefusal, driveRefusal}
@@ -26,7 +26,7 @@ use Rattle.model.specs.Calls.{headerBlock, freshFront, formatted}
 use Rattle.model.specs.Invariants.{bitmapBit}
 use Rattle.model.proofs.Laws.Geometry.{mapAddress-lt}
 use Rattle.model.proofs.Laws.Entries.{length-packed, entryAt-replicate}
-use Rattle.model.proofs.Laws.Bitmap.{areaPlace-lt, isAllocated-bit}
+use Rattle.model.proofs.Laws.Bitmap.{areaPlace-lt, isAllocated-bit, blockOfBit, blockOfBit-lt}
 use Rattle.model.proofs.Laws.PublicMap.{mapEntry-is}
 use Rattle.model.proofs.Laws.Refusals.{Sized, sized-of-refusal, refusal-of-accepted}
 
@@ -163,10 +163,9 @@ module _ (disk : Bytes) (g : Geometry) (good : formatRefusal disk g ≡ 0) where
       (place : ℕ) → place < bitmapBlocks g * (8 * g .blockSize) → bitmapBit g (formatted disk g) place ≡ false
   unfolding bitmapBit
   bitmapBit-formatted place h =
-      let positive : 0 < 8 * g .blockSize = omega (arith, fits-formatted) in
-      let l : place / (8 * g .blockSize) < bitmapBlocks g = div-lt-iff-lt-mul positive .1 h in
       ap (bitAt (place % (8 * g .blockSize)))
-      (blockAt-formatted-zeros (1 + mapBlocks g + place / (8 * g .blockSize)) (omega arith) (omega arith))
+      (blockAt-formatted-zeros (blockOfBit g place) (omega arith)
+      (omega (arith, blockOfBit-lt g fits-formatted place h)))
       ∙ bitAt-zeros (place % (8 * g .blockSize)) (g .blockSize)
 
   pub isAllocated-formatted : (slot : ℕ) → slot < g .slots → isAllocated g (formatted disk g) slot ≡ false

@@ -108,6 +108,9 @@ pub slot-block-lt : (g : Geometry) (slot place : ℕ) → slot < g .slots → pl
     slotStart g slot + place < blockCount g
 slot-block-lt g slot place h k = omega (arith, slot-place-lt g slot place h k)
 
+pub slotStart-lt : (g : Geometry) (slot : ℕ) → slot < g .slots → slotStart g slot < blockCount g
+slotStart-lt g slot h = omega (arith, slot-block-lt g slot 0 h (omega arith))
+
 pub rootAddress-lt : (g : Geometry) → rootAddress g < blockCount g
 rootAddress-lt g = omega arith
 

@@ -14,7 +14,7 @@ use Rattle.model.specs.Stores.{Trace}
 use Rattle.model.specs.Table.{keepPublic, writePublic}
 use Rattle.model.specs.Rounds.{publicStore, mapStores}
 use Rattle.model.specs.Invariants.{bitmapBit}
-use Rattle.model.proofs.Laws.Geometry.{mapAddress-lt, slot-block-lt}
+use Rattle.model.proofs.Laws.Geometry.{mapAddress-lt, slotStart-lt}
 use Rattle.model.proofs.Laws.Places.{OldPlace}
 use Rattle.model.proofs.Laws.Bitmap.{areaPlace-apart, areaPlace-lt, bitmapBit-block, blockOfBit}
 use Rattle.model.proofs.Laws.Bitmap.{blockOfBit-lt, isAllocated-bit}
@@ -111,7 +111,7 @@ module _ (g : Geometry) (f : Fits g) (disk : Bytes) (whole : length disk ≡ blo
   mapEntry-last-same =
       mapEntry-last number counted
       ∙ mapEntry-mapped-same g f disk whole number counted (slotStart g slot)
-      (omega (arith, slot-block-lt g slot 0 inside (omega arith), f .blocks-high))
+      (omega (arith, slotStart-lt g slot inside, f .blocks-high))
 
   pub mapEntry-last-other :
       (other : ℕ) → other < g .publics → other ≢ number → mapEntry g last other ≡ mapEntry g disk other

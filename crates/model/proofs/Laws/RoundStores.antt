@@ -14,7 +14,7 @@ use Rattle.model.specs.Stores.{Trace, apply, addresses}
 use Rattle.model.specs.Table.{PublicChoice, keepPublic, writePublic}
 use Rattle.model.specs.Rounds.{publicStore, headerStore, mapStores, roundTrace}
 use Rattle.model.specs.Simulator.{addressesFrom, slotAddresses, lastRound}
-use Rattle.model.proofs.Laws.Geometry.{slot-block-lt, rootAddress-lt}
+use Rattle.model.proofs.Laws.Geometry.{slot-block-lt, rootAddress-lt, slotStart-lt}
 use Rattle.model.proofs.Laws.Entries.{length-setEntry}
 use Rattle.model.proofs.Laws.Places.{OldPlace}
 use Rattle.model.proofs.Laws.Stores.{All, all-append, Stored, addresses-append, length-apply}
@@ -117,15 +117,12 @@ module _ (g : Geometry) (f : Fits g) (disk : Bytes) (whole : length disk ≡ blo
     (number : ℕ) (counted : number < g .publics) (slot : ℕ) (inside : slot < g .slots) (content : Bytes)
     (sized : length content ≡ g .blockSize) (old : OldPlace g (mapEntry g disk number)) (hidden : Trace)
     (hides : Hides g slot hidden) (choice : PublicChoice) where
-  start-lt : slotStart g slot < blockCount g
-  start-lt = omega (arith, slot-block-lt g slot 0 inside (omega arith))
-
   publicStore-stored : Stored (g .blockSize) (blockCount g) (publicStore choice g disk slot content)
   unfolding publicStore
-  publicStore-stored = (rw (publicStore-address choice g disk slot content) start-lt, by choice)
+  publicStore-stored = (rw (publicStore-address choice g disk slot content) (slotStart-lt g slot inside), by choice)
     where
       by : (choice : PublicChoice) → length (publicStore choice g disk slot content .content) ≡ g .blockSize
-      by keepPublic = blockAt-whole g f disk whole (slotStart g slot) start-lt
+      by keepPublic = blockAt-whole g f disk whole (slotStart g slot) (slotStart-lt g slot inside)
       by writePublic = sized
 
   headerStore-stored : Stored (g .blockSize) (blockCount g) (headerStore g disk slot)

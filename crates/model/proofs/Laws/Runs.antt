@@ -5,8 +5,7 @@ use mathlib.Core.Path.{_≡_, refl, sym, ap, ap₂, _∙_, subst}
 use mathlib.Core.Logic.{_≢_, ⊎-elim}
 use mathlib.Core.Bool.{true, false}
 use mathlib.Core.List.{List, [], _∷_, _++_, append-assoc, append-nil}
-use Prim.Native.Nat.{ℕ, zero, suc, _+_, _*_, _-_, _%_, _<_}
-use native.Mathlib.Nat.{add-zero, mod-add-mod, mod-eq-of-lt}
+use Prim.Native.Nat.{ℕ, zero, suc, _*_, _-_, _<_}
 use native.Mathlib.Omega.{arith}
 use lib.ListN.{drop, length}
 use lib.Seq.{append-snoc}
@@ -20,6 +19,7 @@ use Rattle.model.specs.HiddenHalf.{HiddenState, HiddenHalf, hiddenHalf}
 use Rattle.model.specs.Rounds.{Run, stopped, followedBy, roundTrace, runFrom}
 use Rattle.model.specs.Refusals.{roundsTo, storeCount}
 use Rattle.model.specs.Simulator.{slotAddresses, keptRounds, lastRound}
+use Rattle.model.proofs.Laws.Slots.{slotAfter, slotAfter-next, slotAfter-zero}
 use Rattle.model.proofs.Laws.Places.{Placed, old-of-placed}
 use Rattle.model.proofs.Laws.Stores.{All, all-append, Stored, apply-append, addresses-append}
 use Rattle.model.proofs.Laws.Stores.{length-addresses}
@@ -29,10 +29,6 @@ use Rattle.model.proofs.Laws.Wrote.{Wrote, last-wrote, entry-kept, kept
 use Rattle.model.proofs.Laws.RoundCounts.{roundsTo-zero, roundsTo-free, length-rounds}
 use Rattle.model.proofs.Laws.Ready.{Ready, ready-hides, ready-kept, rounds-kept, runFrom-kept}
 use Rattle.model.proofs.Laws.Ready.{runFrom-last}
-
--- the slot of the round after so many earlier ones from a slot on
-abbrev pub slotAfter : Geometry → (slot earlier : ℕ) → ℕ
-slotAfter g slot earlier = (slot + earlier) % g .slots
 
 -- a run of so many kept rounds and a last one
 pub record Ran (g : Geometry) (number : ℕ) (content : Bytes) (slot earlier : ℕ) (disk : Bytes)
@@ -69,8 +65,7 @@ module _ (g : Geometry) (f : Fits g) (number : ℕ) (inside : number < g .public
         (followedBy (roundTrace writePublic g disk number slot content hidden) (stopped state))
     unfolding keptRounds
     last-ran free state =
-        let e : slotAfter g slot 0 ≡ slot =
-        ap (λ (n : ℕ). n % g .slots) (add-zero slot) ∙ mod-eq-of-lt here in
+        let e = slotAfter-zero g slot here in
         let round = roundTrace writePublic g disk number slot content hidden in
         record {
           counted = refl;
@@ -94,8 +89,7 @@ module _ (g : Geometry) (f : Fits g) (number : ℕ) (inside : number < g .public
     kept-ran earlier run ran =
         let kept = afterRound keepPublic g disk number slot content hidden in
         let round = roundTrace keepPublic g disk number slot content hidden in
-        let same : slotAfter g (nextSlot g slot) earlier ≡ slotAfter g slot (suc earlier) =
-        mod-add-mod (slot + 1) (g .slots) earlier ∙ ap (λ (n : ℕ). n % g .slots) (omega arith) in
+        let same = slotAfter-next g slot earlier in
         let entry = entry-kept g f disk whole number inside slot here content sized placed hidden hides in
         record {
           counted = ap suc (ran .counted);
@@ -183,11 +177,3 @@ module _ (g : Geometry) (number : ℕ) (content : Bytes) (slot rounds : ℕ) (so
       sym (length-addresses (run .trace)) ∙ ap length (ran .listed)
       ∙ length-rounds (rounds - 1) g number (mapEntry g disk number) slot (slotAfter g slot (rounds - 1))
       ∙ ap (λ (n : ℕ). storeCount g n (mapEntry g disk number)) e
-
--- the slot of the last of so many rounds
-pub slotAfter-rounds :
-    (g : Geometry) (slot rounds : ℕ) → rounds ≢ 0 →
-    slotAfter g slot (rounds - 1) ≡ (slot + rounds - 1) % g .slots
-slotAfter-rounds g slot rounds some =
-    let e : slot + (rounds - 1) ≡ slot + rounds - 1 = omega arith in
-    ap (λ (n : ℕ). n % g .slots) e

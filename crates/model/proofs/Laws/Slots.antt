@@ -1,10 +1,10 @@
--- Laws of slots: the slot and the place of each of a slot's blocks, which addresses are slot blocks, the next
--- slot, and slots apart. Assumes nothing.
+-- Laws of slots: the slot and the place of each of a slot's blocks, blocks apart, which addresses are slot
+-- blocks, levels, and the slots after a slot. Assumes nothing.
 use mathlib.Core.Path.{_≡_, sym, ap, _∙_}
 use mathlib.Core.Logic.{_≢_}
 use mathlib.Core.Bool.{true, false, _&&_}
 use Prim.Native.Nat.{ℕ, zero, suc, _+_, _*_, _-_, _/_, _%_, _≤_, _<_}
-use native.Mathlib.Nat.{mod-lt, div-add-mod', div-lt-iff-lt-mul}
+use native.Mathlib.Nat.{mod-lt, div-add-mod', div-lt-iff-lt-mul, add-zero, mod-add-mod, mod-eq-of-lt}
 use native.Mathlib.Omega.{arith}
 use lib.Arith.{digits-mod, digits-div}
 use lib.Dec.{leb, ltb, eqb}
@@ -148,3 +148,31 @@ slotOf-levelAddress g slot level k = slotOf-slot-block g slot (levelPlace g leve
 
 pub nextSlot-lt : (g : Geometry) (slot : ℕ) → Fits g → nextSlot g slot < g .slots
 nextSlot-lt g slot f = let h : 0 < g .slots = omega arith in mod-lt (slot + 1) h
+
+-- ---- so many slots on ----
+
+-- the slot so many after a slot, in a circle
+abbrev pub slotAfter : Geometry → (slot earlier : ℕ) → ℕ
+slotAfter g slot earlier = (slot + earlier) % g .slots
+
+pub slotAfter-zero : (g : Geometry) (slot : ℕ) → slot < g .slots → slotAfter g slot 0 ≡ slot
+slotAfter-zero g slot h = rw add-zero (mod-eq-of-lt h)
+
+pub slotAfter-next :
+    (g : Geometry) (slot earlier : ℕ) → slotAfter g (nextSlot g slot) earlier ≡ slotAfter g slot (suc earlier)
+slotAfter-next g slot earlier =
+    let e : slot + 1 + earlier ≡ slot + suc earlier = omega arith in
+    mod-add-mod (slot + 1) (g .slots) earlier ∙ ap (λ (n : ℕ). n % g .slots) e
+
+pub nextSlot-slotAfter :
+    (g : Geometry) (slot earlier : ℕ) → nextSlot g (slotAfter g slot earlier) ≡ slotAfter g slot (suc earlier)
+nextSlot-slotAfter g slot earlier =
+    let e : slot + earlier + 1 ≡ slot + suc earlier = omega arith in
+    mod-add-mod (slot + earlier) (g .slots) 1 ∙ ap (λ (n : ℕ). n % g .slots) e
+
+-- the slot of a round, counted from 1
+pub slotAfter-round :
+    (g : Geometry) (slot earlier : ℕ) → (slot + suc earlier - 1) % g .slots ≡ slotAfter g slot earlier
+slotAfter-round g slot earlier =
+    let e : slot + suc earlier - 1 ≡ slot + earlier = omega arith in
+    ap (λ (n : ℕ). n % g .slots) e

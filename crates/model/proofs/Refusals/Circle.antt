@@ -1,33 +1,24 @@
--- The slots in a circle, counted from one on: the slot so many on, how many on a slot is, and what `roundsTo`
--- finds there: 0 where all are taken, else the first free one. Assumes nothing.
+-- The slots in a circle, counted from one on: how many on a slot is, and what `roundsTo` finds there: 0 where
+-- all are taken, else the first free one. Assumes nothing.
 use mathlib.Core.Path.{_≡_, sym, ap, _∙_}
 use mathlib.Core.Logic.{_⊎_, inl, inr}
 use mathlib.Core.Bool.{Bool, true, false, cond}
 use Prim.Native.Nat.{ℕ, zero, suc, _+_, _-_, _%_, _≤_, _<_}
-use native.Mathlib.Nat.{mod-lt, mod-eq-of-lt, mod-add-mod, add-mod-mod, add-mod-right, add-zero}
+use native.Mathlib.Nat.{mod-lt, mod-eq-of-lt, mod-add-mod, add-mod-mod, add-mod-right}
 use native.Mathlib.Omega.{arith}
 use Rattle.laws.proofs.Cases.{bool-cases, cond-cases}
 use Rattle.model.specs.Geometry.{Geometry}
 use Rattle.model.specs.Layout.{nextSlot}
 use Rattle.model.specs.Refusals.{oneMore, roundsTo}
-use Rattle.model.proofs.Laws.Runs.{slotAfter}
+use Rattle.model.proofs.Laws.Slots.{slotAfter, slotAfter-next, slotAfter-zero}
 
--- ---- so many slots on ----
+-- ---- how many slots on ----
 
 -- how many slots on another slot is
 abbrev pub indexFrom : Geometry → (slot other : ℕ) → ℕ
 indexFrom g slot other = (other + (g .slots - slot)) % g .slots
 
-pub slotAfter-next :
-    (g : Geometry) (slot index : ℕ) → slotAfter g (nextSlot g slot) index ≡ slotAfter g slot (suc index)
-slotAfter-next g slot index =
-    let e : slot + 1 + index ≡ slot + suc index = omega arith in
-    mod-add-mod (slot + 1) (g .slots) index ∙ ap (λ (n : ℕ). n % g .slots) e
-
 module _ (g : Geometry) (slot : ℕ) (inside : slot < g .slots) where
-  pub slotAfter-zero : slotAfter g slot 0 ≡ slot
-  slotAfter-zero = rw add-zero (mod-eq-of-lt inside)
-
   pub slotAfter-indexFrom : (other : ℕ) → other < g .slots → slotAfter g slot (indexFrom g slot other) ≡ other
   slotAfter-indexFrom other h =
       let e : slot + (other + (g .slots - slot)) ≡ other + g .slots = omega arith in

@@ -1,19 +1,17 @@
 -- Where each set bit is that of a public number's place, a free slot is among the first P + 1 from the head
 -- on: the numbers' places are at most P slots. Assumes nothing.
-use mathlib.Core.Path.{_≡_, ap, _∙_}
+use mathlib.Core.Path.{_≡_, ap, _∙_, sym}
 use mathlib.Core.Bool.{true}
-use Prim.Native.Nat.{ℕ, _+_, _*_, _≤_, _<_}
+use Prim.Native.Nat.{ℕ, _+_, _≤_, _<_}
 use native.Mathlib.Nat.{mod-lt}
 use native.Mathlib.Omega.{arith}
-use Rattle.laws.proofs.Division.{ceilDiv-covers}
-use Rattle.model.specs.Geometry.{Geometry, Fits, areaBlocks, bitmapBlocks}
+use Rattle.model.specs.Geometry.{Geometry, Fits}
 use Rattle.model.specs.Blocks.{Bytes}
 use Rattle.model.specs.Layout.{headIn, slotOf, areaPlace, isAllocated, mapEntry}
 use Rattle.model.specs.Refusals.{roundCount}
-use Rattle.model.specs.Invariants.{bitmapBit, BitmapInvariant}
-use Rattle.model.proofs.Laws.Geometry.{slot-place-lt}
-use Rattle.model.proofs.Laws.Slots.{slotOf-slotStart}
-use Rattle.model.proofs.Laws.Runs.{slotAfter}
+use Rattle.model.specs.Invariants.{BitmapInvariant}
+use Rattle.model.proofs.Laws.Slots.{slotOf-slotStart, slotAfter}
+use Rattle.model.proofs.Laws.Bitmap.{areaPlace-lt, isAllocated-bit}
 use Rattle.model.proofs.Refusals.Circle.{indexFrom, indexFrom-slotAfter, noneFree, firstFree}
 use Rattle.model.proofs.Refusals.Rounds.{HeadFinds, head-finds}
 use Rattle.model.proofs.Refusals.Pigeonhole.{Reached, reached-le}
@@ -27,17 +25,10 @@ module _ (g : Geometry) (f : Fits g) (disk : Bytes) (v : BitmapInvariant g disk)
   reached-of-allocated :
       (index : ℕ) → headIn disk < g .slots → index < g .slots →
       isAllocated g disk (slotAfter g (headIn disk) index) ≡ true → Reached placeIndex (g .publics) index
-  unfolding isAllocated bitmapBit
   reached-of-allocated index inside h e =
       let slot = slotAfter g (headIn disk) index in
       let l : slot < g .slots = mod-lt (headIn disk + index) (omega arith) in
-      let place : areaPlace g slot < bitmapBlocks g * (8 * g .blockSize) =
-      omega (
-        arith,
-        slot-place-lt g slot 0 l (omega arith),
-        ceilDiv-covers (areaBlocks g) (8 * g .blockSize) (omega (arith, f .size-low)),
-      ) in
-      let found = v .mapped (areaPlace g slot) place e in
+      let found = v .mapped (areaPlace g slot) (areaPlace-lt g f slot l) (sym (isAllocated-bit g disk slot) ∙ e) in
       record {
         at = found .0;
         below = found .1;

@@ -14,7 +14,7 @@ use Rattle.model.specs.Blocks.{Bytes, DiskAddress}
 use Rattle.model.specs.Layout.{headIn, isAllocated, mapEntry}
 use Rattle.model.specs.Refusals.{roundCount, storeCount, roundChecks}
 use Rattle.model.specs.Conditions.{TakesRounds, storesOf, roundConditions}
-use Rattle.model.proofs.Laws.Runs.{slotAfter}
+use Rattle.model.proofs.Laws.Slots.{slotAfter, slotAfter-round}
 use Rattle.model.proofs.Refusals.Answers.{Decides, decides-lt, decides-same, Judges}
 use Rattle.model.proofs.Refusals.Circle.{indexFrom, slotAfter-indexFrom, indexFrom-lt, RoundsTo}
 use Rattle.model.proofs.Refusals.Circle.{noneFree, firstFree, roundsTo-is}
@@ -38,25 +38,19 @@ module _ (g : Geometry) (disk : Bytes) where
   takes-same : (rounds other : ℕ) → TakesRounds g disk rounds → TakesRounds g disk other → rounds ≡ other
   takes-same rounds other t o = le-antisymm (takes-le rounds other t o) (takes-le other rounds o t)
 
-  -- the slot of a round, counted from 0
-  round-slot : (index : ℕ) → (headIn disk + suc index - 1) % g .slots ≡ slotAfter g (headIn disk) index
-  round-slot index =
-      let e : headIn disk + suc index - 1 ≡ headIn disk + index = omega arith in
-      ap (λ (n : ℕ). n % g .slots) e
-
   takes-of : {rounds : ℕ} → HeadFinds g disk rounds → rounds ≢ 0 → TakesRounds g disk rounds
   takes-of (noneFree f) ne = absurd (ne refl)
   takes-of (firstFree {index = index} l e f) ne =
       record {
         at-least-one = omega arith;
-        last-free = ap (isAllocated g disk) (round-slot index) ∙ e;
+        last-free = ap (isAllocated g disk) (slotAfter-round g (headIn disk) index) ∙ e;
         others-allocated = others;
       }
     where
       others : (round : ℕ) → 1 ≤ round → round < suc index →
           isAllocated g disk ((headIn disk + round - 1) % g .slots) ≡ true
       others zero h k = absurd (omega arith)
-      others (suc before) h k = ap (isAllocated g disk) (round-slot before) ∙ f before (omega arith)
+      others (suc before) h k = ap (isAllocated g disk) (slotAfter-round g (headIn disk) before) ∙ f before (omega arith)
 
   all-of :
       {rounds : ℕ} → HeadFinds g disk rounds → rounds ≡ 0 → (index : ℕ) → index < g .slots →

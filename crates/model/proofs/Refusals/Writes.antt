@@ -13,8 +13,9 @@ use Rattle.model.specs.HiddenHalf.{HiddenWrite}
 use Rattle.model.specs.Refusals.{roundCount, writeRefusal}
 use Rattle.model.specs.Calls.{writeRun, Written, written}
 use Rattle.model.specs.Simulator.{keptRounds, lastRound}
+use Rattle.model.proofs.Laws.Slots.{slotAfter}
 use Rattle.model.proofs.Laws.Accepted.{AcceptedWrite, accepted-of-write}
-use Rattle.model.proofs.Laws.Runs.{slotAfter, Ran, rounds-ran, length-ran}
+use Rattle.model.proofs.Laws.Runs.{Ran, rounds-ran, length-ran}
 use Rattle.model.proofs.Laws.WriteRuns.{writeRun-ran}
 use Rattle.model.proofs.Laws.Calls.{doneWith, written-cases}
 

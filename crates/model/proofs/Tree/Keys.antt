@@ -75,10 +75,6 @@ module _ (g : Geometry) (f : Fits g) where
   entriesIn-positive zero = omega (arith, fanout-low g f)
   entriesIn-positive (suc level) = omega (arith, fanout-low g f)
 
-  pub entriesIn-le : (level : ℕ) → entriesIn g level ≤ fanout g
-  entriesIn-le zero = omega arith
-  entriesIn-le (suc level) = omega arith
-
   pub branchAt-lt : (number level : ℕ) → branchAt g number level < entriesIn g level
   branchAt-lt number level =
       rw (branchAt-keyOf g number level)

@@ -13,12 +13,13 @@ use Rattle.model.specs.Paths.{linkedNode}
 use Rattle.model.proofs.Laws.Geometry.{fanout-low, slot-block-lt}
 use Rattle.model.proofs.Laws.Entries.{length-setEntry, entryAt-setEntry-same, entryAt-setEntry-other}
 use Rattle.model.proofs.Laws.Slots.{levelPlace-le}
-use Rattle.model.proofs.Tree.Keys.{entriesIn-le, branchAt-lt}
+use Rattle.model.proofs.Laws.Paths.{branchAt-fits}
+use Rattle.model.proofs.Tree.Keys.{branchAt-lt}
 
 module _ (g : Geometry) (f : Fits g) (number slot : ℕ) (here : slot < g .slots) (node : Bytes)
     (sized : length node ≡ g .blockSize) where
   branch-fits : (level : ℕ) → 4 * branchAt g number level + 4 ≤ length node
-  branch-fits level = omega (arith, branchAt-lt g f number level, entriesIn-le g f level, f .size-entries)
+  branch-fits level = rw sized (branchAt-fits g f number level)
 
   address-lt : (level : ℕ) → level < g .height → levelAddress g slot level < 2 ^ 32
   address-lt level h = omega (arith, slot-block-lt g slot _ here (levelPlace-le g level h), f .blocks-high)

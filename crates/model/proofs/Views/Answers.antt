@@ -4,7 +4,6 @@ use mathlib.Core.Logic.{_≢_}
 use mathlib.Core.Bool.{Bool, true, false, not, cond, _&&_, _||_}
 use mathlib.Core.List.{List, [], _∷_, _++_, append-nil}
 use Prim.Native.Nat.{ℕ, zero, suc, _+_, _*_, _-_, _%_, _<_}
-use native.Mathlib.Nat.{mod-add-mod, mod-eq-of-lt}
 use native.Mathlib.Omega.{arith}
 use lib.Dec.{ltb, eqb}
 use lib.ListN.{length}
@@ -12,14 +11,14 @@ use borrow.Author.Tests.{leb-false, eqb-false}
 use Rattle.laws.specs.Checks.{Check, check, firstOf}
 use Rattle.model.specs.Geometry.{Geometry, Fits}
 use Rattle.model.specs.Blocks.{Bytes}
-use Rattle.model.specs.Layout.{geometryIn, headIn, slotOf, nextSlot, mapEntry, isAllocated, isPlace}
-use Rattle.model.specs.Layout.{isSlotBlock}
+use Rattle.model.specs.Layout.{geometryIn, headIn, slotOf, mapEntry, isAllocated, isPlace, isSlotBlock}
 use Rattle.model.specs.Refusals.{oneMore, roundsTo, roundCount, storeCount, driveRefusal, placeChecks}
 use Rattle.model.specs.Refusals.{roundChecks, publicReadRefusal, writeRefusal}
 use Rattle.model.specs.Simulator.{Simulator, CallLengths, entryFor, isTaken, leastFrom, simulatedRounds}
 use Rattle.model.specs.Simulator.{simulatedStores, simulatedPlaceChecks, simulatedRoundChecks}
 use Rattle.model.specs.Simulator.{simulatedAnswer}
-use Rattle.model.proofs.Laws.Slots.{slotBlock-of}
+use Rattle.model.proofs.Laws.Slots.{slotBlock-of, nextSlot-slotAfter, slotAfter, slotAfter-round}
+use Rattle.model.proofs.Laws.Slots.{slotAfter-zero}
 use Rattle.model.proofs.Laws.Refusals.{after-drive-pass, accepted-of-refusal}
 use Rattle.model.proofs.Laws.RoundCounts.{roundsTo-ext, length-rounds}
 use Rattle.model.proofs.Views.Tracking.{tracked, trackerOf, getD-entries, getD-allocated}
@@ -43,17 +42,13 @@ countedFrom-zero (suc rounds) = omega arith
 leastFrom-roundsTo :
     (g : Geometry) (isTaken : ℕ → Bool) (head most first : ℕ) →
     leastFrom most (λ round. not (isTaken ((head + round - 1) % g .slots))) (suc first) ≡
-    countedFrom first (roundsTo most isTaken g ((head + first) % g .slots))
+    countedFrom first (roundsTo most isTaken g (slotAfter g head first))
 unfolding leastFrom roundsTo
 leastFrom-roundsTo g isTaken head zero first = refl
 leastFrom-roundsTo g isTaken head (suc most) first =
-    let e : head + suc first - 1 ≡ head + first = omega arith in
-    let s : head + first + 1 ≡ head + suc first = omega arith in
-    let next : nextSlot g ((head + first) % g .slots) ≡ (head + suc first) % g .slots =
-    mod-add-mod (head + first) (g .slots) 1 ∙ ap (λ (n : ℕ). n % g .slots) s in
     let later = leastFrom-roundsTo g isTaken head most (suc first) in
-    rw (e, next)
-    (by (isTaken ((head + first) % g .slots)) (roundsTo most isTaken g ((head + suc first) % g .slots)) later)
+    rw (slotAfter-round g head first, nextSlot-slotAfter g head first)
+    (by (isTaken (slotAfter g head first)) (roundsTo most isTaken g (slotAfter g head (suc first))) later)
   where
     by : (b : Bool) (rounds : ℕ) {least : ℕ} → least ≡ countedFrom (suc first) rounds →
         cond (not b) (suc first) least ≡ countedFrom first (cond b (oneMore rounds) 1)
@@ -65,10 +60,9 @@ pub simulatedRounds-is :
     simulatedRounds (tracked g head disk) ≡ roundsTo (g .slots) (isAllocated g disk) g head
 simulatedRounds-is g f head disk h =
     let sim = tracked g head disk in
-    let e : head + 0 ≡ head = omega arith in
-    let at : (head + 0) % g .slots ≡ head = ap (λ (n : ℕ). n % g .slots) e ∙ mod-eq-of-lt h in
     leastFrom-roundsTo g (isTaken sim) head (g .slots) 0
-    ∙ ap (λ (slot : ℕ). countedFrom 0 (roundsTo (g .slots) (isTaken sim) g slot)) at
+    ∙ ap (λ (slot : ℕ). countedFrom 0 (roundsTo (g .slots) (isTaken sim) g slot))
+    (slotAfter-zero g head h)
     ∙ countedFrom-zero (roundsTo (g .slots) (isTaken sim) g head)
     ∙ roundsTo-ext (g .slots) (isTaken sim) (isAllocated g disk) g f head h (getD-allocated g disk)
 

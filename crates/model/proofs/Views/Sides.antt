@@ -19,6 +19,7 @@ use Rattle.model.specs.Rounds.{publicStore, mapStore, bitStore, bitStore
 use Rattle.model.specs.Rounds.{roundTrace}
 use Rattle.model.specs.View.{shownOf}
 use Rattle.model.proofs.Laws.Geometry.{mapAddress-lt, bitAddress-lt, slot-block-lt, rootAddress-lt}
+use Rattle.model.proofs.Laws.Geometry.{slotStart-lt}
 use Rattle.model.proofs.Laws.Entries.{length-setEntry, entryAt-header}
 use Rattle.model.proofs.Laws.Places.{OldPlace}
 use Rattle.model.proofs.Laws.Bitmap.{isAllocated-block, length-bitmapWith}
@@ -115,11 +116,11 @@ module _ (g : Geometry) (f : Fits g) (disk other : Bytes) (same : ShowSame g dis
       StoreSame g (publicStore choice g disk slot content) (publicStore choice g other slot content)
   unfolding publicStore
   publicStore-alike keepPublic slot content h sized =
-      let l : slotStart g slot < blockCount g = omega (arith, slot-block-lt g slot 0 h (omega arith)) in
+      let l = slotStart-lt g slot h in
       store-alike g (slotStart g slot) _ _ l (blockAt-whole g f disk (same .whole) (slotStart g slot) l)
       (blockAt-alike g disk other same (slotStart g slot) (isShown-slotStart g slot h))
   publicStore-alike writePublic slot content h sized =
-      let l : slotStart g slot < blockCount g = omega (arith, slot-block-lt g slot 0 h (omega arith)) in
+      let l = slotStart-lt g slot h in
       store-alike g (slotStart g slot) content content l sized refl
 
 -- ---- a round ----

@@ -14,10 +14,10 @@ use Rattle.model.specs.Layout.{geometryIn, headIn, slotStart, slotOf, ne
 use Rattle.model.specs.Refusals.{driveRefusal, roundCount}
 use Rattle.model.specs.Simulator.{entryFor, simulatedRounds, slotOfRound, keptRounds, lastRound}
 use Rattle.model.specs.Simulator.{simulatedStores, simulatedWrite}
+use Rattle.model.proofs.Laws.Slots.{slotAfter, slotAfter-round}
 use Rattle.model.proofs.Laws.Places.{Placed, old-of-placed}
 use Rattle.model.proofs.Laws.Refusals.{Accepted, accepted-of-refusal}
 use Rattle.model.proofs.Laws.Wrote.{Wrote, geometryIn-wrote}
-use Rattle.model.proofs.Laws.Runs.{slotAfter}
 use Rattle.model.proofs.Views.Tracking.{tracked, trackerOf, simulator-ext, getD-entries}
 use Rattle.model.proofs.Views.Answers.{simulatedRounds-is}
 use Rattle.model.proofs.Views.Updates.{entriesFrom-after, allocatedFrom-after}
@@ -43,8 +43,8 @@ module _ (disk : Bytes) (accepted : driveRefusal disk ≡ 0) (number : ℕ)
 
   slotOfRound-last : slotOfRound (trackerOf disk) (simulatedRounds (trackerOf disk)) ≡ last
   slotOfRound-last =
-      let e : headIn disk + suc earlier - 1 ≡ headIn disk + earlier = omega arith in
-      ap (λ (n : ℕ). (headIn disk + n - 1) % g .slots) simulatedRounds-suc ∙ ap (λ (n : ℕ). n % g .slots) e
+      ap (λ (n : ℕ). (headIn disk + n - 1) % g .slots) simulatedRounds-suc
+      ∙ slotAfter-round g (headIn disk) earlier
 
   pub simulatedStores-is :
       simulatedStores (trackerOf disk) number ≡

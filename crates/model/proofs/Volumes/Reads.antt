@@ -5,7 +5,6 @@ use mathlib.Core.Logic.{inl, inr, ⊎-elim}
 use mathlib.Core.Bool.{Bool, true, false, cond}
 use mathlib.Core.Option.{none, some}
 use Prim.Native.Nat.{ℕ, _<_}
-use native.Mathlib.Omega.{arith}
 use lib.Dec.{eqb}
 use lib.ListN.{length}
 use Rattle.laws.proofs.Cases.{eq-cases}
@@ -20,6 +19,7 @@ use Rattle.model.specs.Promises.ReadAfterWrite.{orElse}
 use Rattle.model.proofs.Laws.Accepted.{AcceptedNumber}
 use Rattle.model.proofs.Laws.Calls.{publicReadRefusal-of-accepted, hiddenReadRefusal-of-accepted}
 use Rattle.model.proofs.Laws.Calls.{entryShown, hiddenRead-done, publicRead-done}
+use Rattle.model.proofs.Tree.Keys.{lt-treeCapacity}
 use Rattle.model.proofs.Tree.Ghost.{Tree, Ghost, valueOf}
 use Rattle.model.proofs.Tree.Walks.{isDamaged-walk}
 use Rattle.model.proofs.Tree.Shown.{shownAt-walk}
@@ -58,7 +58,7 @@ module _ (g : Geometry) (disk : Bytes) (states : geometryIn disk ≡ g) (accepte
 
   module _ (f : Fits g) (tree : Tree) (ghost : Ghost g disk tree) (counted : number < g .hidden) where
     low : number < treeCapacity g
-    low = omega (arith, f .hidden-fits)
+    low = lt-treeCapacity g f number counted
 
     pub hidden-read-accepted : hiddenReadRefusal disk number blank ≡ 0
     hidden-read-accepted =

@@ -14,10 +14,10 @@ use Rattle.model.specs.Rounds.{Run}
 use Rattle.model.specs.Refusals.{roundCount, driveRefusal, writeRefusal}
 use Rattle.model.specs.Calls.{offerRefusal, offeredWrites, startState, writeRun, Written, refusedWrite}
 use Rattle.model.specs.Calls.{doneWrite, written, writtenDisk}
+use Rattle.model.proofs.Laws.Slots.{slotAfter}
 use Rattle.model.proofs.Laws.Refusals.{accepted-of-refusal}
 use Rattle.model.proofs.Laws.Accepted.{accepted-of-write, AcceptedNumber, driveRefusal-of-write}
 use Rattle.model.proofs.Laws.Wrote.{Wrote, driveRefusal-wrote, geometryIn-wrote}
-use Rattle.model.proofs.Laws.Runs.{slotAfter}
 use Rattle.model.proofs.Laws.WriteRuns.{writeRun-ran, ready-of-write}
 use Rattle.model.proofs.Laws.Calls.{written-cases}
 use Rattle.model.proofs.Tree.Ghost.{Tree, Ghost}

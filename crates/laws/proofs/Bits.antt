@@ -6,14 +6,16 @@ use mathlib.Core.Bool.{Bool, true, false}
 use mathlib.Core.List.{List}
 use Prim.Native.Nat.{ℕ, zero, suc, _+_, _-_, _/_, _%_, _^_, _≤_, _<_}
 use native.Mathlib.Numerals.{one-add}
+use native.Mathlib.Nat.{zero-div}
 use native.Mathlib.Omega.{arith}
+use lib.ListN.{replicate, length, getD, set, length-set}
 use lib.Dec.{eqb}
-use lib.ListN.{length, getD, set, length-set}
 use lib.Pow.{shr-shr}
 use lib.Seq.{getD-set-same, getD-set-other}
 use borrow.Author.Tests.{eq-eqb, ne-eqb, eqb-true, eqb-false}
 use Rattle.laws.specs.Bits.{bitOf, withBit, bitAt, setBit}
 use Rattle.laws.proofs.Cases.{bool-cases, eq-cases}
+use Rattle.laws.proofs.Lists.{getD-zeros}
 
 -- ---- the digit of a bit ----
 
@@ -176,3 +178,8 @@ bitAt-setBit-other place other isSet bytes h ne = by (eq-cases (other / 8) (plac
         ∙ bitOf-withBit-other (place % 8) (other % 8) isSet (getD bytes (place / 8) 0) apart
         ∙ ap (λ (n : ℕ). bitOf (other % 8) (getD bytes n 0)) (sym e)
     by (inr e) = ap (bitOf (other % 8)) (getD-set-other bytes (place / 8) (other / 8) byte 0 e)
+
+-- zeros have no bit
+pub bitAt-zeros : (place size : ℕ) → bitAt place (replicate size 0) ≡ false
+unfolding bitAt bitOf
+bitAt-zeros place size = rw (getD-zeros size (place / 8), zero-div (2 ^ (place % 8)))

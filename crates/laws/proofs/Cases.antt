@@ -1,8 +1,9 @@
--- Cases of a test, an order and an equation; conjunctions and disjunctions of tests; what a choice gives.
--- Assumes nothing.
+-- Cases of a test, an order and an equation; conjunctions and disjunctions of tests; what a choice gives;
+-- options. Assumes nothing.
 use mathlib.Core.Path.{_≡_, refl}
 use mathlib.Core.Logic.{_≢_, _⊎_, inl, inr}
 use mathlib.Core.Bool.{Bool, true, false, _&&_, _||_, cond}
+use mathlib.Core.Option.{none, some}
 use Prim.Native.Nat.{ℕ, _≤_, _<_}
 use native.Mathlib.Omega.{arith}
 use lib.Dec.{ltb, eqb}
@@ -51,6 +52,11 @@ pub and-false-right : (a : Bool) {b : Bool} → b ≡ false → (a && b) ≡ fal
 and-false-right true p = p
 and-false-right false p = refl
 
+-- the second test of a conjunction matters only where the first holds
+pub and-ext : (a : Bool) {b c : Bool} → (a ≡ true → b ≡ c) → (a && b) ≡ (a && c)
+and-ext true h = h refl
+and-ext false h = refl
+
 pub or-left : {a : Bool} (b : Bool) → a ≡ true → (a || b) ≡ true
 or-left b p = rw p
 
@@ -87,3 +93,11 @@ module _ {A : Type 0} where
       P (cond b x y)
   cond-cases P true p q = p refl
   cond-cases P false p q = q refl
+
+-- ---- options ----
+
+pub none-is-not-some : {A B : Type 0} (x : B) → none ≡ some x → A
+none-is-not-some x e = absurd (let z : _≡_ {A = ℕ} 0 1 = cc in omega arith)
+
+pub some-inj : {B : Type 0} (x y : B) → some x ≡ some y → x ≡ y
+some-inj x y e = cc

@@ -1,11 +1,12 @@
--- Laws of a chain of checks: pass one, stop at one, go through a joined chain, and what an answer of 0 says.
--- Assumes nothing.
-use mathlib.Core.Path.{_≡_, refl}
-use mathlib.Core.Logic.{_≢_}
+-- Laws of a chain of checks: pass one, stop at one, go through a joined chain, what an answer of 0 says,
+-- answers that are not given, and two chains with one answer. Assumes nothing.
+use mathlib.Core.Path.{_∙_, _≡_, refl, sym}
+use mathlib.Core.Logic.{_⊎_, _≢_, inl, inr}
 use mathlib.Core.Bool.{Bool, true, false, cond}
 use mathlib.Core.List.{List, [], _∷_, _++_}
 use Prim.Native.Nat.{ℕ}
 use Rattle.laws.specs.Checks.{Check, check, firstOf}
+use Rattle.laws.proofs.Cases.{bool-cases, true-is-not-false}
 
 -- ---- one check ----
 
@@ -81,3 +82,43 @@ passed-rest (c ∷ cs) ds h = passed-rest cs ds (h .1)
 pub passed-append : (cs ds : List Check) → Passed cs → Passed ds → Passed (cs ++ ds)
 passed-append [] ds h k = k
 passed-append (c ∷ cs) ds h k = (h .0, passed-append cs ds (h .1) k)
+
+-- ---- an answer that is not given ----
+
+-- no check with this number holds
+abbrev pub Never : (number : ℕ) → List Check → Type 0
+Never number [] = Unit {0}
+Never number (c ∷ cs) = (c .number ≡ number → c .holds ≡ false) × Never number cs
+
+pub never-append :
+    (number : ℕ) (cs es : List Check) → Never number cs → Never number es → Never number (cs ++ es)
+never-append number [] es h k = k
+never-append number (c ∷ cs) es h k = (h .0, never-append number cs es (h .1) k)
+
+pub firstOf-never : (number : ℕ) (cs : List Check) → number ≢ 0 → Never number cs → firstOf cs ≢ number
+firstOf-never number [] f h e = f (sym e ∙ firstOf-nil)
+firstOf-never number (c ∷ cs) f h e = by (bool-cases (c .holds)) (firstOf-never number cs f (h .1))
+  where
+    by : (c .holds ≡ true) ⊎ (c .holds ≡ false) → firstOf cs ≢ number → ⊥
+    by (inl p) later = true-is-not-false p (h .0 (sym (firstOf-stop (c .number) cs p) ∙ e))
+    by (inr p) later = later (sym (firstOf-pass (c .number) cs p) ∙ e)
+
+-- ---- two chains with one answer ----
+
+pub record SameAnswer (cs ds : List Check) : Type 0 where
+  pub same : firstOf cs ≡ firstOf ds
+
+pub sameAnswer-refl : {cs : List Check} → SameAnswer cs cs
+sameAnswer-refl = record { same = refl }
+
+-- equal tests in front; what comes after need be the same only where the test does not hold
+pub sameAnswer-check :
+    {holds other : Bool} {number : ℕ} {cs ds : List Check} → holds ≡ other →
+    (other ≡ false → SameAnswer cs ds) →
+    SameAnswer (check holds number ∷ cs) (check other number ∷ ds)
+unfolding firstOf
+sameAnswer-check {holds} {other} {number} {cs} {ds} e h = record { same = rw e (by other h) }
+  where
+    by : (b : Bool) → (b ≡ false → SameAnswer cs ds) → cond b number (firstOf cs) ≡ cond b number (firstOf ds)
+    by true h = refl
+    by false h = h refl .same

@@ -4,3 +4,7 @@ pub mod Lists
 pub mod Numbers
 pub mod Bits
 pub mod Division
+pub mod Members
+pub mod Joins
+pub mod Decides
+pub mod Pigeonhole

@@ -8,12 +8,12 @@ use Prim.Native.Nat.{ℕ, zero, suc, _+_, _-_, _≤_, _<_}
 use native.Mathlib.Nat.{suc-add, zero-add}
 use native.Mathlib.Numerals.{add-one}
 use native.Mathlib.Omega.{arith}
+use lib.Seq.{ext-getD, length-take-le, take-at, drop-at, take-append-le, drop-append-add, drop-drop}
+use lib.Seq.{take-take, take-nil, getD-take, getD-drop, drop-set-add, take-set-lt, drop-set-lt, take-set-le}
+use lib.Seq.{set-split, append-snoc, take-add}
+use lib.ListN.{length-replicate, length, getD, take, drop, set, replicate, length-append, length-take}
+use lib.ListN.{length-drop, take-append-drop, drop-of-length-le, List·getD-eq-default}
 use lib.Dec.{eqb}
-use lib.ListN.{length, getD, take, drop, set, replicate, length-append, length-take, length-drop}
-use lib.ListN.{take-append-drop, drop-of-length-le, List·getD-eq-default}
-use lib.Seq.{length-take-le, take-at, drop-at, take-append-le, drop-append-add, drop-drop, take-take}
-use lib.Seq.{take-nil, getD-take, getD-drop, drop-set-add, take-set-lt, drop-set-lt, take-set-le, set-split}
-use lib.Seq.{append-snoc, take-add}
 use borrow.Author.Tests.{eqb-true}
 use Rattle.laws.specs.Lists.{part, over}
 use Rattle.laws.proofs.Cases.{lt-cases, and-left, and-right, true-is-not-false}
@@ -180,6 +180,11 @@ module _ {A : Type 0} where
 
   -- ---- special cases ----
 
+  -- the front is what was put there
+  pub take-over : (new old : List A) → length new ≤ length old → take (length new) (over 0 new old) ≡ new
+  unfolding part
+  take-over new old h = part-over-same new old 0 (omega arith)
+
   pub over-nil : (from : ℕ) (old : List A) → from ≤ length old → over from [] old ≡ old
   unfolding over
   over-nil from old h =
@@ -214,6 +219,16 @@ getD-part-zeros from size index xs h = ⊎-elim inside outside (lt-cases index s
     outside : size ≤ index → getD (take size (drop from xs)) index 0 ≡ 0
     outside l =
         List·getD-eq-default (take size (drop from xs)) 0 (omega (arith, length-take size (drop from xs)))
+
+pub part-zeros :
+    (from size count : ℕ) → from + size ≤ count →
+    _≡_ {A = List ℕ} (part from size (replicate count 0)) (replicate size 0)
+part-zeros from size count h =
+    let zeros : List ℕ = replicate count 0 in
+    let l : length (part from size zeros) ≡ size =
+    length-part from size zeros (omega (arith, length-replicate {A = ℕ} count 0)) in
+    ext-getD 0 (part from size zeros) (replicate size 0) (l ∙ sym (length-replicate size 0))
+    (λ i k. getD-part-zeros from size i zeros (getD-zeros count) ∙ sym (getD-zeros size i))
 
 -- ---- equality by a test ----
 

@@ -7,6 +7,5 @@ pub mod Rounds
 pub mod Hidden
 pub mod Calls
 pub mod Writes
-pub mod Pigeonhole
 pub mod Mapped
 pub mod Bounds

@@ -13,6 +13,7 @@ use borrow.Author.Tests.{ltb-false, leb-false, eqb-true, eqb-false, not-false, l
 use Rattle.laws.specs.Checks.{Check, firstOf}
 use Rattle.laws.proofs.Cases.{cond-cases, cond-false, or-cases, or-left, or-right}
 use Rattle.laws.proofs.Checks.{Numbered, Passed, passed-front, passed-of-zero, passed-rest}
+use Rattle.laws.proofs.Members.{All}
 use Rattle.model.specs.Geometry.{Geometry}
 use Rattle.model.specs.Blocks.{Bytes}
 use Rattle.model.specs.Layout.{geometryIn, isPlace, mapEntry}
@@ -23,7 +24,6 @@ use Rattle.model.specs.Refusals.{placeChecks, publicReadRefusal, roundCh
 use Rattle.model.specs.Refusals.{walkChecks, writeRefusal}
 use Rattle.model.specs.Calls.{offerRefusal, offeredWrites}
 use Rattle.model.proofs.Laws.Places.{Placed}
-use Rattle.model.proofs.Laws.Stores.{All}
 use Rattle.model.proofs.Laws.Refusals.{driveRefusal-of-chain, passed-after-drive}
 
 -- ---- a public number, refusals 4 to 6 ----

@@ -4,19 +4,19 @@ use mathlib.Core.Path.{_≡_, sym, ap, _∙_, subst}
 use mathlib.Core.Logic.{_≢_}
 use mathlib.Core.Bool.{false}
 use mathlib.Core.List.{[], _∷_}
-use Prim.Native.Nat.{ℕ, _+_, _*_, _-_, _/_, _%_, _^_, _≤_, _<_}
-use native.Mathlib.Nat.{mul-le-mul-right, zero-div}
+use Prim.Native.Nat.{ℕ, _+_, _*_, _-_, _%_, _≤_, _<_}
+use native.Mathlib.Nat.{mul-le-mul-right}
 use native.Mathlib.Omega.{arith}
 use lib.ListN.{length, take, drop, length-append, length-replicate}
-use lib.Seq.{ext-getD, drop-append-add}
+use lib.Seq.{drop-append-add}
 use borrow.Author.Tests.{eq-eqb, ne-eqb}
 use Rattle.laws.specs.Lists.{part, over}
 use Rattle.laws.specs.Numbers.{numberOf, littleEndian}
-use Rattle.laws.specs.Bits.{bitOf, bitAt}
+use Rattle.laws.specs.Bits.{bitAt}
 use Rattle.laws.proofs.Cases.{cond-true, cond-false}
-use Rattle.laws.proofs.Lists.{length-part, part-part, getD-zeros, getD-part-zeros, length-over}
-use Rattle.laws.proofs.Lists.{part-over-same, part-over-after}
+use Rattle.laws.proofs.Lists.{part-part, length-over, part-over-same, part-over-after, part-zeros}
 use Rattle.laws.proofs.Numbers.{numberOf-littleEndian}
+use Rattle.laws.proofs.Bits.{bitAt-zeros}
 use Rattle.model.specs.Geometry.{Geometry, Fits, fanout, bitmapBlocks, rootAddress, areaStart}
 use Rattle.model.specs.Geometry.{blockCount, driveSize, isGeometry}
 use Rattle.model.specs.Blocks.{Bytes, DiskAddress, blockAt, entryAt, packed, zeroBlock}
@@ -29,19 +29,6 @@ use Rattle.model.proofs.Laws.Entries.{length-packed, entryAt-replicate}
 use Rattle.model.proofs.Laws.Bitmap.{areaPlace-lt, isAllocated-bit, blockOfBit, blockOfBit-lt}
 use Rattle.model.proofs.Laws.PublicMap.{mapEntry-is}
 use Rattle.model.proofs.Laws.Refusals.{Sized, sized-of-refusal, refusal-of-accepted}
-
--- ---- zeros ----
-
-part-zeros : (from size count : ℕ) → from + size ≤ count → part from size (zeroBlock count) ≡ zeroBlock size
-part-zeros from size count h =
-    let l : length (part from size (zeroBlock count)) ≡ size =
-    length-part from size (zeroBlock count) (omega (arith, length-replicate {A = ℕ} count 0)) in
-    ext-getD 0 (part from size (zeroBlock count)) (zeroBlock size) (l ∙ sym (length-replicate size 0))
-    (λ i k. getD-part-zeros from size i (zeroBlock count) (getD-zeros count) ∙ sym (getD-zeros size i))
-
-bitAt-zeros : (place size : ℕ) → bitAt place (zeroBlock size) ≡ false
-unfolding bitAt bitOf
-bitAt-zeros place size = rw (getD-zeros size (place / 8), zero-div (2 ^ (place % 8)))
 
 -- ---- the front ----
 

@@ -8,6 +8,7 @@ use Prim.Native.Nat.{ℕ, _*_, _≤_, _<_}
 use native.Mathlib.Omega.{arith}
 use lib.ListN.{length}
 use Rattle.laws.proofs.Cases.{cond-cases}
+use Rattle.laws.proofs.Members.{All}
 use Rattle.model.specs.Geometry.{Geometry, Fits, blockCount}
 use Rattle.model.specs.Blocks.{Bytes, blockAt}
 use Rattle.model.specs.Layout.{levelAddress, isAllocated}
@@ -16,7 +17,6 @@ use Rattle.model.specs.Table.{fillHidden}
 use Rattle.model.specs.HiddenHalf.{HiddenWrite, HiddenState, HiddenHalf, isWaiting, isLive, isBlocked}
 use Rattle.model.specs.HiddenHalf.{ownerOf, hiddenBy, rowOf, hiddenHalf}
 use Rattle.model.proofs.Laws.Geometry.{slot-block-lt}
-use Rattle.model.proofs.Laws.Stores.{All}
 use Rattle.model.proofs.Laws.Table.{rowAt-ruled}
 use Rattle.model.proofs.Laws.Accepted.{GoodWrite}
 use Rattle.model.proofs.Laws.Paths.{Hides, blockAt-whole, writtenBack-hides, dummyStores-hides}

@@ -9,6 +9,7 @@ use native.Mathlib.Omega.{arith}
 use lib.Dec.{eqb}
 use lib.ListN.{length}
 use borrow.Author.Tests.{eq-eqb, ne-eqb}
+use Rattle.laws.proofs.Members.{All, all-map}
 use Rattle.model.specs.Geometry.{Geometry, Fits, mapBlocks, rootAddress, blockCount}
 use Rattle.model.specs.Blocks.{Bytes, DiskAddress, blockAt}
 use Rattle.model.specs.Layout.{slotStart, slotOf, bitAddress, mapAddress, mapEntry}
@@ -18,9 +19,9 @@ use Rattle.model.specs.Rounds.{bitStores, mapStore, mapStores}
 use Rattle.model.proofs.Laws.Geometry.{mapAddress-lt, bitAddress-lt, bitAddress-ge}
 use Rattle.model.proofs.Laws.Places.{OldPlace, entry-not-zero}
 use Rattle.model.proofs.Laws.PublicMap.{length-mapBlockWith, mapped}
-use Rattle.model.proofs.Laws.Stores.{All, Stored, lastAt, lastAt-append, lastAt-other, lastAt-outside}
+use Rattle.model.proofs.Laws.Stores.{Stored, lastAt, lastAt-append, lastAt-other, lastAt-outside}
 use Rattle.model.proofs.Laws.Stores.{blockAt-apply}
-use Rattle.model.proofs.Laws.PublicHalf.{all-map, addresses-bitStores, withBits, bitStores-stored}
+use Rattle.model.proofs.Laws.PublicHalf.{addresses-bitStores, withBits, bitStores-stored}
 
 -- an address of the bitmap
 abbrev InBitmap : Geometry → DiskAddress → Type 0

@@ -10,6 +10,7 @@ use lib.Dec.{eqb}
 use lib.ListN.{length, drop, replicate, length-replicate, length-drop}
 use lib.Seq.{length-take-le}
 use Rattle.laws.proofs.Cases.{cond-cases}
+use Rattle.laws.proofs.Members.{All, all-append}
 use Rattle.model.specs.Geometry.{Geometry, Fits, fanout, rootAddress, blockCount}
 use Rattle.model.specs.Blocks.{Bytes, DiskAddress, blockAt, entryAt, setEntry, zeroBlock}
 use Rattle.model.specs.Layout.{slotStart, levelAddress, isWellFormed}
@@ -22,7 +23,7 @@ use Rattle.model.proofs.Laws.Geometry.{fanout-low, slot-block-lt, rootA
 use Rattle.model.proofs.Laws.Blocks.{length-blockAt}
 use Rattle.model.proofs.Laws.Entries.{length-setEntry}
 use Rattle.model.proofs.Laws.Slots.{slotBlock-of}
-use Rattle.model.proofs.Laws.Stores.{All, all-append, addresses-append}
+use Rattle.model.proofs.Laws.Stores.{addresses-append}
 
 -- ---- whole blocks ----
 

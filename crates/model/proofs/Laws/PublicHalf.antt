@@ -9,6 +9,7 @@ use native.Mathlib.Omega.{arith}
 use lib.Dec.{eqb}
 use lib.ListN.{length}
 use borrow.Author.Tests.{eq-eqb, ne-eqb}
+use Rattle.laws.proofs.Members.{All}
 use Rattle.model.specs.Geometry.{Geometry, Fits, blockCount}
 use Rattle.model.specs.Blocks.{Bytes, DiskAddress}
 use Rattle.model.specs.Layout.{slotOf, areaPlace, bitAddress, mapAddress, mapEntry}
@@ -22,12 +23,7 @@ use Rattle.model.proofs.Laws.Slots.{SlotBlock}
 use Rattle.model.proofs.Laws.Places.{OldPlace, entry-not-zero}
 use Rattle.model.proofs.Laws.Bitmap.{length-bitmapWith, marked, areaPlace-apart}
 use Rattle.model.proofs.Laws.Bitmap.{bitmapBit-marked-other, bitmapBit-marked-same}
-use Rattle.model.proofs.Laws.Stores.{All, Stored}
-
-pub all-map :
-    {A : Type 0} (P Q : A → Type 0) (xs : List A) → ((x : A) → P x → Q x) → All P xs → All Q xs
-all-map P Q [] f h = tt
-all-map P Q (x ∷ xs) f h = (f x (h .0), all-map P Q xs f (h .1))
+use Rattle.model.proofs.Laws.Stores.{Stored}
 
 -- ---- the bitmap's stores ----
 

@@ -8,6 +8,7 @@ use native.Mathlib.Nat.{mul-le-mul-right}
 use native.Mathlib.Omega.{arith}
 use lib.ListN.{length, drop, length-drop}
 use Rattle.laws.proofs.Cases.{cond-false, cond-true}
+use Rattle.laws.proofs.Members.{All}
 use Rattle.model.specs.Geometry.{Fits, Geometry, blockCount}
 use Rattle.model.specs.Blocks.{Bytes}
 use Rattle.model.specs.Layout.{isAllocated, mapEntry, nextSlot}
@@ -17,7 +18,6 @@ use Rattle.model.specs.Rounds.{stopped, followedBy, roundTrace, runFrom}
 use Rattle.model.specs.Refusals.{roundsTo}
 use Rattle.model.proofs.Laws.Slots.{nextSlot-lt}
 use Rattle.model.proofs.Laws.Places.{OldPlace, Placed, old-of-placed}
-use Rattle.model.proofs.Laws.Stores.{All}
 use Rattle.model.proofs.Laws.Accepted.{GoodWrite}
 use Rattle.model.proofs.Laws.HiddenHalf.{HidesHalf, hiddenHalf-hides, rowOf-public}
 use Rattle.model.proofs.Laws.RoundStores.{afterRound, length-round}

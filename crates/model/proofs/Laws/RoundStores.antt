@@ -7,6 +7,7 @@ use Prim.Native.Nat.{ℕ, zero, suc, _+_, _*_, _≤_, _<_}
 use native.Mathlib.Numerals.{add-one}
 use native.Mathlib.Omega.{arith}
 use lib.ListN.{length}
+use Rattle.laws.proofs.Members.{All, all-append, all-map}
 use Rattle.model.specs.Geometry.{Geometry, Fits, rootAddress, blockCount}
 use Rattle.model.specs.Blocks.{Bytes, DiskAddress, blockAt}
 use Rattle.model.specs.Layout.{slotStart, nextSlot, mapEntry}
@@ -17,9 +18,9 @@ use Rattle.model.specs.Simulator.{addressesFrom, slotAddresses, lastRoun
 use Rattle.model.proofs.Laws.Geometry.{slot-block-lt, rootAddress-lt, slotStart-lt}
 use Rattle.model.proofs.Laws.Entries.{length-setEntry}
 use Rattle.model.proofs.Laws.Places.{OldPlace}
-use Rattle.model.proofs.Laws.Stores.{All, all-append, Stored, addresses-append, length-apply}
+use Rattle.model.proofs.Laws.Stores.{Stored, addresses-append, length-apply}
 use Rattle.model.proofs.Laws.Paths.{WholeStore, Hides, addressesFrom-suc, blockAt-whole}
-use Rattle.model.proofs.Laws.PublicHalf.{all-map, addresses-mapStores}
+use Rattle.model.proofs.Laws.PublicHalf.{addresses-mapStores}
 use Rattle.model.proofs.Laws.MapStores.{mapStores-stored}
 
 -- ---- addresses ----

@@ -7,6 +7,7 @@ use mathlib.Core.List.{[], _∷_, _++_}
 use Prim.Native.Nat.{ℕ, _+_, _*_, _≤_, _<_}
 use native.Mathlib.Omega.{arith}
 use lib.ListN.{length}
+use Rattle.laws.proofs.Members.{all-map}
 use Rattle.model.specs.Geometry.{Geometry, Fits, rootAddress, blockCount}
 use Rattle.model.specs.Blocks.{Bytes, DiskAddress, blockAt, entryAt, setEntry}
 use Rattle.model.specs.Layout.{headIn, slotStart, slotOf, nextSlot, mapEntry}
@@ -19,7 +20,6 @@ use Rattle.model.proofs.Laws.Places.{OldPlace}
 use Rattle.model.proofs.Laws.Stores.{lastAt, lastAt-nil, lastAt-append, lastAt-same, lastAt-other}
 use Rattle.model.proofs.Laws.Stores.{lastAt-outside, blockAt-apply}
 use Rattle.model.proofs.Laws.Paths.{Hides}
-use Rattle.model.proofs.Laws.PublicHalf.{all-map}
 use Rattle.model.proofs.Laws.MapStores.{InFront, mapStores-inFront}
 use Rattle.model.proofs.Laws.RoundStores.{HiddenAddress, hides-addresses, publicStore-address}
 use Rattle.model.proofs.Laws.RoundStores.{afterRound, header-fits, round-stored}

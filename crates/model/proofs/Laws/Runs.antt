@@ -4,12 +4,13 @@
 use mathlib.Core.Path.{_≡_, refl, sym, ap, ap₂, _∙_, subst}
 use mathlib.Core.Logic.{_≢_, ⊎-elim}
 use mathlib.Core.Bool.{true, false}
-use mathlib.Core.List.{List, [], _∷_, _++_, append-assoc, append-nil}
+use mathlib.Core.List.{List, _++_, append-nil}
 use Prim.Native.Nat.{ℕ, zero, suc, _*_, _-_, _<_}
 use native.Mathlib.Omega.{arith}
 use lib.ListN.{drop, length}
-use lib.Seq.{append-snoc}
 use Rattle.laws.proofs.Cases.{bool-cases}
+use Rattle.laws.proofs.Members.{All, all-append}
+use Rattle.laws.proofs.Joins.{append-between}
 use Rattle.model.specs.Geometry.{Geometry, Fits, blockCount}
 use Rattle.model.specs.Blocks.{Bytes}
 use Rattle.model.specs.Layout.{nextSlot, mapEntry, isAllocated}
@@ -21,8 +22,7 @@ use Rattle.model.specs.Refusals.{roundsTo, storeCount}
 use Rattle.model.specs.Simulator.{slotAddresses, keptRounds, lastRound}
 use Rattle.model.proofs.Laws.Slots.{slotAfter, slotAfter-next, slotAfter-zero}
 use Rattle.model.proofs.Laws.Places.{Placed, old-of-placed}
-use Rattle.model.proofs.Laws.Stores.{All, all-append, Stored, apply-append, addresses-append}
-use Rattle.model.proofs.Laws.Stores.{length-addresses}
+use Rattle.model.proofs.Laws.Stores.{Stored, apply-append, addresses-append, length-addresses}
 use Rattle.model.proofs.Laws.Paths.{Hides}
 use Rattle.model.proofs.Laws.RoundStores.{afterRound, addresses-kept, addresses-last, round-stored}
 use Rattle.model.proofs.Laws.Wrote.{Wrote, last-wrote, entry-kept, kept-wrote}
@@ -39,10 +39,6 @@ pub record Ran (g : Geometry) (number : ℕ) (content : Bytes) (slot earlier : �
       keptRounds earlier g slot ++ lastRound g number (mapEntry g disk number) (slotAfter g slot earlier)
   pub stored : All (Stored (g .blockSize) (blockCount g)) (run .trace)
   pub wrote : Wrote g number content (slotAfter g slot earlier) disk (apply (g .blockSize) (run .trace) disk)
-
-append-between :
-    (xs : List ℕ) (n : ℕ) (ys zs : List ℕ) → (xs ++ (n ∷ [])) ++ (ys ++ zs) ≡ (xs ++ (n ∷ ys)) ++ zs
-append-between xs n ys zs = append-snoc xs n (ys ++ zs) ∙ sym (append-assoc xs (n ∷ ys) zs)
 
 module _ (g : Geometry) (f : Fits g) (number : ℕ) (inside : number < g .publics) (content : Bytes)
     (sized : length content ≡ g .blockSize) where

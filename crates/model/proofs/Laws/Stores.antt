@@ -12,16 +12,8 @@ use Rattle.laws.proofs.Cases.{eq-cases}
 use Rattle.model.specs.Blocks.{Bytes, DiskAddress, blockAt, setBlock}
 use Rattle.model.specs.Stores.{Store, Trace, apply, addresses}
 use Rattle.model.proofs.Laws.Blocks.{length-setBlock, blockAt-setBlock-same, blockAt-setBlock-other}
-
--- ---- what holds of each member of a list ----
-
-abbrev pub All : {A : Type 0} → (A → Type 0) → List A → Type 0
-All P [] = Unit {0}
-All P (x ∷ xs) = P x × All P xs
-
-pub all-append : {A : Type 0} (P : A → Type 0) (xs ys : List A) → All P xs → All P ys → All P (xs ++ ys)
-all-append P [] ys h k = k
-all-append P (x ∷ xs) ys h k = (h .0, all-append P xs ys (h .1) k)
+-- what holds of each store of a trace is said by it
+pub use Rattle.laws.proofs.Members.{All}
 
 -- ---- joined traces ----
 

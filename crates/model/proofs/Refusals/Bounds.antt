@@ -9,12 +9,12 @@ use lib.Dec.{eqb}
 use lib.ListN.{length}
 use borrow.Author.Tests.{le-ltb}
 use Rattle.laws.proofs.Cases.{cond-cases}
+use Rattle.laws.proofs.Checks.{Never, firstOf-never, never-append}
 use Rattle.model.specs.Geometry.{Geometry}
 use Rattle.model.specs.Blocks.{Bytes, DiskAddress}
 use Rattle.model.specs.Layout.{geometryIn, mapEntry}
 use Rattle.model.specs.Refusals.{sizeChecks, driveChecks, placeChecks, roundCount, storeCount}
 use Rattle.model.specs.Refusals.{roundChecks, writeRefusal}
-use Rattle.model.proofs.Refusals.Answers.{Never, never-append, firstOf-never}
 
 -- ---- the numbers of the chains ----
 

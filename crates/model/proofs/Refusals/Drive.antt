@@ -9,14 +9,15 @@ use native.Mathlib.Omega.{arith}
 use lib.ListN.{length}
 use lib.Pow.{pow-lt}
 use Rattle.laws.proofs.Cases.{lt-cases, eq-cases, true-is-not-false}
+use Rattle.laws.proofs.Decides.{Decides, decides-and, decides-eq, decides-le, decides-lt, decides-not}
+use Rattle.laws.proofs.Decides.{decides-or, decides-same}
 use Rattle.model.specs.Geometry.{Geometry, treeCapacity, blockCount, driveSize, blockSizes, isOneOf}
 use Rattle.model.specs.Geometry.{isGeometry}
 use Rattle.model.specs.Blocks.{Bytes}
 use Rattle.model.specs.Layout.{geometryIn, headIn}
 use Rattle.model.specs.Refusals.{sizeChecks, driveChecks}
 use Rattle.model.specs.Conditions.{InsideLimits, sizeConditions, driveConditions}
-use Rattle.model.proofs.Refusals.Answers.{Decides, decides-lt, decides-le, decides-eq, decides-not}
-use Rattle.model.proofs.Refusals.Answers.{decides-or, decides-and, decides-same, Judges, judges-append}
+use Rattle.model.proofs.Refusals.Answers.{Judges, judges-append}
 
 -- ---- the block sizes ----
 

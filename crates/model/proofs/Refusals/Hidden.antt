@@ -3,12 +3,13 @@ use mathlib.Core.Path.{_≡_, refl}
 use mathlib.Core.Bool.{true}
 use Prim.Native.Nat.{ℕ}
 use Rattle.laws.proofs.Cases.{true-is-not-false}
+use Rattle.laws.proofs.Decides.{Decides, decides-eq, decides-le, decides-not}
 use Rattle.model.specs.Geometry.{Geometry}
 use Rattle.model.specs.Blocks.{Bytes}
 use Rattle.model.specs.HiddenTree.{End, found, unmapped, damaged, isDamaged, walk}
 use Rattle.model.specs.Refusals.{hiddenChecks, walkChecks}
 use Rattle.model.specs.Conditions.{hiddenConditions, walkConditions}
-use Rattle.model.proofs.Refusals.Answers.{Decides, decides-le, decides-eq, decides-not, Judges}
+use Rattle.model.proofs.Refusals.Answers.{Judges}
 
 pub judges-hidden :
     (g : Geometry) (number size : ℕ) → Judges (hiddenChecks g number size) (hiddenConditions g number size)

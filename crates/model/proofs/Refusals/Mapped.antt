@@ -5,6 +5,7 @@ use mathlib.Core.Bool.{true}
 use Prim.Native.Nat.{ℕ, _+_, _≤_, _<_}
 use native.Mathlib.Nat.{mod-lt}
 use native.Mathlib.Omega.{arith}
+use Rattle.laws.proofs.Pigeonhole.{Reached, reached-le}
 use Rattle.model.specs.Geometry.{Geometry, Fits}
 use Rattle.model.specs.Blocks.{Bytes}
 use Rattle.model.specs.Layout.{headIn, slotOf, areaPlace, isAllocated, mapEntry}
@@ -14,7 +15,6 @@ use Rattle.model.proofs.Laws.Slots.{slotOf-slotStart, slotAfter}
 use Rattle.model.proofs.Laws.Bitmap.{areaPlace-lt, isAllocated-bit}
 use Rattle.model.proofs.Refusals.Circle.{indexFrom, indexFrom-slotAfter, noneFree, firstFree}
 use Rattle.model.proofs.Refusals.Rounds.{HeadFinds, head-finds}
-use Rattle.model.proofs.Refusals.Pigeonhole.{Reached, reached-le}
 
 module _ (g : Geometry) (f : Fits g) (disk : Bytes) (v : BitmapInvariant g disk) where
   -- how many slots after the head a number's place is

@@ -6,14 +6,14 @@ use mathlib.Core.Bool.{true, not, _||_}
 use Prim.Native.Nat.{ℕ, _<_}
 use lib.Dec.{eqb}
 use Rattle.laws.proofs.Cases.{true-is-not-false}
+use Rattle.laws.proofs.Decides.{Decides, decides-eq, decides-le, decides-not, decides-or, decides-same}
 use Rattle.model.specs.Geometry.{Geometry}
 use Rattle.model.specs.Blocks.{Bytes, DiskAddress}
 use Rattle.model.specs.Layout.{slotStart, slotOf, isAllocated, mapEntry, isPlace}
 use Rattle.model.specs.Refusals.{placeChecks}
 use Rattle.model.specs.Conditions.{placeConditions}
 use Rattle.model.proofs.Laws.Places.{Place, isPlace-of-place, isPlace-slotStart, place-of-isPlace}
-use Rattle.model.proofs.Refusals.Answers.{Decides, decides-le, decides-eq, decides-not, decides-or}
-use Rattle.model.proofs.Refusals.Answers.{decides-same, Judges}
+use Rattle.model.proofs.Refusals.Answers.{Judges}
 
 -- ---- places ----
 

@@ -9,13 +9,14 @@ use native.Mathlib.Omega.{arith}
 use lib.Dec.{ltb, eqb}
 use borrow.Author.Tests.{eqb-true, eqb-false}
 use Rattle.laws.proofs.Cases.{lt-cases, true-is-not-false}
+use Rattle.laws.proofs.Decides.{Decides, decides-lt, decides-same}
 use Rattle.model.specs.Geometry.{Geometry}
 use Rattle.model.specs.Blocks.{Bytes, DiskAddress}
 use Rattle.model.specs.Layout.{headIn, isAllocated, mapEntry}
 use Rattle.model.specs.Refusals.{roundCount, storeCount, roundChecks}
 use Rattle.model.specs.Conditions.{TakesRounds, storesOf, roundConditions}
 use Rattle.model.proofs.Laws.Slots.{slotAfter, slotAfter-round}
-use Rattle.model.proofs.Refusals.Answers.{Decides, decides-lt, decides-same, Judges}
+use Rattle.model.proofs.Refusals.Answers.{Judges}
 use Rattle.model.proofs.Refusals.Circle.{indexFrom, slotAfter-indexFrom, indexFrom-lt, RoundsTo}
 use Rattle.model.proofs.Refusals.Circle.{noneFree, firstFree, roundsTo-is}
 

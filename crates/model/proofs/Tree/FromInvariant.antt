@@ -9,7 +9,7 @@ use native.Mathlib.Nat.{mod-eq-of-lt, mod-lt, div-add-mod', div-lt-iff-lt-mul, o
 use native.Mathlib.Omega.{arith}
 use lib.Dec.{eqb}
 use borrow.Author.Tests.{eq-eqb, ne-eqb}
-use Rattle.laws.proofs.Cases.{cond-true, cond-false, eq-cases}
+use Rattle.laws.proofs.Cases.{cond-true, cond-false, eq-cases, none-is-not-some, some-inj}
 use Rattle.model.specs.Geometry.{Geometry, Fits, rootAddress, treeCapacity}
 use Rattle.model.specs.Blocks.{Bytes, DiskAddress, blockAt, entryAt, zeroBlock}
 use Rattle.model.specs.Layout.{slotOf, levelPlace, levelAddress, isWellFormed}
@@ -21,7 +21,7 @@ use Rattle.model.proofs.Laws.Slots.{slotBlock-of}
 use Rattle.model.proofs.Tree.Keys.{keyOf, keyOf-suc, branchAt-keyOf, entriesIn-positive, keyOf-height}
 use Rattle.model.proofs.Tree.Keys.{lt-of-keyOf-same, span-zero}
 use Rattle.model.proofs.Tree.Ghost.{Tree, slotAt, entryTo, nodeIn, nodeAt, Linked, Owned, Ghost}
-use Rattle.model.proofs.Tree.Ghost.{some-inj, none-is-not-some, nodeAt-height, nodeAt-below}
+use Rattle.model.proofs.Tree.Ghost.{nodeAt-height, nodeAt-below}
 use Rattle.model.proofs.Tree.Walks.{walk-end, some-of-endIn}
 
 -- ---- the tree that a disk spells ----

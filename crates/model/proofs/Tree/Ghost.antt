@@ -10,7 +10,7 @@ use native.Mathlib.Omega.{arith}
 use lib.Dec.{eqb}
 use lib.ListN.{length, length-replicate}
 use borrow.Author.Tests.{eq-eqb, ne-eqb}
-use Rattle.laws.proofs.Cases.{cond-true, cond-false, eq-cases}
+use Rattle.laws.proofs.Cases.{cond-true, cond-false, eq-cases, none-is-not-some}
 use Rattle.model.specs.Geometry.{Geometry, rootAddress, blockCount, treeCapacity}
 use Rattle.model.specs.Blocks.{Bytes, DiskAddress, blockAt, entryAt, zeroBlock}
 use Rattle.model.specs.Layout.{levelAddress}
@@ -88,12 +88,6 @@ abbrev pub valueOf : Geometry → (disk : Bytes) → Tree → (number : ℕ) →
 valueOf g disk tree number = blockIn g disk (slotAt g tree 0 number)
 
 -- ---- nodes ----
-
-pub none-is-not-some : {A : Type 0} (slot : ℕ) → none ≡ some slot → A
-none-is-not-some slot e = absurd (let z : _≡_ {A = ℕ} 0 1 = cc in omega arith)
-
-pub some-inj : (n m : ℕ) → some n ≡ some m → n ≡ m
-some-inj n m e = cc
 
 -- a slot's node, or its block, on two disks that agree there
 pub nodeIn-same :

@@ -11,13 +11,13 @@ use lib.Dec.{ltb}
 use borrow.Author.Tests.{eq-eqb, ltb-true, lt-ltb}
 use Rattle.laws.proofs.Cases.{true-is-not-false, bool-cases, and-left, and-right, and-both, and-false-left}
 use Rattle.laws.proofs.Cases.{and-false-right, or-neither}
+use Rattle.laws.proofs.Members.{All}
 use Rattle.model.specs.Geometry.{Geometry, Fits, treeCapacity}
 use Rattle.model.specs.Blocks.{Bytes}
 use Rattle.model.specs.Layout.{levelAddress}
 use Rattle.model.specs.HiddenTree.{isDamaged, isFoundAt, walk}
 use Rattle.model.specs.HiddenHalf.{HiddenWrite, ownerOf, isLive, isOwnerDamaged, isNextDamaged}
 use Rattle.model.specs.HiddenHalf.{isBlocked}
-use Rattle.model.proofs.Laws.Stores.{All}
 use Rattle.model.proofs.Laws.Accepted.{GoodWrite}
 use Rattle.model.proofs.Tree.Keys.{lt-treeCapacity}
 use Rattle.model.proofs.Tree.Ghost.{Tree, slotAt, Ghost}

@@ -6,12 +6,12 @@ use mathlib.Core.Option.{Option, some}
 use Prim.Native.Nat.{ℕ, _*_, _-_, _<_}
 use native.Mathlib.Omega.{arith}
 use lib.ListN.{length}
-use Rattle.laws.proofs.Cases.{eq-cases}
+use Rattle.laws.proofs.Cases.{eq-cases, some-inj}
 use Rattle.model.specs.Geometry.{Geometry, Fits, fanout, blockCount, treeCapacity}
 use Rattle.model.specs.Blocks.{Bytes, entryAt}
 use Rattle.model.specs.HiddenHalf.{ownerOf}
 use Rattle.model.proofs.Tree.Keys.{keyOf, keyOf-zero}
-use Rattle.model.proofs.Tree.Ghost.{Tree, slotAt, Owned, Ghost, some-inj}
+use Rattle.model.proofs.Tree.Ghost.{Tree, slotAt, Owned, Ghost}
 use Rattle.model.proofs.Tree.Planted.{planted, Planted, planted-same, planted-other}
 use Rattle.model.proofs.Tree.Linking.{linked-planted}
 

@@ -8,6 +8,7 @@ use mathlib.Core.Option.{Option, some}
 use Prim.Native.Nat.{ℕ, _*_, _<_}
 use lib.ListN.{length}
 use Rattle.laws.proofs.Cases.{true-is-not-false, bool-cases, eq-cases, cond-false, cond-true}
+use Rattle.laws.proofs.Members.{All}
 use Rattle.model.specs.Geometry.{Geometry, Fits, blockCount, treeCapacity}
 use Rattle.model.specs.Blocks.{Bytes, blockAt}
 use Rattle.model.specs.Layout.{levelAddress}
@@ -15,7 +16,6 @@ use Rattle.model.specs.Table.{HiddenChoice, keepHidden, placeHidden, fil
 use Rattle.model.specs.Paths.{currentPath, writtenBack, dummyStores}
 use Rattle.model.specs.HiddenHalf.{HiddenWrite, HiddenState, HiddenHalf, half, isWaiting, ownerOf}
 use Rattle.model.specs.HiddenHalf.{isLive, placedState, blockedState, hiddenBy, rowOf, hiddenHalf}
-use Rattle.model.proofs.Laws.Stores.{All}
 use Rattle.model.proofs.Laws.Accepted.{GoodWrite}
 use Rattle.model.proofs.Laws.HiddenHalf.{rowOf-hidden}
 use Rattle.model.proofs.Tree.Ghost.{Tree, Ghost, blockIn, valueOf}

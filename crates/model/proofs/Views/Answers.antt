@@ -2,13 +2,15 @@
 use mathlib.Core.Path.{_≡_, refl, sym, ap, _∙_}
 use mathlib.Core.Logic.{_≢_}
 use mathlib.Core.Bool.{Bool, true, false, not, cond, _&&_, _||_}
-use mathlib.Core.List.{List, [], _∷_, _++_, append-nil}
+use mathlib.Core.List.{List, [], _++_, append-nil}
 use Prim.Native.Nat.{ℕ, zero, suc, _+_, _*_, _-_, _%_, _<_}
 use native.Mathlib.Omega.{arith}
 use lib.Dec.{ltb, eqb}
 use lib.ListN.{length}
 use borrow.Author.Tests.{leb-false, eqb-false}
-use Rattle.laws.specs.Checks.{Check, check, firstOf}
+use Rattle.laws.specs.Checks.{Check, firstOf}
+use Rattle.laws.proofs.Cases.{and-ext}
+use Rattle.laws.proofs.Checks.{SameAnswer, sameAnswer-check, sameAnswer-refl}
 use Rattle.model.specs.Geometry.{Geometry, Fits}
 use Rattle.model.specs.Blocks.{Bytes}
 use Rattle.model.specs.Layout.{geometryIn, headIn, slotOf, mapEntry, isAllocated, isPlace, isSlotBlock}
@@ -67,30 +69,6 @@ simulatedRounds-is g f head disk h =
     ∙ roundsTo-ext (g .slots) (isTaken sim) (isAllocated g disk) g f head h (getD-allocated g disk)
 
 -- ---- answers ----
-
--- two chains with one answer
-record SameAnswer (cs ds : List Check) : Type 0 where
-  same : firstOf cs ≡ firstOf ds
-
-sameAnswer-refl : {cs : List Check} → SameAnswer cs cs
-sameAnswer-refl = record { same = refl }
-
--- equal tests in front; what comes after need be the same only where the test does not hold
-sameAnswer-check :
-    {holds other : Bool} {number : ℕ} {cs ds : List Check} → holds ≡ other →
-    (other ≡ false → SameAnswer cs ds) →
-    SameAnswer (check holds number ∷ cs) (check other number ∷ ds)
-unfolding firstOf
-sameAnswer-check {holds} {other} {number} {cs} {ds} e h = record { same = rw e (by other h) }
-  where
-    by : (b : Bool) → (b ≡ false → SameAnswer cs ds) → cond b number (firstOf cs) ≡ cond b number (firstOf ds)
-    by true h = refl
-    by false h = h refl .same
-
--- the second test of a conjunction matters only where the first holds
-and-ext : (a : Bool) {b c : Bool} → (a ≡ true → b ≡ c) → (a && b) ≡ (a && c)
-and-ext true h = h refl
-and-ext false h = refl
 
 module _ (g : Geometry) (f : Fits g) (disk : Bytes) (inside : headIn disk < g .slots) where
   abbrev sim : Simulator

@@ -9,9 +9,9 @@ use Prim.Native.Nat.{_<_, ℕ, suc, _-_, _≤_}
 use native.Mathlib.Omega.{arith}
 use lib.ListN.{length, take}
 use borrow.Author.Tests.{eq-eqb, ne-eqb}
-use Rattle.laws.specs.Lists.{part, over}
+use Rattle.laws.specs.Lists.{over}
 use Rattle.laws.proofs.Cases.{cond-true, cond-false}
-use Rattle.laws.proofs.Lists.{part-over-same}
+use Rattle.laws.proofs.Lists.{take-over}
 use Rattle.model.specs.Blocks.{Bytes, DiskAddress}
 use Rattle.model.specs.Layout.{geometryIn, headIn}
 use Rattle.model.specs.Stores.{addresses}
@@ -58,11 +58,6 @@ pub told-ext :
     told .stores ≡ other .stores →
     told .entries ≡ other .entries → told ≡ other
 told-ext p q r s = λ i. record { answer = p i; rounds = q i; stores = r i; entries = s i }
-
--- the front of the list is what was put there
-take-over : (new old : List ℕ) → length new ≤ length old → take (length new) (over 0 new old) ≡ new
-unfolding part
-take-over new old h = part-over-same new old 0 (omega arith)
 
 -- ---- one step ----
 

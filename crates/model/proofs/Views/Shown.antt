@@ -8,6 +8,7 @@ use native.Mathlib.Omega.{arith}
 use lib.Dec.{ltb}
 use borrow.Author.Tests.{lt-ltb, le-ltb}
 use Rattle.laws.proofs.Cases.{or-left, or-right, or-neither, cond-true, cond-false}
+use Rattle.laws.proofs.Members.{All}
 use Rattle.model.specs.Geometry.{Geometry, rootAddress, blockCount}
 use Rattle.model.specs.Blocks.{Bytes, DiskAddress, blockAt}
 use Rattle.model.specs.Layout.{slotStart, isSlotBlock}
@@ -15,7 +16,6 @@ use Rattle.model.specs.Stores.{Store, Trace, addresses}
 use Rattle.model.specs.View.{isShown, shownOf}
 use Rattle.model.proofs.Laws.Slots.{isSlotBlock-other, isSlotBlock-slotStart, isSlotBlock-below}
 use Rattle.model.proofs.Laws.Slots.{isSlotBlock-past}
-use Rattle.model.proofs.Laws.Stores.{All}
 use Rattle.model.proofs.Laws.Paths.{WholeStore}
 use Rattle.model.proofs.Views.Agreement.{Agree, Beside, Along, none, more}
 

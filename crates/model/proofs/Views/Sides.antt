@@ -9,6 +9,7 @@ use native.Mathlib.Omega.{arith}
 use lib.Dec.{eqb}
 use lib.ListN.{length}
 use borrow.Author.Tests.{eq-eqb}
+use Rattle.laws.proofs.Members.{all-map}
 use Rattle.model.specs.Geometry.{Geometry, Fits, fanout, rootAddress, blockCount}
 use Rattle.model.specs.Blocks.{Bytes, DiskAddress, blockAt, entryAt, setEntry}
 use Rattle.model.specs.Layout.{slotStart, slotOf, nextSlot, mapAddress, mapEntry, bitAddress}
@@ -25,7 +26,6 @@ use Rattle.model.proofs.Laws.Places.{OldPlace}
 use Rattle.model.proofs.Laws.Bitmap.{isAllocated-block, length-bitmapWith}
 use Rattle.model.proofs.Laws.PublicMap.{mapEntry-block, length-mapBlockWith}
 use Rattle.model.proofs.Laws.Paths.{Hides, blockAt-whole}
-use Rattle.model.proofs.Laws.PublicHalf.{all-map}
 use Rattle.model.proofs.Laws.RoundStores.{HiddenAddress, hides-addresses}
 use Rattle.model.proofs.Views.Agreement.{none, more, along-append, agree-apply}
 use Rattle.model.proofs.Views.Shown.{isShown-below, isShown-slotStart, isShown-slot-block}

@@ -7,32 +7,16 @@ use mathlib.Core.List.{List}
 use Prim.Native.Nat.{ℕ, _<_}
 use lib.Dec.{eqb}
 use lib.ListN.{length, getD, set, length-set}
-use lib.Seq.{ext-getD, getD-set-same, getD-set-other}
+use lib.Seq.{getD-set-same, getD-set-other}
 use borrow.Author.Tests.{eq-eqb, ne-eqb}
 use Rattle.laws.proofs.Cases.{eq-cases}
+use Rattle.laws.proofs.Joins.{set-of-getD}
 use Rattle.model.specs.Geometry.{Geometry}
 use Rattle.model.specs.Blocks.{Bytes, DiskAddress}
 use Rattle.model.specs.Layout.{slotOf, mapEntry, isAllocated}
 use Rattle.model.specs.Simulator.{entriesFrom, allocatedFrom}
 use Rattle.model.proofs.Views.Tracking.{length-entriesFrom, length-allocatedFrom, getD-entries}
 use Rattle.model.proofs.Views.Tracking.{getD-allocated}
-
--- a list that differs from another at one index
-set-of-getD :
-    {A : Type 0} (default : A) (xs ys : List A) (index : ℕ) (x : A) → length xs ≡ length ys →
-    index < length ys →
-    getD xs index default ≡ x →
-    ((i : ℕ) → i < length ys → i ≢ index → getD xs i default ≡ getD ys i default) →
-    xs ≡ set ys index x
-set-of-getD default xs ys index x e h here others =
-    ext-getD default xs (set ys index x) (e ∙ sym (length-set ys index x))
-    (λ i l. at i (rw e at l) (eq-cases i index))
-  where
-    at :
-        (i : ℕ) → i < length ys → (i ≡ index) ⊎ (i ≢ index) →
-        getD xs i default ≡ getD (set ys index x) i default
-    at i l (inl q) = rw (q, here, getD-set-same ys index x default h)
-    at i l (inr ne) = others i l ne ∙ sym (getD-set-other ys index i x default ne)
 
 module _ (g : Geometry) (disk after : Bytes) where
   pub entriesFrom-after :

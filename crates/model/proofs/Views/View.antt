@@ -3,13 +3,14 @@
 use mathlib.Core.Path.{_≡_, refl, sym, ap, ap₂, _∙_}
 use mathlib.Core.Logic.{⊎-elim}
 use mathlib.Core.Bool.{Bool, true, false, cond}
-use mathlib.Core.List.{List, [], _++_}
+use mathlib.Core.List.{[], _++_}
 use Prim.Native.Nat.{ℕ, zero, suc, _+_, _*_, _≤_, _<_}
 use native.Mathlib.Omega.{arith}
-use lib.ListN.{length, take, drop}
-use lib.Seq.{take-at, drop-at, drop-append-add}
+use lib.ListN.{length}
+use lib.Seq.{take-at, drop-append-add}
 use Rattle.laws.specs.Lists.{part}
 use Rattle.laws.proofs.Cases.{lt-cases, eq-cases}
+use Rattle.laws.proofs.Joins.{append-split}
 use Rattle.model.specs.Geometry.{Geometry, rootAddress, blockCount}
 use Rattle.model.specs.Blocks.{Bytes, DiskAddress, blockAt, entryAt}
 use Rattle.model.specs.Layout.{Drive, geometryIn, mapAddress, mapEntry, bitAddress, isAllocated}
@@ -21,14 +22,6 @@ use Rattle.model.proofs.Laws.Bitmap.{isAllocated-block}
 use Rattle.model.proofs.Laws.PublicMap.{mapEntry-block}
 use Rattle.model.proofs.Views.Shown.{isShown-below, isShown-past, shownOf-shown, shownOf-hidden}
 use Rattle.model.proofs.Views.Shown.{ShowSame}
-
--- two lists joined of parts of the same lengths
-append-split :
-    {A : Type 0} (xs ys us vs : List A) → length xs ≡ length ys → xs ++ us ≡ ys ++ vs → (xs ≡ ys) × (us ≡ vs)
-append-split xs ys us vs e h = (
-  sym (take-at xs us (length ys) e) ∙ ap (take (length ys)) h ∙ take-at ys vs (length ys) refl,
-  sym (drop-at xs us (length ys) e) ∙ ap (drop (length ys)) h ∙ drop-at ys vs (length ys) refl,
-)
 
 -- what an address shows of a disk
 abbrev shownAt : Geometry → (disk : Bytes) → DiskAddress → Bytes

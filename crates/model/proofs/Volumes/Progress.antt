@@ -1,16 +1,17 @@
 -- What rounds do to the hidden writes of a call and to what hidden numbers show: the progress of one round
 -- after another, and what a whole call's progress and its hidden outcome say of each other. Assumes nothing.
-use mathlib.Core.Path.{_≡_, refl, sym, ap, ap₂, _∙_}
-use mathlib.Core.Logic.{_≢_, _⊎_, inl, inr, ⊎-elim}
+use mathlib.Core.Path.{_≡_, refl, sym, ap, _∙_}
+use mathlib.Core.Logic.{_≢_, ⊎-elim}
 use mathlib.Core.Bool.{Bool, true, false, cond}
 use mathlib.Core.List.{List, [], _∷_, _++_, append-assoc}
 use mathlib.Core.Option.{Option, none, some}
 use Prim.Native.Nat.{ℕ, _+_, _<_}
 use native.Mathlib.Omega.{arith}
 use lib.Dec.{eqb}
-use lib.ListN.{length, getD, drop, length-append}
+use lib.ListN.{length, length-append}
 use borrow.Author.Tests.{eq-eqb, ne-eqb}
 use Rattle.laws.proofs.Cases.{eq-cases, cond-true, cond-false}
+use Rattle.laws.proofs.Joins.{front-of-one, nil-of-append}
 use Rattle.model.specs.Geometry.{Geometry}
 use Rattle.model.specs.Blocks.{Bytes}
 use Rattle.model.specs.HiddenHalf.{HiddenWrite, HiddenState, isWaiting}
@@ -86,24 +87,6 @@ outcome-placed state ne = rw (ne-eqb (state .placed) 0 ne)
 
 -- ---- a whole call ----
 
--- what is placed of nothing
-none-of-none : (done rest : List HiddenWrite) → [] ≡ done ++ rest → done ≡ []
-none-of-none [] rest e = refl
-none-of-none (next ∷ later) rest e =
-    let l : _≡_ {A = ℕ} 0 (length (next ∷ (later ++ rest))) = ap length e in
-    absurd (omega arith)
-
--- what is placed of one write
-some-of-one :
-    (write : HiddenWrite) (done rest : List HiddenWrite) → write ∷ [] ≡ done ++ rest →
-    (done ≡ []) ⊎ (done ≡ write ∷ [])
-some-of-one write [] rest e = inl refl
-some-of-one write (next ∷ later) rest e =
-    let tail : [] ≡ later ++ rest = ap (drop 1) e in
-    let head : next ≡ write = ap (λ (xs : List HiddenWrite). getD xs 0 next) (sym e) in
-    inr (ap₂ {C = List HiddenWrite} (λ (x : HiddenWrite) (xs : List HiddenWrite). x ∷ xs) head
-    (none-of-none later rest tail))
-
 module _ (g : Geometry) (result : HiddenState) (old new : ℕ → Option Bytes) (number : ℕ)
     (counted : number < g .hidden) where
   -- what the number shows by the outcome: the hidden write's block where it says placed, else the old one
@@ -136,7 +119,7 @@ module _ (g : Geometry) (result : HiddenState) (old new : ℕ → Option Bytes) 
       new number ≡ shownBy (offerRefusal g offer) offer
   unfolding offeredWrites offerRefusal
   shows-of-progress none progress =
-      shows-unplaced [] progress (none-of-none (progress .done) _ (progress .waiting-is)) 0 none
+      shows-unplaced [] progress (nil-of-append (progress .done) _ (progress .waiting-is)) 0 none
   shows-of-progress (some write) progress = ⊎-elim good bad (eq-cases refusal 0)
     where
       refusal : ℕ
@@ -149,7 +132,7 @@ module _ (g : Geometry) (result : HiddenState) (old new : ℕ → Option Bytes) 
       bad ne =
           let e : offered ≡ [] = cond-false _ _ (ne-eqb refusal 0 ne) in
           let nothing : progress .done ≡ [] =
-          none-of-none (progress .done) _ (sym e ∙ progress .waiting-is) in
+          nil-of-append (progress .done) _ (sym e ∙ progress .waiting-is) in
           shows-unplaced offered progress nothing refusal (some write)
 
       good : refusal ≡ 0 → new number ≡ shownBy refusal (some write)
@@ -157,4 +140,4 @@ module _ (g : Geometry) (result : HiddenState) (old new : ℕ → Option Bytes) 
           let e : offered ≡ write ∷ [] = cond-true _ _ (eq-eqb refusal 0 z) in
           ⊎-elim (λ p. shows-unplaced offered progress p refusal (some write))
           (λ p. shows-placed offered progress write p ∙ ap (λ (n : ℕ). shownBy n (some write)) (sym z))
-          (some-of-one write (progress .done) _ (sym e ∙ progress .waiting-is))
+          (front-of-one write (progress .done) _ (sym e ∙ progress .waiting-is))

@@ -7,7 +7,7 @@ use Prim.Native.Nat.{ℕ, zero, suc, _≤_, _<_}
 use native.Mathlib.Omega.{arith}
 use lib.Dec.{eqb}
 use borrow.Author.Tests.{eq-eqb, ne-eqb}
-use Rattle.laws.proofs.Cases.{eq-cases, cond-true, cond-false}
+use Rattle.laws.proofs.Cases.{cond-false, cond-true, eq-cases}
 
 -- a value of the function at one of so many numbers
 pub record Reached (f : ℕ → ℕ) (bound value : ℕ) : Type 0 where

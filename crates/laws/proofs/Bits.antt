@@ -1,5 +1,5 @@
 -- Laws of bits: of a byte, then of a list of bytes; read after write at the same and at another place,
--- lengths, bound. Assumes nothing.
+-- lengths, zeros. Assumes nothing.
 use mathlib.Core.Path.{_≡_, refl, sym, ap, _∙_}
 use mathlib.Core.Logic.{_≢_, _⊎_, inl, inr}
 use mathlib.Core.Bool.{Bool, true, false}

@@ -1,5 +1,5 @@
 -- Laws of `part` and `over`: lengths, equations, read after write at the same place, before and after it, one
--- element; and equality of lists of numbers by a test. Assumes nothing.
+-- element; zeros; and equality of lists of numbers by a test. Assumes nothing.
 use mathlib.Core.Path.{_≡_, refl, sym, ap, ap₂, _∙_}
 use mathlib.Core.Logic.{⊎-elim}
 use mathlib.Core.Bool.{Bool, true, false, _&&_}

@@ -1,5 +1,5 @@
 -- What a run of rounds leaves in header, map, bitmap and public blocks: after its last round, and with one
--- more kept round before. Assumes nothing.
+-- more kept round before; and that what it leaves is a drive again. Assumes nothing.
 use mathlib.Core.Path.{_≡_, sym, ap, _∙_, subst}
 use mathlib.Core.Logic.{_≢_, inl, inr}
 use mathlib.Core.Bool.{true, false}

@@ -16,8 +16,8 @@ use Rattle.model.specs.Rounds.{publicStore, mapStores}
 use Rattle.model.specs.Invariants.{bitmapBit}
 use Rattle.model.proofs.Laws.Geometry.{mapAddress-lt, slotStart-lt}
 use Rattle.model.proofs.Laws.Places.{OldPlace}
-use Rattle.model.proofs.Laws.Bitmap.{areaPlace-apart, areaPlace-lt, bitmapBit-block, blockOfBit}
-use Rattle.model.proofs.Laws.Bitmap.{blockOfBit-lt, isAllocated-bit}
+use Rattle.model.proofs.Laws.Bitmap.{areaPlace-lt, bitmapBit-block, blockOfBit, blockOfBit-lt}
+use Rattle.model.proofs.Laws.Bitmap.{isAllocated-bit}
 use Rattle.model.proofs.Laws.PublicMap.{mapEntry-block, mapped, mapEntry-mapped-same}
 use Rattle.model.proofs.Laws.PublicMap.{mapEntry-mapped-other}
 use Rattle.model.proofs.Laws.Stores.{lastAt-nil}
@@ -158,22 +158,3 @@ module _ (g : Geometry) (f : Fits g) (disk : Bytes) (whole : length disk ≡ blo
   bitmapBit-last-other place h ne apart =
       bitmapBit-last place h
       ∙ bitmapBit-withBits-other g f disk whole slot inside (mapEntry g disk number) old place ne apart
-
-  -- the marks, which are bits
-  pub isAllocated-last-new :
-      (mapEntry g disk number ≢ 0 → slotOf g (mapEntry g disk number) ≢ slot) → isAllocated g last slot ≡ true
-  isAllocated-last-new apart = isAllocated-bit g last slot ∙ bitmapBit-last-new apart
-
-  pub isAllocated-last-old :
-      mapEntry g disk number ≢ 0 → isAllocated g last (slotOf g (mapEntry g disk number)) ≡ false
-  isAllocated-last-old ne = isAllocated-bit g last (slotOf g (mapEntry g disk number)) ∙ bitmapBit-last-old ne
-
-  pub isAllocated-last-other :
-      (other : ℕ) → other < g .slots → other ≢ slot →
-      (mapEntry g disk number ≢ 0 → other ≢ slotOf g (mapEntry g disk number)) →
-      isAllocated g last other ≡ isAllocated g disk other
-  isAllocated-last-other other h ne apart =
-      isAllocated-bit g last other
-      ∙ bitmapBit-last-other (areaPlace g other) (areaPlace-lt g f other h) (areaPlace-apart g slot other ne)
-      (λ z. areaPlace-apart g (slotOf g (mapEntry g disk number)) other (apart z))
-      ∙ sym (isAllocated-bit g disk other)

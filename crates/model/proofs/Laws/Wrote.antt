@@ -18,6 +18,7 @@ use Rattle.model.proofs.Laws.Geometry.{geometry-ext}
 use Rattle.model.proofs.Laws.Slots.{nextSlot-lt}
 use Rattle.model.proofs.Laws.Places.{OldPlace, Placed, isPlace-slotStart, old-of-placed}
 use Rattle.model.proofs.Laws.Places.{place-of-isPlace, placed-apart}
+use Rattle.model.proofs.Laws.Bitmap.{areaPlace-apart, areaPlace-lt, isAllocated-bit}
 use Rattle.model.proofs.Laws.Refusals.{accepted-of-refusal, refusal-of-accepted}
 use Rattle.model.proofs.Laws.Paths.{Hides}
 use Rattle.model.proofs.Laws.RoundStores.{afterRound, length-round}
@@ -25,8 +26,7 @@ use Rattle.model.proofs.Laws.Rounds.{entryAt-round, headIn-round, block
 use Rattle.model.proofs.Laws.RoundEffects.{mapEntry-kept, bitmapBit-kept, isAllocated-kept}
 use Rattle.model.proofs.Laws.RoundEffects.{blockAt-kept-start, blockAt-last-start, mapEntry-last-same}
 use Rattle.model.proofs.Laws.RoundEffects.{mapEntry-last-other, bitmapBit-last-new, bitmapBit-last-old}
-use Rattle.model.proofs.Laws.RoundEffects.{bitmapBit-last-other, isAllocated-last-new}
-use Rattle.model.proofs.Laws.RoundEffects.{isAllocated-last-old, isAllocated-last-other}
+use Rattle.model.proofs.Laws.RoundEffects.{bitmapBit-last-other}
 
 -- ---- the whole effect ----
 
@@ -40,13 +40,6 @@ pub record Wrote (g : Geometry) (number : ℕ) (content : Bytes) (last : ℕ) (d
   pub map-same : mapEntry g final number ≡ slotStart g last
   pub map-other :
       (other : ℕ) → other < g .publics → other ≢ number → mapEntry g final other ≡ mapEntry g disk other
-  pub mark-new : isAllocated g final last ≡ true
-  pub mark-old :
-      mapEntry g disk number ≢ 0 → isAllocated g final (slotOf g (mapEntry g disk number)) ≡ false
-  pub mark-other :
-      (slot : ℕ) → slot < g .slots → slot ≢ last →
-      (mapEntry g disk number ≢ 0 → slot ≢ slotOf g (mapEntry g disk number)) →
-      isAllocated g final slot ≡ isAllocated g disk slot
   pub bit-new : bitmapBit g final (areaPlace g last) ≡ true
   pub bit-old :
       mapEntry g disk number ≢ 0 → bitmapBit g final (areaPlace g (slotOf g (mapEntry g disk number))) ≡ false
@@ -85,13 +78,6 @@ module _ (g : Geometry) (f : Fits g) (disk : Bytes) (whole : length disk ≡ blo
             mapEntry-last-same g f disk whole number counted slot inside content sized old hidden hides;
         map-other =
             mapEntry-last-other g f disk whole number counted slot inside content sized old hidden hides;
-        mark-new =
-            isAllocated-last-new g f disk whole number counted slot inside content sized
-            old hidden hides apart;
-        mark-old =
-            isAllocated-last-old g f disk whole number counted slot inside content sized old hidden hides;
-        mark-other =
-            isAllocated-last-other g f disk whole number counted slot inside content sized old hidden hides;
         bit-new =
             bitmapBit-last-new g f disk whole number counted slot inside content sized old hidden hides apart;
         bit-old = bitmapBit-last-old g f disk whole number counted slot inside content sized old hidden hides;
@@ -143,9 +129,6 @@ module _ (g : Geometry) (f : Fits g) (disk : Bytes) (whole : length disk ≡ blo
         map-other = λ other h ne.
             w .map-other other h ne
             ∙ mapEntry-kept g f disk whole number counted slot inside content sized old hidden hides other h;
-        mark-new = w .mark-new;
-        mark-old = rw entry-kept at (w .mark-old);
-        mark-other = λ other h ne apart. w .mark-other other h ne (rw entry-kept apart) ∙ mark-kept other h;
         bit-new = w .bit-new;
         bit-old = rw entry-kept at (w .bit-old);
         bit-other = λ place h ne apart.
@@ -157,6 +140,27 @@ module _ (g : Geometry) (f : Fits g) (disk : Bytes) (whole : length disk ≡ blo
             ∙ blockAt-kept-start g f disk whole number counted slot inside content sized
             old hidden hides other;
       }
+
+-- ---- marks, which are bits ----
+
+module _ {g : Geometry} {number : ℕ} {content : Bytes} {last : ℕ} {disk final : Bytes} (f : Fits g)
+    (wrote : Wrote g number content last disk final) where
+  pub isAllocated-wrote-new : isAllocated g final last ≡ true
+  isAllocated-wrote-new = isAllocated-bit g final last ∙ wrote .bit-new
+
+  pub isAllocated-wrote-old :
+      mapEntry g disk number ≢ 0 → isAllocated g final (slotOf g (mapEntry g disk number)) ≡ false
+  isAllocated-wrote-old ne = isAllocated-bit g final (slotOf g (mapEntry g disk number)) ∙ wrote .bit-old ne
+
+  pub isAllocated-wrote-other :
+      (slot : ℕ) → slot < g .slots → slot ≢ last →
+      (mapEntry g disk number ≢ 0 → slot ≢ slotOf g (mapEntry g disk number)) →
+      isAllocated g final slot ≡ isAllocated g disk slot
+  isAllocated-wrote-other slot h ne apart =
+      isAllocated-bit g final slot
+      ∙ wrote .bit-other (areaPlace g slot) (areaPlace-lt g f slot h) (areaPlace-apart g last slot ne)
+      (λ z. areaPlace-apart g (slotOf g (mapEntry g disk number)) slot (apart z))
+      ∙ sym (isAllocated-bit g disk slot)
 
 -- ---- the drive after it ----
 

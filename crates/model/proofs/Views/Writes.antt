@@ -17,7 +17,8 @@ use Rattle.model.specs.Simulator.{simulatedStores, simulatedWrite}
 use Rattle.model.proofs.Laws.Slots.{slotAfter, slotAfter-round}
 use Rattle.model.proofs.Laws.Places.{Placed, old-of-placed}
 use Rattle.model.proofs.Laws.Refusals.{Accepted, accepted-of-refusal}
-use Rattle.model.proofs.Laws.Wrote.{Wrote, geometryIn-wrote}
+use Rattle.model.proofs.Laws.Wrote.{Wrote, geometryIn-wrote, isAllocated-wrote-new}
+use Rattle.model.proofs.Laws.Wrote.{isAllocated-wrote-old, isAllocated-wrote-other}
 use Rattle.model.proofs.Views.Tracking.{tracked, trackerOf, simulator-ext, getD-entries}
 use Rattle.model.proofs.Views.Answers.{simulatedRounds-is}
 use Rattle.model.proofs.Views.Updates.{entriesFrom-after, allocatedFrom-after}
@@ -73,8 +74,8 @@ module _ (disk : Bytes) (accepted : driveRefusal disk ≡ 0) (number : ℕ)
         (entriesFrom-after g disk final number (slotStart g last) known (wrote .map-same) (wrote .map-other)
         ∙ ap (λ (slot : ℕ). set entries number (slotStart g slot)) (sym slotOfRound-last))
         (allocatedFrom-after g disk final (mapEntry g disk number) last (wrote .inside) old-inside
-        (wrote .mark-new) (wrote .mark-old)
-        (wrote .mark-other)
+        (isAllocated-wrote-new (sound .sized .fits) wrote) (isAllocated-wrote-old (sound .sized .fits) wrote)
+        (isAllocated-wrote-other (sound .sized .fits) wrote)
         ∙ ap₂ (λ (entry slot : ℕ). set
         (cond (eqb entry 0) marks (set marks (slotOf g entry) false)) slot true)
         (sym (getD-entries g disk number known)) (sym slotOfRound-last))

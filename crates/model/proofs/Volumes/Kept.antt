@@ -23,6 +23,9 @@ module _ (g : Geometry) (disk : Bytes) (states : geometryIn disk ≡ g) (accepte
   abbrev after : Bytes
   after = writtenDisk (written disk number content random room offer) disk
 
+  f : Fits g
+  f = fits-of-accepted g disk states accepted
+
   write-keeps-geometry : geometryIn after ≡ g
   write-keeps-geometry =
       write-cases g disk states accepted number content random room offer
@@ -40,7 +43,7 @@ module _ (g : Geometry) (disk : Bytes) (states : geometryIn disk ≡ g) (accepte
       write-cases g disk states accepted number content random room offer
       (λ (made : Written) (final : Bytes). PublicInvariant g final) (λ ne. public)
       (λ run leaves.
-      write-preserves-public g disk (finalDisk g disk run) number (leaves .last) content (leaves .counted)
+      write-preserves-public g f disk (finalDisk g disk run) number (leaves .last) content (leaves .counted)
       public (leaves .wrote))
 
   pub write-keeps-bitmap : PublicInvariant g disk → BitmapInvariant g disk → BitmapInvariant g after
@@ -58,9 +61,6 @@ module _ (g : Geometry) (disk : Bytes) (states : geometryIn disk ≡ g) (accepte
       (λ run leaves.
       let grew = leaves .grew (treeOf g disk) (ghost-of-hiddenInvariant g f disk hidden) in
       hiddenInvariant-of-ghost g f (finalDisk g disk run) (grew .grown) (grew .ghost))
-    where
-      f : Fits g
-      f = fits-of-accepted g disk states accepted
 
 -- a sound drive stays sound
 pub write-keeps-sound :

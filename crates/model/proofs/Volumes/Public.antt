@@ -8,13 +8,13 @@ use native.Mathlib.Omega.{arith}
 use lib.Dec.{eqb}
 use borrow.Author.Tests.{eq-eqb, ne-eqb}
 use Rattle.laws.proofs.Cases.{eq-cases, cond-true, cond-false}
-use Rattle.model.specs.Geometry.{Geometry}
+use Rattle.model.specs.Geometry.{Geometry, Fits}
 use Rattle.model.specs.Blocks.{Bytes, DiskAddress, blockAt}
 use Rattle.model.specs.Layout.{slotStart, slotOf, isAllocated, mapEntry, isPlace}
 use Rattle.model.specs.Invariants.{PublicInvariant}
 use Rattle.model.proofs.Laws.Slots.{slotOf-slotStart}
 use Rattle.model.proofs.Laws.Places.{Place, isPlace-slotStart, place-of-isPlace, placed-apart}
-use Rattle.model.proofs.Laws.Wrote.{Wrote}
+use Rattle.model.proofs.Laws.Wrote.{Wrote, isAllocated-wrote-new, isAllocated-wrote-other}
 
 -- what a number shows: the block at its entry, nothing at 0
 abbrev pub publicValue : Geometry → (disk : Bytes) → (number : ℕ) → Option Bytes
@@ -23,7 +23,7 @@ publicValue g disk number =
 
 -- ---- after a write ----
 
-module _ (g : Geometry) (disk after : Bytes) (number slot : ℕ) (content : Bytes)
+module _ (g : Geometry) (f : Fits g) (disk after : Bytes) (number slot : ℕ) (content : Bytes)
     (counted : number < g .publics) (sound : PublicInvariant g disk)
     (wrote : Wrote g number content slot disk after) where
   -- the slot of a number's place
@@ -50,7 +50,7 @@ module _ (g : Geometry) (disk after : Bytes) (number slot : ℕ) (content : Byte
       (other : ℕ) → other < g .publics → other ≢ number → mapEntry g disk other ≢ 0 →
       isAllocated g after (home other) ≡ true
   mark-kept other h ne p =
-      wrote .mark-other (home other) (place-at other h p .slot-inside) (home-not-new other h p)
+      isAllocated-wrote-other f wrote (home other) (place-at other h p .slot-inside) (home-not-new other h p)
       (home-apart other h ne p)
       ∙ place-at other h p .allocated
 
@@ -69,7 +69,7 @@ module _ (g : Geometry) (disk after : Bytes) (number slot : ℕ) (content : Byte
       same : other ≡ number → isPlace g after (mapEntry g after other) ≡ true
       same e =
           ap (isPlace g after) (ap (mapEntry g after) e ∙ wrote .map-same)
-          ∙ isPlace-slotStart g after slot (wrote .inside) (wrote .mark-new)
+          ∙ isPlace-slotStart g after slot (wrote .inside) (isAllocated-wrote-new f wrote)
 
       different : other ≢ number → isPlace g after (mapEntry g after other) ≡ true
       different ne =

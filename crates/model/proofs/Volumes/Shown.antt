@@ -51,6 +51,9 @@ module _ (g : Geometry) (disk : Bytes) (sound : Sound g disk) (number : ℕ) (co
   abbrev result : Written
   result = written disk number content random room offer
 
+  f : Fits g
+  f = fits-of-accepted g disk (sound .geometry) (sound .accepted)
+
   -- ---- public ----
 
   module _ (h : other < g .publics) where
@@ -70,12 +73,12 @@ module _ (g : Geometry) (disk : Bytes) (sound : Sound g disk) (number : ℕ) (co
           (λ e.
           ap (λ (value : Option Bytes). orElse value blank)
           (ap (publicValue g final) (sym e)
-          ∙ publicValue-same g disk final number (leaves .last) content (leaves .counted)
+          ∙ publicValue-same g f disk final number (leaves .last) content (leaves .counted)
           (sound .public-sound) (leaves .wrote))
           ∙ sym (cond-true content (publicRead disk other blank) (eq-eqb number other e)))
           (λ ne.
           ap (λ (value : Option Bytes). orElse value blank)
-          (publicValue-other g disk final number (leaves .last) content (leaves .counted)
+          (publicValue-other g f disk final number (leaves .last) content (leaves .counted)
           (sound .public-sound) (leaves .wrote) other h (λ z. ne (sym z)))
           ∙ sym (publicRead-shows g disk (sound .geometry) (sound .accepted) other blank sized
           (sound .public-sound) h)
@@ -85,7 +88,7 @@ module _ (g : Geometry) (disk : Bytes) (sound : Sound g disk) (number : ℕ) (co
       public-carried : PublicCarried (doneWrite (offerRefusal g offer) run) final
       public-carried before otherwise e =
           publicRead-shows g final (leaves .geometry) (leaves .accepted) other blank sized
-          (write-preserves-public g disk final number (leaves .last) content (leaves .counted)
+          (write-preserves-public g f disk final number (leaves .last) content (leaves .counted)
           (sound .public-sound) (leaves .wrote)) h
           ∙ value-shown ∙ by (eqb number other)
         where
@@ -111,9 +114,6 @@ module _ (g : Geometry) (disk : Bytes) (sound : Sound g disk) (number : ℕ) (co
     HiddenCarried made final =
         Carries (hiddenRead disk other blank) (hiddenRead final other blank)
         (λ before. cond (isPlaced made) (offeredUnder other before offer) before)
-
-    f : Fits g
-    f = fits-of-accepted g disk (sound .geometry) (sound .accepted)
 
     abbrev tree : Tree
     tree = treeOf g disk

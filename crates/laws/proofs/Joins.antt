@@ -11,7 +11,8 @@ use Rattle.laws.proofs.Cases.{eq-cases}
 -- ---- joined lists ----
 
 pub append-between :
-    {A : Type 0} (xs : List A) (n : A) (ys zs : List A) → (xs ++ (n ∷ [])) ++ (ys ++ zs) ≡ (xs ++ (n ∷ ys)) ++ zs
+    {A : Type 0} (xs : List A) (n : A) (ys zs : List A) →
+    (xs ++ (n ∷ [])) ++ (ys ++ zs) ≡ (xs ++ (n ∷ ys)) ++ zs
 append-between xs n ys zs = append-snoc xs n (ys ++ zs) ∙ sym (append-assoc xs (n ∷ ys) zs)
 
 -- two lists joined of parts of the same lengths

@@ -120,7 +120,8 @@ module _ (g : Geometry) (f : Fits g) (disk : Bytes) (whole : length disk ≡ blo
     (hides : Hides g slot hidden) (choice : PublicChoice) where
   publicStore-stored : Stored (g .blockSize) (blockCount g) (publicStore choice g disk slot content)
   unfolding publicStore
-  publicStore-stored = (rw (publicStore-address choice g disk slot content) (slotStart-lt g slot inside), by choice)
+  publicStore-stored =
+      (rw (publicStore-address choice g disk slot content) (slotStart-lt g slot inside), by choice)
     where
       by : (choice : PublicChoice) → length (publicStore choice g disk slot content .content) ≡ g .blockSize
       by keepPublic = blockAt-whole g f disk whole (slotStart g slot) (slotStart-lt g slot inside)

@@ -149,7 +149,8 @@ module _ (g : Geometry) (f : Fits g) (number : ℕ) (inside : number < g .public
           omega (arith, roundsTo-free most (isAllocated g disk) g slot free) in
           rw (runFrom-last most g number content slot random disk state free)
           (subst (λ (n : ℕ). Ran g number content slot n disk
-          (followedBy (roundTrace writePublic g disk number slot content (part .trace)) (stopped (part .state))))
+          (followedBy (roundTrace writePublic g disk number slot content (part .trace))
+          (stopped (part .state))))
           e
           (last-ran disk (ready .whole) slot (ready .here) (ready .placed) (part .trace) hides free
           (part .state)))

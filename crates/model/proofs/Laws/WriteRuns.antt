@@ -28,7 +28,8 @@ module _ (disk : Bytes) (number : ℕ) (content random : Bytes) (room : ℕ) (of
   good : AcceptedWrite g disk number (length content) (length random) room
   good = accepted-of-write disk number content (length random) room free
 
-  pub ready-of-write : Ready g number (g .slots) disk (headIn disk) random (startState (offeredWrites g offer))
+  pub ready-of-write : Ready g number (g .slots) disk (headIn disk) random
+      (startState (offeredWrites g offer))
   ready-of-write =
       record {
         whole = drive .sized .whole;

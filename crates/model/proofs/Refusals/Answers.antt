@@ -1,5 +1,5 @@
--- A chain of checks answers a list of conditions where each check decides its condition on whatever has passed
--- those before it. Assumes nothing.
+-- A chain of checks answers a list of conditions where each check decides its condition on whatever has
+-- passed those before it. Assumes nothing.
 use mathlib.Core.Path.{_≡_, _∙_}
 use mathlib.Core.Logic.{_⊎_, inl, inr}
 use mathlib.Core.Bool.{true, false}

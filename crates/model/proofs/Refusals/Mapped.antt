@@ -28,7 +28,8 @@ module _ (g : Geometry) (f : Fits g) (disk : Bytes) (v : BitmapInvariant g disk)
   reached-of-allocated index inside h e =
       let slot = slotAfter g (headIn disk) index in
       let l : slot < g .slots = mod-lt (headIn disk + index) (omega arith) in
-      let found = v .mapped (areaPlace g slot) (areaPlace-lt g f slot l) (sym (isAllocated-bit g disk slot) ∙ e) in
+      let found = v .mapped (areaPlace g slot) (areaPlace-lt g f slot l)
+      (sym (isAllocated-bit g disk slot) ∙ e) in
       record {
         at = found .0;
         below = found .1;

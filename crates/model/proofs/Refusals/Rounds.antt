@@ -51,7 +51,8 @@ module _ (g : Geometry) (disk : Bytes) where
       others : (round : ℕ) → 1 ≤ round → round < suc index →
           isAllocated g disk ((headIn disk + round - 1) % g .slots) ≡ true
       others zero h k = absurd (omega arith)
-      others (suc before) h k = ap (isAllocated g disk) (slotAfter-round g (headIn disk) before) ∙ f before (omega arith)
+      others (suc before) h k =
+          ap (isAllocated g disk) (slotAfter-round g (headIn disk) before) ∙ f before (omega arith)
 
   all-of :
       {rounds : ℕ} → HeadFinds g disk rounds → rounds ≡ 0 → (index : ℕ) → index < g .slots →

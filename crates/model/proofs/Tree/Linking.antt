@@ -40,7 +40,8 @@ module _ (g : Geometry) (f : Fits g) (disk after : Bytes) (tree : Tree)
   -- ---- a node of the path ----
 
   -- as it was stored
-  nodeAt-mine : (other level : ℕ) → level < g .height → keyOf g (suc level) other ≡ keyOf g (suc level) number →
+  nodeAt-mine : (other level : ℕ) → level < g .height →
+      keyOf g (suc level) other ≡ keyOf g (suc level) number →
       nodeAt g after new (suc level) other ≡
       linkedNode g number slot level (nodeAt g disk tree (suc level) number)
   nodeAt-mine other level h shared = ⊎-elim

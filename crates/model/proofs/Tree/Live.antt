@@ -84,10 +84,12 @@ module _ (g : Geometry) (f : Fits g) (disk : Bytes) (tree : Tree) (ghost : Ghost
   unfolding isNextDamaged
   isNextDamaged-false [] h = refl
   isNextDamaged-false (next ∷ later) h =
-      isDamaged-walk g disk tree (ghost .links) (next .number) (lt-treeCapacity g f (next .number) (h .0 .number-inside)) f
+      isDamaged-walk g disk tree (ghost .links) (next .number)
+      (lt-treeCapacity g f (next .number) (h .0 .number-inside)) f
 
   pub isBlocked-false :
-      (slot : ℕ) (waiting : List HiddenWrite) → All (GoodWrite g) waiting → isBlocked g disk slot waiting ≡ false
+      (slot : ℕ) (waiting : List HiddenWrite) → All (GoodWrite g) waiting →
+      isBlocked g disk slot waiting ≡ false
   isBlocked-false slot waiting h =
       or-neither (isOwnerDamaged-false slot)
       (and-false-right (not (isLive g disk slot)) (isNextDamaged-false waiting h))

@@ -45,7 +45,8 @@ module _ (g : Geometry) (f : Fits g) (disk : Bytes) (tree : Tree)
   -- a half after which every disk that it leaves has its tree
   abbrev Turns : HiddenHalf → Type 0
   Turns part =
-      (after : Bytes) → StoredBy g slot disk after (part .trace) → Turned g disk after tree state (part .state)
+      (after : Bytes) → StoredBy g slot disk after (part .trace) →
+      Turned g disk after tree state (part .state)
 
   -- a live slot: its owner's path anew, the data kept
   turns-live : isLive g disk slot ≡ true →

@@ -134,7 +134,8 @@ module _ (disk : Bytes) (accepted : driveRefusal disk ≡ 0) (number : ℕ) (con
           accepted-after = driveRefusal-wrote disk accepted _ (ran .wrote);
           geometry-after = geometryIn-wrote disk accepted _ (ran .wrote);
           tracker-after =
-              trackerOf-final disk accepted number known earlier rounds _ (ran .wrote) (good .accepted .in-place)
+              trackerOf-final disk accepted number known earlier rounds _ (ran .wrote)
+              (good .accepted .in-place)
               ∙ sym (simulatorAfter-done (trackerOf disk) call yes);
         }
 

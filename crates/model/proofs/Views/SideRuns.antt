@@ -60,7 +60,8 @@ module _ (g : Geometry) (f : Fits g) (number : ℕ) (content : Bytes) (known : n
           (later _ _ (nextSlot g slot) _ _ _ _
           (agree-apply (shownOf g) (g .blockSize) (blockCount g) (round keepPublic) same)
           (ready-kept g f number known content sized most disk slot random state ready e)
-          (ready-kept g f number known content sized most other slot others stateOther readyOther (mark ∙ e))))
+          (ready-kept g f number known content sized most other slot others stateOther readyOther
+          (mark ∙ e))))
       by (inr e) =
           rw (
             runFrom-last most g number content slot random disk state e,

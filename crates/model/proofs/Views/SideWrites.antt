@@ -72,7 +72,8 @@ module _ (disk other : Bytes) (twins : Twins disk other) (number : ℕ) (content
     ready-other =
         subst (λ (h : Geometry). Ready h number (h .slots) other (headIn disk) others
         (startState (offeredWrites h offerOther))) (sym (geometryIn-twins disk other twins))
-        (rw heads (ready-of-write other number content others room offerOther (sym writeRefusal-twins ∙ free)))
+        (rw heads (ready-of-write other number content others room offerOther
+        (sym writeRefusal-twins ∙ free)))
 
     -- the other run, over the first drive's geometry and from its head
     runOther-is :
@@ -89,7 +90,8 @@ module _ (disk other : Bytes) (twins : Twins disk other) (number : ℕ) (content
     unfolding writeRun
     trace-alike =
         subst (λ (r : Run). TraceSame g (run .trace) (r .trace)) runOther-is
-        (runFrom-alike g (sound .sized .fits) number content (good .accepted .number-inside) (good .accepted .block-sized)
+        (runFrom-alike g (sound .sized .fits) number content (good .accepted .number-inside)
+        (good .accepted .block-sized)
         (g .slots) disk other
         (headIn disk) random others (startState (offeredWrites g offer))
         (startState (offeredWrites g offerOther)) (twins .show-same)

@@ -11,16 +11,16 @@ use Rattle.laws.proofs.Cases.{cond-false, cond-true}
 use Rattle.laws.proofs.Members.{All}
 use Rattle.model.specs.Geometry.{Fits, Geometry, blockCount}
 use Rattle.model.specs.Blocks.{Bytes}
-use Rattle.model.specs.Layout.{isAllocated, mapEntry, nextSlot}
+use Rattle.model.specs.Layout.{isAllocated, nextSlot}
 use Rattle.model.specs.Table.{keepPublic, writePublic}
 use Rattle.model.specs.HiddenHalf.{HiddenHalf, HiddenState, hiddenHalf, rowOf}
 use Rattle.model.specs.Rounds.{stopped, followedBy, roundTrace, runFrom}
 use Rattle.model.specs.Refusals.{roundsTo}
 use Rattle.model.proofs.Laws.Slots.{nextSlot-lt}
-use Rattle.model.proofs.Laws.Places.{OldPlace, Placed, old-of-placed}
+use Rattle.model.proofs.Laws.Places.{Placed}
 use Rattle.model.proofs.Laws.Accepted.{GoodWrite}
 use Rattle.model.proofs.Laws.HiddenHalf.{HidesHalf, hiddenHalf-hides, rowOf-public}
-use Rattle.model.proofs.Laws.RoundStores.{afterRound, length-round}
+use Rattle.model.proofs.Laws.RoundStores.{afterRound, length-round, Round}
 use Rattle.model.proofs.Laws.RoundEffects.{isAllocated-kept}
 use Rattle.model.proofs.Laws.Wrote.{placed-kept}
 use Rattle.model.proofs.Laws.RoundCounts.{OneMore, oneMore-of, roundsTo-ext, roundsTo-taken}
@@ -74,18 +74,27 @@ module _ (g : Geometry) (f : Fits g) (number : ℕ) (counted : number < g .publi
   abbrev now : HiddenHalf
   now = hiddenHalf g disk slot random state
 
-  pub ready-hides : HidesHalf g slot now
+  ready-hides : HidesHalf g slot now
   ready-hides =
       let one : 1 ≤ roundsTo (suc most) (isAllocated g disk) g slot = omega (arith, ready .some-rounds) in
       hiddenHalf-hides g f disk (ready .whole) slot (ready .here) random
       (omega (arith, ready .enough, mul-le-mul-right (g .height * g .blockSize) one)) state (ready .good)
 
+  pub ready-round : Round g disk number slot content (now .trace)
+  ready-round =
+      record {
+        fits = f;
+        whole = ready .whole;
+        counted = counted;
+        inside = ready .here;
+        sized = sized;
+        placed = ready .placed;
+        hides = ready-hides .hides;
+      }
+
   module _ (taken : isAllocated g disk slot ≡ true) where
     abbrev kept : Bytes
     kept = afterRound keepPublic g disk number slot content (now .trace)
-
-    old : OldPlace g (mapEntry g disk number)
-    old = old-of-placed g disk number (ready .placed)
 
     marks :
         roundsTo most (isAllocated g kept) g (nextSlot g slot) ≡
@@ -93,8 +102,7 @@ module _ (g : Geometry) (f : Fits g) (number : ℕ) (counted : number < g .publi
     marks =
         roundsTo-ext most (isAllocated g kept) (isAllocated g disk) g f (nextSlot g slot)
         (nextSlot-lt g slot f)
-        (isAllocated-kept g f disk (ready .whole) number counted slot (ready .here) content sized old
-        (now .trace) (ready-hides .hides))
+        (isAllocated-kept ready-round)
 
     more : OneMore (roundsTo most (isAllocated g disk) g (nextSlot g slot))
     more =
@@ -104,21 +112,15 @@ module _ (g : Geometry) (f : Fits g) (number : ℕ) (counted : number < g .publi
     pub rounds-kept :
         roundsTo (suc most) (isAllocated g disk) g slot ≡
         suc (roundsTo most (isAllocated g kept) g (nextSlot g slot))
-    rounds-kept =
-        roundsTo-taken most (isAllocated g disk) g slot taken ∙ more .one-more ∙ ap suc (sym marks)
+    rounds-kept = roundsTo-taken most (isAllocated g disk) g slot taken ∙ more .one-more ∙ ap suc (sym marks)
 
     pub ready-kept :
         Ready g number most kept (nextSlot g slot) (drop (g .height * g .blockSize) random) (now .state)
     ready-kept =
         record {
-          whole =
-              length-round g f disk (ready .whole) number counted slot (ready .here) content sized old
-              (now .trace) (ready-hides .hides) keepPublic
-              ∙ ready .whole;
+          whole = length-round ready-round keepPublic ∙ ready .whole;
           here = nextSlot-lt g slot f;
-          placed =
-              placed-kept g f disk (ready .whole) number counted slot (ready .here) content sized
-              (ready .placed) (now .trace) (ready-hides .hides);
+          placed = placed-kept ready-round;
           some-rounds = λ e. more .some-rounds (sym marks ∙ e);
           enough =
               let split = ap (λ (n : ℕ). n * (g .height * g .blockSize)) rounds-kept in

@@ -17,7 +17,7 @@ use Rattle.model.specs.Rounds.{publicStore, headerStore, mapStores, roun
 use Rattle.model.specs.Simulator.{addressesFrom, slotAddresses, lastRound}
 use Rattle.model.proofs.Laws.Geometry.{slot-block-lt, rootAddress-lt, slotStart-lt}
 use Rattle.model.proofs.Laws.Entries.{length-setEntry}
-use Rattle.model.proofs.Laws.Places.{OldPlace}
+use Rattle.model.proofs.Laws.Places.{OldPlace, Placed, old-of-placed}
 use Rattle.model.proofs.Laws.Stores.{Stored, addresses-append, length-apply}
 use Rattle.model.proofs.Laws.Paths.{WholeStore, Hides, addressesFrom-suc, blockAt-whole}
 use Rattle.model.proofs.Laws.PublicHalf.{addresses-mapStores}
@@ -114,35 +114,53 @@ abbrev pub afterRound :
 afterRound choice g disk number slot content hidden =
     apply (g .blockSize) (roundTrace choice g disk number slot content hidden) disk
 
-module _ (g : Geometry) (f : Fits g) (disk : Bytes) (whole : length disk ≡ blockCount g * g .blockSize)
-    (number : ℕ) (counted : number < g .publics) (slot : ℕ) (inside : slot < g .slots) (content : Bytes)
-    (sized : length content ≡ g .blockSize) (old : OldPlace g (mapEntry g disk number)) (hidden : Trace)
-    (hides : Hides g slot hidden) (choice : PublicChoice) where
+-- what a round takes: a whole disk of an accepted geometry, a public number with a place or none, a slot, a
+-- block of data, and a hidden half that hides
+pub record Round (g : Geometry) (disk : Bytes) (number slot : ℕ) (content : Bytes) (hidden : Trace) :
+    Type 0 where
+  pub fits : Fits g
+  pub whole : length disk ≡ blockCount g * g .blockSize
+  pub counted : number < g .publics
+  pub inside : slot < g .slots
+  pub sized : length content ≡ g .blockSize
+  pub placed : Placed g disk number
+  pub hides : Hides g slot hidden
+
+pub old-of-round :
+    {g : Geometry} {disk : Bytes} {number slot : ℕ} {content : Bytes} {hidden : Trace} →
+    Round g disk number slot content hidden → OldPlace g (mapEntry g disk number)
+old-of-round {g} {disk} {number} round = old-of-placed g disk number (round .placed)
+
+module _ {g : Geometry} {disk : Bytes} {number slot : ℕ} {content : Bytes} {hidden : Trace}
+    (round : Round g disk number slot content hidden) (choice : PublicChoice) where
   publicStore-stored : Stored (g .blockSize) (blockCount g) (publicStore choice g disk slot content)
   unfolding publicStore
   publicStore-stored =
-      (rw (publicStore-address choice g disk slot content) (slotStart-lt g slot inside), by choice)
+      (rw (publicStore-address choice g disk slot content) (slotStart-lt g slot (round .inside)), by choice)
     where
       by : (choice : PublicChoice) → length (publicStore choice g disk slot content .content) ≡ g .blockSize
-      by keepPublic = blockAt-whole g f disk whole (slotStart g slot) (slotStart-lt g slot inside)
-      by writePublic = sized
+      by keepPublic =
+          blockAt-whole g (round .fits) disk (round .whole) (slotStart g slot)
+          (slotStart-lt g slot (round .inside))
+      by writePublic = round .sized
 
   headerStore-stored : Stored (g .blockSize) (blockCount g) (headerStore g disk slot)
   headerStore-stored = (
     omega arith,
-    length-setEntry 5 (nextSlot g slot) (blockAt (g .blockSize) disk 0) (header-fits g f disk whole)
-        ∙ blockAt-whole g f disk whole 0 (omega arith),
+    length-setEntry 5 (nextSlot g slot) (blockAt (g .blockSize) disk 0)
+        (header-fits g (round .fits) disk (round .whole))
+        ∙ blockAt-whole g (round .fits) disk (round .whole) 0 (omega arith),
   )
 
   hidden-stored : All (Stored (g .blockSize) (blockCount g)) hidden
   hidden-stored =
       stored-of-whole g hidden
       (all-map (HiddenAddress g slot) (λ (a : ℕ). a < blockCount g) (addresses hidden) below
-      (hides-addresses g slot hidden hides)) (hides .whole)
+      (hides-addresses g slot hidden (round .hides))) (round .hides .whole)
     where
       below : (a : ℕ) → HiddenAddress g slot a → a < blockCount g
       below a (inl e) = omega (arith, rootAddress-lt g)
-      below a (inr (place, low, high, e)) = omega (arith, slot-block-lt g slot place inside high)
+      below a (inr (place, low, high, e)) = omega (arith, slot-block-lt g slot place (round .inside) high)
 
   -- every store is of a whole block and inside the disk
   pub round-stored :
@@ -152,10 +170,11 @@ module _ (g : Geometry) (f : Fits g) (disk : Bytes) (whole : length disk ≡ blo
     publicStore-stored,
     all-append (Stored (g .blockSize) (blockCount g)) hidden _ hidden-stored
         (all-append (Stored (g .blockSize) (blockCount g)) (mapStores choice g disk number slot) _
-        (mapStores-stored g f disk whole slot inside number counted old choice) (headerStore-stored, tt)),
+        (mapStores-stored g (round .fits) disk (round .whole) slot (round .inside) number (round .counted)
+        (old-of-round round) choice) (headerStore-stored, tt)),
   )
 
   pub length-round : length (afterRound choice g disk number slot content hidden) ≡ length disk
   length-round =
       length-apply (g .blockSize) (blockCount g)
-      (roundTrace choice g disk number slot content hidden) disk whole round-stored
+      (roundTrace choice g disk number slot content hidden) disk (round .whole) round-stored

@@ -4,25 +4,22 @@
 use mathlib.Core.Path.{_≡_, refl, sym, ap, _∙_}
 use mathlib.Core.Logic.{_≢_, inl, inr}
 use mathlib.Core.List.{[], _∷_, _++_}
-use Prim.Native.Nat.{ℕ, _+_, _*_, _≤_, _<_}
+use Prim.Native.Nat.{ℕ, _+_, _≤_, _<_}
 use native.Mathlib.Omega.{arith}
-use lib.ListN.{length}
 use Rattle.laws.proofs.Members.{all-map}
-use Rattle.model.specs.Geometry.{Geometry, Fits, rootAddress, blockCount}
+use Rattle.model.specs.Geometry.{Geometry, rootAddress, blockCount}
 use Rattle.model.specs.Blocks.{Bytes, DiskAddress, blockAt, entryAt, setEntry}
-use Rattle.model.specs.Layout.{headIn, slotStart, slotOf, nextSlot, mapEntry}
+use Rattle.model.specs.Layout.{headIn, slotStart, slotOf, nextSlot}
 use Rattle.model.specs.Stores.{Store, Trace, addresses}
 use Rattle.model.specs.Table.{PublicChoice}
 use Rattle.model.specs.Rounds.{publicStore, headerStore, mapStores, roundTrace}
 use Rattle.model.proofs.Laws.Entries.{entryAt-setEntry-same, entryAt-setEntry-other, entryAt-header}
 use Rattle.model.proofs.Laws.Slots.{slotOf-slotStart, nextSlot-lt, place-apart, slot-apart}
-use Rattle.model.proofs.Laws.Places.{OldPlace}
 use Rattle.model.proofs.Laws.Stores.{lastAt, lastAt-nil, lastAt-append, lastAt-same, lastAt-other}
 use Rattle.model.proofs.Laws.Stores.{lastAt-outside, blockAt-apply}
-use Rattle.model.proofs.Laws.Paths.{Hides}
 use Rattle.model.proofs.Laws.MapStores.{InFront, mapStores-inFront}
 use Rattle.model.proofs.Laws.RoundStores.{HiddenAddress, hides-addresses, publicStore-address}
-use Rattle.model.proofs.Laws.RoundStores.{afterRound, header-fits, round-stored}
+use Rattle.model.proofs.Laws.RoundStores.{afterRound, header-fits, round-stored, Round, old-of-round}
 
 -- ---- stores apart ----
 
@@ -46,10 +43,8 @@ lastAt-one-same :
     lastAt (x ∷ []) address old ≡ x .content
 lastAt-one-same x address old e = lastAt-same x [] address old e ∙ lastAt-nil address (x .content)
 
-module _ (g : Geometry) (f : Fits g) (disk : Bytes) (whole : length disk ≡ blockCount g * g .blockSize)
-    (number : ℕ) (counted : number < g .publics) (slot : ℕ) (inside : slot < g .slots) (content : Bytes)
-    (sized : length content ≡ g .blockSize) (old : OldPlace g (mapEntry g disk number)) (hidden : Trace)
-    (hides : Hides g slot hidden) (choice : PublicChoice) where
+module _ {g : Geometry} {disk : Bytes} {number slot : ℕ} {content : Bytes} {hidden : Trace}
+    (round : Round g disk number slot content hidden) (choice : PublicChoice) where
   -- the disk after the round
   abbrev after : Bytes
   after = afterRound choice g disk number slot content hidden
@@ -66,8 +61,8 @@ module _ (g : Geometry) (f : Fits g) (disk : Bytes) (whole : length disk ≡ blo
   unfolding roundTrace
   blockAt-parts address =
       blockAt-apply (g .blockSize) (blockCount g)
-      (roundTrace choice g disk number slot content hidden) disk address whole
-      (round-stored g f disk whole number counted slot inside content sized old hidden hides choice)
+      (roundTrace choice g disk number slot content hidden) disk address (round .whole)
+      (round-stored round choice)
       ∙ lastAt-parts (publicStore choice g disk slot content) (headerStore g disk slot) hidden
       (mapStores choice g disk number slot) address (blockAt (g .blockSize) disk address)
 
@@ -77,7 +72,8 @@ module _ (g : Geometry) (f : Fits g) (disk : Bytes) (whole : length disk ≡ blo
   map-apart address h block =
       lastAt-outside (mapStores choice g disk number slot) address block
       (all-map (InFront g) (λ (a : ℕ). address ≢ a) (addresses (mapStores choice g disk number slot))
-      (λ a l e. omega arith) (mapStores-inFront g f disk whole slot inside number counted old choice))
+      (λ a l e. omega arith) (mapStores-inFront g (round .fits) disk (round .whole) slot
+      (round .inside) number (round .counted) (old-of-round round) choice))
 
   hidden-apart :
       (address : DiskAddress) → ((a : DiskAddress) → HiddenAddress g slot a → address ≢ a) → (block : Bytes) →
@@ -85,7 +81,7 @@ module _ (g : Geometry) (f : Fits g) (disk : Bytes) (whole : length disk ≡ blo
   hidden-apart address h block =
       lastAt-outside hidden address block
       (all-map (HiddenAddress g slot) (λ (a : ℕ). address ≢ a) (addresses hidden) h
-      (hides-addresses g slot hidden hides))
+      (hides-addresses g slot hidden (round .hides)))
 
   public-apart :
       (address : DiskAddress) → address ≢ slotStart g slot → (block : Bytes) →
@@ -128,8 +124,7 @@ module _ (g : Geometry) (f : Fits g) (disk : Bytes) (whole : length disk ≡ blo
 
   module _ (other place : ℕ) (low : 1 ≤ place) (high : place ≤ g .height) where
     start-apart : slotStart g other + place ≢ slotStart g slot
-    start-apart e =
-        place-apart g slot other 0 place (omega arith) high (λ z. omega arith) (omega arith)
+    start-apart e = place-apart g slot other 0 place (omega arith) high (λ z. omega arith) (omega arith)
 
     pub blockAt-round-place :
         blockAt (g .blockSize) after (slotStart g other + place) ≡
@@ -186,13 +181,16 @@ module _ (g : Geometry) (f : Fits g) (disk : Bytes) (whole : length disk ≡ blo
   -- the five numbers of the geometry stay
   pub entryAt-round : (i : ℕ) → i < 5 → entryAt i after ≡ entryAt i disk
   entryAt-round i h =
-      entryAt-header (g .blockSize) after i (omega (arith, f .size-low)) ∙ ap (entryAt i) blockAt-round-header
+      entryAt-header (g .blockSize) after i (omega (arith, round .fits .size-low))
+      ∙ ap (entryAt i) blockAt-round-header
       ∙ entryAt-setEntry-other 5 (nextSlot g slot) (blockAt (g .blockSize) disk 0)
-      (header-fits g f disk whole) i (omega arith)
-      ∙ sym (entryAt-header (g .blockSize) disk i (omega (arith, f .size-low)))
+      (header-fits g (round .fits) disk (round .whole)) i (omega arith)
+      ∙ sym (entryAt-header (g .blockSize) disk i (omega (arith, round .fits .size-low)))
 
   pub headIn-round : headIn after ≡ nextSlot g slot
   headIn-round =
-      entryAt-header (g .blockSize) after 5 (omega (arith, f .size-low)) ∙ ap (entryAt 5) blockAt-round-header
-      ∙ entryAt-setEntry-same 5 (nextSlot g slot) (blockAt (g .blockSize) disk 0) (header-fits g f disk whole)
-      (omega (arith, nextSlot-lt g slot f, f .blocks-high))
+      entryAt-header (g .blockSize) after 5 (omega (arith, round .fits .size-low))
+      ∙ ap (entryAt 5) blockAt-round-header
+      ∙ entryAt-setEntry-same 5 (nextSlot g slot) (blockAt (g .blockSize) disk 0)
+      (header-fits g (round .fits) disk (round .whole))
+      (omega (arith, nextSlot-lt g slot (round .fits), round .fits .blocks-high))

@@ -15,20 +15,19 @@ use Rattle.model.specs.Geometry.{Geometry, Fits, blockCount}
 use Rattle.model.specs.Blocks.{Bytes}
 use Rattle.model.specs.Layout.{nextSlot, mapEntry, isAllocated}
 use Rattle.model.specs.Stores.{Trace, apply, addresses}
-use Rattle.model.specs.Table.{PublicChoice, keepPublic, writePublic}
+use Rattle.model.specs.Table.{keepPublic, writePublic}
 use Rattle.model.specs.HiddenHalf.{HiddenState, HiddenHalf, hiddenHalf}
 use Rattle.model.specs.Rounds.{Run, stopped, followedBy, roundTrace, runFrom}
 use Rattle.model.specs.Refusals.{roundsTo, storeCount}
 use Rattle.model.specs.Simulator.{slotAddresses, keptRounds, lastRound}
 use Rattle.model.proofs.Laws.Slots.{slotAfter, slotAfter-next, slotAfter-zero}
-use Rattle.model.proofs.Laws.Places.{Placed, old-of-placed}
 use Rattle.model.proofs.Laws.Stores.{Stored, apply-append, addresses-append, length-addresses}
-use Rattle.model.proofs.Laws.Paths.{Hides}
 use Rattle.model.proofs.Laws.RoundStores.{afterRound, addresses-kept, addresses-last, round-stored}
+use Rattle.model.proofs.Laws.RoundStores.{Round}
 use Rattle.model.proofs.Laws.Wrote.{Wrote, last-wrote, entry-kept, kept-wrote}
 use Rattle.model.proofs.Laws.RoundCounts.{roundsTo-zero, roundsTo-free, length-rounds}
-use Rattle.model.proofs.Laws.Ready.{Ready, ready-hides, ready-kept, rounds-kept, runFrom-kept}
-use Rattle.model.proofs.Laws.Ready.{runFrom-last}
+use Rattle.model.proofs.Laws.Ready.{Ready, ready-kept, rounds-kept, runFrom-kept, runFrom-last}
+use Rattle.model.proofs.Laws.Ready.{ready-round}
 
 -- a run of so many kept rounds and a last one
 pub record Ran (g : Geometry) (number : ℕ) (content : Bytes) (slot earlier : ℕ) (disk : Bytes)
@@ -44,16 +43,7 @@ module _ (g : Geometry) (f : Fits g) (number : ℕ) (inside : number < g .public
     (sized : length content ≡ g .blockSize) where
   -- ---- one round ----
 
-  module _ (disk : Bytes) (whole : length disk ≡ blockCount g * g .blockSize) (slot : ℕ)
-      (here : slot < g .slots) (placed : Placed g disk number) (hidden : Trace)
-      (hides : Hides g slot hidden) where
-    stored-round :
-        (choice : PublicChoice) →
-        All (Stored (g .blockSize) (blockCount g)) (roundTrace choice g disk number slot content hidden)
-    stored-round =
-        round-stored g f disk whole number inside slot here content sized
-        (old-of-placed g disk number placed) hidden hides
-
+  module _ (disk : Bytes) (slot : ℕ) (hidden : Trace) (this : Round g disk number slot content hidden) where
     -- the last round
     last-ran :
         isAllocated g disk slot ≡ false → (state : HiddenState) →
@@ -61,17 +51,16 @@ module _ (g : Geometry) (f : Fits g) (number : ℕ) (inside : number < g .public
         (followedBy (roundTrace writePublic g disk number slot content hidden) (stopped state))
     unfolding keptRounds
     last-ran free state =
-        let e = slotAfter-zero g slot here in
+        let e = slotAfter-zero g slot (this .inside) in
         let round = roundTrace writePublic g disk number slot content hidden in
         record {
           counted = refl;
           listed =
-              ap addresses (append-nil round) ∙ addresses-last g disk number slot content hidden hides
+              ap addresses (append-nil round) ∙ addresses-last g disk number slot content hidden
+              (this .hides)
               ∙ ap (lastRound g number (mapEntry g disk number)) (sym e);
-          stored = rw append-nil (stored-round writePublic);
-          wrote =
-              rw (e, append-nil)
-              (last-wrote g f disk whole number inside slot here content sized placed hidden hides free);
+          stored = rw append-nil (round-stored this writePublic);
+          wrote = rw (e, append-nil) (last-wrote this free);
         }
 
     -- a kept round and then a run
@@ -83,25 +72,25 @@ module _ (g : Geometry) (f : Fits g) (number : ℕ) (inside : number < g .public
         (followedBy (roundTrace keepPublic g disk number slot content hidden) run)
     unfolding keptRounds
     kept-ran earlier run ran =
-        let kept = afterRound keepPublic g disk number slot content hidden in
         let round = roundTrace keepPublic g disk number slot content hidden in
         let same = slotAfter-next g slot earlier in
-        let entry = entry-kept g f disk whole number inside slot here content sized placed hidden hides in
+        let entry = entry-kept this in
         record {
           counted = ap suc (ran .counted);
           listed =
               addresses-append round (run .trace)
-              ∙ ap₂ (λ (xs ys : List ℕ). xs ++ ys) (addresses-kept g disk number slot content hidden hides)
+              ∙ ap₂ (λ (xs ys : List ℕ). xs ++ ys) (addresses-kept g disk number slot content hidden
+              (this .hides))
               (ran .listed)
               ∙ rw (entry, same)
               (append-between (slotAddresses g slot) 0 (keptRounds earlier g (nextSlot g slot))
               (lastRound g number (mapEntry g disk number) (slotAfter g slot (suc earlier))));
           stored =
-              all-append (Stored (g .blockSize) (blockCount g)) round (run .trace) (stored-round keepPublic)
+              all-append (Stored (g .blockSize) (blockCount g)) round (run .trace)
+              (round-stored this keepPublic)
               (ran .stored);
           wrote =
-              kept-wrote g f disk whole number inside slot here content sized placed hidden hides
-              (slotAfter g slot (suc earlier))
+              kept-wrote this (slotAfter g slot (suc earlier))
               (apply (g .blockSize) (round ++ run .trace) disk)
               (rw (← same, apply-append) (ran .wrote));
         }
@@ -122,8 +111,8 @@ module _ (g : Geometry) (f : Fits g) (number : ℕ) (inside : number < g .public
       part : HiddenHalf
       part = hiddenHalf g disk slot random state
 
-      hides : Hides g slot (part .trace)
-      hides = ready-hides g f number inside content sized most disk slot random state ready .hides
+      this : Round g disk number slot content (part .trace)
+      this = ready-round g f number inside content sized most disk slot random state ready
 
       kept : isAllocated g disk slot ≡ true →
           Ran g number content slot (roundsTo (suc most) (isAllocated g disk) g slot - 1) disk
@@ -138,7 +127,7 @@ module _ (g : Geometry) (f : Fits g) (number : ℕ) (inside : number < g .public
           (subst (λ (n : ℕ). Ran g number content slot n disk
           (followedBy (roundTrace keepPublic g disk number slot content (part .trace)) rest))
           (omega (arith, fewer, next .some-rounds))
-          (kept-ran disk (ready .whole) slot (ready .here) (ready .placed) (part .trace) hides _ rest
+          (kept-ran disk slot (part .trace) this _ rest
           (later _ _ _ _ next)))
 
       last : isAllocated g disk slot ≡ false →
@@ -152,8 +141,7 @@ module _ (g : Geometry) (f : Fits g) (number : ℕ) (inside : number < g .public
           (followedBy (roundTrace writePublic g disk number slot content (part .trace))
           (stopped (part .state))))
           e
-          (last-ran disk (ready .whole) slot (ready .here) (ready .placed) (part .trace) hides free
-          (part .state)))
+          (last-ran disk slot (part .trace) this free (part .state)))
 
   pub runFrom-ran : (most : ℕ) → RanBy most
   runFrom-ran zero disk slot random state ready =

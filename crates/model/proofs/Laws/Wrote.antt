@@ -16,12 +16,10 @@ use Rattle.model.specs.Refusals.{driveRefusal}
 use Rattle.model.specs.Invariants.{bitmapBit}
 use Rattle.model.proofs.Laws.Geometry.{geometry-ext}
 use Rattle.model.proofs.Laws.Slots.{nextSlot-lt}
-use Rattle.model.proofs.Laws.Places.{OldPlace, Placed, isPlace-slotStart, old-of-placed}
-use Rattle.model.proofs.Laws.Places.{place-of-isPlace, placed-apart}
+use Rattle.model.proofs.Laws.Places.{Placed, isPlace-slotStart, place-of-isPlace, placed-apart}
 use Rattle.model.proofs.Laws.Bitmap.{areaPlace-apart, areaPlace-lt, isAllocated-bit}
 use Rattle.model.proofs.Laws.Refusals.{accepted-of-refusal, refusal-of-accepted}
-use Rattle.model.proofs.Laws.Paths.{Hides}
-use Rattle.model.proofs.Laws.RoundStores.{afterRound, length-round}
+use Rattle.model.proofs.Laws.RoundStores.{afterRound, length-round, Round}
 use Rattle.model.proofs.Laws.Rounds.{entryAt-round, headIn-round, blockAt-round-start-other}
 use Rattle.model.proofs.Laws.RoundEffects.{mapEntry-kept, bitmapBit-kept, isAllocated-kept}
 use Rattle.model.proofs.Laws.RoundEffects.{blockAt-kept-start, blockAt-last-start, mapEntry-last-same}
@@ -52,56 +50,36 @@ pub record Wrote (g : Geometry) (number : ℕ) (content : Bytes) (last : ℕ) (d
       (slot : ℕ) → slot ≢ last →
       blockAt (g .blockSize) final (slotStart g slot) ≡ blockAt (g .blockSize) disk (slotStart g slot)
 
-module _ (g : Geometry) (f : Fits g) (disk : Bytes) (whole : length disk ≡ blockCount g * g .blockSize)
-    (number : ℕ) (counted : number < g .publics) (slot : ℕ) (inside : slot < g .slots) (content : Bytes)
-    (sized : length content ≡ g .blockSize) (placed : Placed g disk number) (hidden : Trace)
-    (hides : Hides g slot hidden) where
-  old : OldPlace g (mapEntry g disk number)
-  old = old-of-placed g disk number placed
-
+module _ {g : Geometry} {disk : Bytes} {number slot : ℕ} {content : Bytes} {hidden : Trace}
+    (round : Round g disk number slot content hidden) where
   pub last-wrote :
       isAllocated g disk slot ≡ false →
       Wrote g number content slot disk (afterRound writePublic g disk number slot content hidden)
   last-wrote free =
-      let apart = placed-apart g disk number slot placed free in
+      let apart = placed-apart g disk number slot (round .placed) free in
       record {
-        whole = length-round g f disk whole number counted slot inside content sized
-            old hidden hides writePublic ∙ whole;
-        inside = inside;
+        whole = length-round round writePublic ∙ round .whole;
+        inside = round .inside;
         was-free = free;
-        fields =
-            entryAt-round g f disk whole number counted slot inside content sized
-            old hidden hides writePublic;
-        head = headIn-round g f disk whole number counted slot inside content sized
-            old hidden hides writePublic;
-        map-same =
-            mapEntry-last-same g f disk whole number counted slot inside content sized old hidden hides;
-        map-other =
-            mapEntry-last-other g f disk whole number counted slot inside content sized old hidden hides;
-        bit-new =
-            bitmapBit-last-new g f disk whole number counted slot inside content sized old hidden hides apart;
-        bit-old = bitmapBit-last-old g f disk whole number counted slot inside content sized old hidden hides;
-        bit-other =
-            bitmapBit-last-other g f disk whole number counted slot inside content sized old hidden hides;
-        block-new =
-            blockAt-last-start g f disk whole number counted slot inside content sized old hidden hides;
-        block-other =
-            blockAt-round-start-other g f disk whole number counted slot inside content sized
-            old hidden hides writePublic;
+        fields = entryAt-round round writePublic;
+        head = headIn-round round writePublic;
+        map-same = mapEntry-last-same round;
+        map-other = mapEntry-last-other round;
+        bit-new = bitmapBit-last-new round apart;
+        bit-old = bitmapBit-last-old round;
+        bit-other = bitmapBit-last-other round;
+        block-new = blockAt-last-start round;
+        block-other = blockAt-round-start-other round writePublic;
       }
 
   abbrev kept : Bytes
   kept = afterRound keepPublic g disk number slot content hidden
 
-  mark-kept : (other : ℕ) → other < g .slots → isAllocated g kept other ≡ isAllocated g disk other
-  mark-kept = isAllocated-kept g f disk whole number counted slot inside content sized old hidden hides
-
   pub entry-kept : mapEntry g kept number ≡ mapEntry g disk number
-  entry-kept =
-      mapEntry-kept g f disk whole number counted slot inside content sized old hidden hides number counted
+  entry-kept = mapEntry-kept round number (round .counted)
 
   pub placed-kept : Placed g kept number
-  placed-kept = by placed
+  placed-kept = by (round .placed)
     where
       by : Placed g disk number → Placed g kept number
       by (inl e) = inl (entry-kept ∙ e)
@@ -109,7 +87,8 @@ module _ (g : Geometry) (f : Fits g) (disk : Bytes) (whole : length disk ≡ blo
           let place = place-of-isPlace g disk (mapEntry g disk number) e in
           inr (ap (isPlace g kept) (entry-kept ∙ place .entry-is)
           ∙ isPlace-slotStart g kept (slotOf g (mapEntry g disk number)) (place .slot-inside)
-          (mark-kept (slotOf g (mapEntry g disk number)) (place .slot-inside) ∙ place .allocated))
+          (isAllocated-kept round (slotOf g (mapEntry g disk number)) (place .slot-inside)
+          ∙ place .allocated))
 
   -- a kept round before
   pub kept-wrote :
@@ -119,26 +98,20 @@ module _ (g : Geometry) (f : Fits g) (disk : Bytes) (whole : length disk ≡ blo
       record {
         whole = w .whole;
         inside = w .inside;
-        was-free = sym (mark-kept last (w .inside)) ∙ w .was-free;
+        was-free = sym (isAllocated-kept round last (w .inside)) ∙ w .was-free;
         fields = λ i h.
-            w .fields i h
-            ∙ entryAt-round g f disk whole number counted slot inside content sized
-            old hidden hides keepPublic i h;
+            w .fields i h ∙ entryAt-round round keepPublic i h;
         head = w .head;
         map-same = w .map-same;
         map-other = λ other h ne.
-            w .map-other other h ne
-            ∙ mapEntry-kept g f disk whole number counted slot inside content sized old hidden hides other h;
+            w .map-other other h ne ∙ mapEntry-kept round other h;
         bit-new = w .bit-new;
         bit-old = rw entry-kept at (w .bit-old);
         bit-other = λ place h ne apart.
-            w .bit-other place h ne (rw entry-kept apart)
-            ∙ bitmapBit-kept g f disk whole number counted slot inside content sized old hidden hides place h;
+            w .bit-other place h ne (rw entry-kept apart) ∙ bitmapBit-kept round place h;
         block-new = w .block-new;
         block-other = λ other ne.
-            w .block-other other ne
-            ∙ blockAt-kept-start g f disk whole number counted slot inside content sized
-            old hidden hides other;
+            w .block-other other ne ∙ blockAt-kept-start round other;
       }
 
 -- ---- marks, which are bits ----

@@ -15,7 +15,7 @@ use Rattle.model.specs.Rounds.{roundTrace, runFrom}
 use Rattle.model.specs.View.{shownOf}
 use Rattle.model.proofs.Laws.Places.{old-of-placed}
 use Rattle.model.proofs.Laws.RoundCounts.{roundsTo-zero}
-use Rattle.model.proofs.Laws.Ready.{Ready, ready-hides, ready-kept, runFrom-kept, runFrom-last}
+use Rattle.model.proofs.Laws.Ready.{Ready, ready-kept, runFrom-kept, runFrom-last, ready-round}
 use Rattle.model.proofs.Views.Agreement.{none, along-append, agree-apply}
 use Rattle.model.proofs.Views.Shown.{ShowSame, TraceSame}
 use Rattle.model.proofs.Views.Sides.{isAllocated-alike, roundTrace-alike}
@@ -42,8 +42,8 @@ module _ (g : Geometry) (f : Fits g) (number : ℕ) (content : Bytes) (known : n
       round choice =
           roundTrace-alike g f disk other same number slot content known (ready .here) sized choice _ _
           (old-of-placed g disk number (ready .placed))
-          (ready-hides g f number known content sized most disk slot random state ready .hides)
-          (ready-hides g f number known content sized most other slot others stateOther readyOther .hides)
+          (ready-round g f number known content sized most disk slot random state ready .hides)
+          (ready-round g f number known content sized most other slot others stateOther readyOther .hides)
 
       mark : isAllocated g other slot ≡ isAllocated g disk slot
       mark = sym (isAllocated-alike g f disk other same slot (ready .here))

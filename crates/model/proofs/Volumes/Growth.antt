@@ -13,11 +13,10 @@ use Rattle.model.specs.Geometry.{Geometry, Fits}
 use Rattle.model.specs.Blocks.{Bytes}
 use Rattle.model.specs.Table.{PublicChoice}
 use Rattle.model.specs.HiddenHalf.{HiddenState, HiddenHalf, hiddenHalf}
-use Rattle.model.proofs.Laws.Places.{old-of-placed}
 use Rattle.model.proofs.Laws.RoundStores.{afterRound}
 use Rattle.model.proofs.Laws.Rounds.{blockAt-round-root, blockAt-round-place}
 use Rattle.model.proofs.Laws.Rounds.{blockAt-round-place-other}
-use Rattle.model.proofs.Laws.Ready.{Ready, ready-hides}
+use Rattle.model.proofs.Laws.Ready.{Ready, ready-round}
 use Rattle.model.proofs.Tree.Ghost.{Tree, Ghost, valueOf}
 use Rattle.model.proofs.Tree.Stored.{StoredBy}
 use Rattle.model.proofs.Tree.Turns.{Turn, still, places, hiddenHalf-turns}
@@ -84,18 +83,11 @@ module _ (g : Geometry) (f : Fits g) (number : ℕ) (counted : number < g .publi
 
   stored : (choice : PublicChoice) → StoredBy g slot disk (after choice) (part .trace)
   stored choice =
-      let old = old-of-placed g disk number (ready .placed) in
-      let hides = ready-hides g f number counted content sized most disk slot random state ready .hides in
+      let round = ready-round g f number counted content sized most disk slot random state ready in
       record {
-        in-root =
-            blockAt-round-root g f disk (ready .whole) number counted slot (ready .here) content sized old
-            (part .trace) hides choice;
-        in-slot =
-            blockAt-round-place g f disk (ready .whole) number counted slot (ready .here) content sized old
-            (part .trace) hides choice slot;
-        apart = λ other place h ne low high.
-            blockAt-round-place-other g f disk (ready .whole) number counted slot (ready .here) content sized
-            old (part .trace) hides choice other place low high ne;
+        in-root = blockAt-round-root round choice;
+        in-slot = blockAt-round-place round choice slot;
+        apart = λ other place h ne low high. blockAt-round-place-other round choice other place low high ne;
       }
 
   pub round-grew :

@@ -1,0 +1,43 @@
+-- Document 03's data in our terms: geometries, hidden writes and calls; and what our write gives in its terms. A call
+-- with room for so many entries becomes one with a lent list of so many zeros. Assumes nothing.
+use mathlib.Core.List.{List, [], _∷_}
+use mathlib.Core.Option.{Option, none, some}
+use Prim.Native.Nat.{ℕ}
+use lib.ListN.{replicate}
+use Rattle.model.specs as Model
+use Rattle.formal_statements.specs.Disk.{Geometry}
+use Rattle.formal_statements.specs.Rounds.{Offer}
+use Rattle.formal_statements.specs.Calls.{Result}
+use Rattle.formal_statements.specs.Promise.{Call, reads, hiddenReads, writesTo}
+
+abbrev pub geometryOf : Geometry → Model.Geometry.Geometry
+geometryOf g =
+    record { blockSize = g .size; height = g .height; publics = g .publics; hidden = g .hidden; slots = g .slots }
+
+abbrev pub hiddenWriteOf : Offer → Model.HiddenHalf.HiddenWrite
+hiddenWriteOf offer = record { number = offer .number; content = offer .content }
+
+abbrev pub offerOf : Option Offer → Option Model.HiddenHalf.HiddenWrite
+offerOf none = none
+offerOf (some offer) = some (hiddenWriteOf offer)
+
+abbrev pub callOf : Call → Model.Runs.Call
+callOf (reads number blank) = Model.Runs.readPublic number blank
+callOf (hiddenReads number blank) = Model.Runs.readHidden number blank
+callOf (writesTo number content random room offer) =
+    Model.Runs.write number content random (replicate room 0) (offerOf offer)
+
+unfoldable pub callsOf : List Call → List Model.Runs.Call
+callsOf [] = []
+callsOf (call ∷ calls) = callOf call ∷ callsOf calls
+
+-- our write's result in document 03's terms: its answer, rounds, outcome number, addresses, and the disk that it leaves
+abbrev pub resultOf : (disk : List ℕ) → Model.Calls.Written → Result
+resultOf disk result =
+    record {
+      number = result .answer;
+      rounds = result .rounds;
+      outcome = Model.Calls.outcomeNumber (result .outcome);
+      stores = Model.Stores.addresses (result .trace);
+      disk = Model.Calls.writtenDisk result disk;
+    }

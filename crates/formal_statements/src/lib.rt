@@ -1,0 +1,1 @@
+// Document 03's statements, and why ours imply them.

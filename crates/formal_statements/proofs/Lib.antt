@@ -1,2 +1,3 @@
 pub mod Translation
-pub mod Computed
+pub mod Entries
+pub mod Marks

@@ -1,3 +1,4 @@
 pub mod Translation
 pub mod Entries
 pub mod Marks
+pub mod Walks

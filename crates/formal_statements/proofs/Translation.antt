@@ -1,14 +1,18 @@
 -- Document 03's data in our terms: geometries, hidden writes and calls; and what our write gives in its terms. A call
 -- with room for so many entries becomes one with a lent list of so many zeros. Assumes nothing.
+use mathlib.Core.Bool.{not}
 use mathlib.Core.List.{List, [], _∷_}
 use mathlib.Core.Option.{Option, none, some}
 use Prim.Native.Nat.{ℕ}
+use lib.Dec.{eqb}
 use lib.ListN.{replicate}
 use Rattle.model.specs as Model
-use Rattle.formal_statements.specs.Disk.{Geometry}
-use Rattle.formal_statements.specs.Rounds.{Offer}
+use Rattle.formal_statements.specs.Disk.{Geometry, End, found, unmapped, damaged, Walk}
+use Rattle.formal_statements.specs.Rounds.{Offer, Fate, Store, store, Half, half, Written, written}
 use Rattle.formal_statements.specs.Calls.{Result}
 use Rattle.formal_statements.specs.Promise.{Call, reads, hiddenReads, writesTo}
+
+-- ---- document 03's data in our terms ----
 
 abbrev pub geometryOf : Geometry → Model.Geometry.Geometry
 geometryOf g =
@@ -31,7 +35,38 @@ unfoldable pub callsOf : List Call → List Model.Runs.Call
 callsOf [] = []
 callsOf (call ∷ calls) = callOf call ∷ callsOf calls
 
--- our write's result in document 03's terms: its answer, rounds, outcome number, addresses, and the disk that it leaves
+-- ---- our results in document 03's terms ----
+
+abbrev pub endOf : Model.HiddenTree.End → End
+endOf (Model.HiddenTree.found address) = found address
+endOf Model.HiddenTree.unmapped = unmapped
+endOf Model.HiddenTree.damaged = damaged
+
+abbrev pub walkOf : Model.HiddenTree.Walk → Walk
+walkOf walk = record { nodes = walk .nodes; ends = endOf (walk .end) }
+
+unfoldable pub storesOf : Model.Stores.Trace → List Store
+storesOf [] = []
+storesOf (x ∷ xs) = store (x .address) (x .content) ∷ storesOf xs
+
+-- the first hidden write that waits
+abbrev pub waitingOf : List Model.HiddenHalf.HiddenWrite → Option Offer
+waitingOf [] = none
+waitingOf (next ∷ later) = some (record { number = next .number; content = next .content })
+
+abbrev pub fateOf : Model.HiddenHalf.HiddenState → Fate
+fateOf state =
+    record { waiting = waitingOf (state .waiting); isPlaced = not (eqb (state .placed) 0); wasKept = state .metDamage }
+
+abbrev pub halfOf : Model.HiddenHalf.HiddenHalf → Half
+halfOf hidden = half (storesOf (hidden .trace)) (fateOf (hidden .state))
+
+-- a run from a disk on
+abbrev pub writtenOf : (width : ℕ) → (disk : List ℕ) → Model.Rounds.Run → Written
+writtenOf width disk run =
+    written (Model.Stores.apply width (run .trace) disk) (run .rounds) (Model.Stores.addresses (run .trace)) (fateOf (run .state))
+
+-- a write's answer, rounds, outcome number, addresses, and the disk that it leaves
 abbrev pub resultOf : (disk : List ℕ) → Model.Calls.Written → Result
 resultOf disk result =
     record {

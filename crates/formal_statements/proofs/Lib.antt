@@ -2,3 +2,4 @@ pub mod Translation
 pub mod Entries
 pub mod Marks
 pub mod Walks
+pub mod Traces

@@ -1,0 +1,139 @@
+-- The stores of document 03's rounds are ours: those of a path, of blocks written back and of random blocks, and what
+-- stores do to a disk. Assumes nothing.
+use mathlib.Core.Path.{_≡_, refl, sym, ap, ap₂, _∙_}
+use mathlib.Core.Bool.{Bool, true, false}
+use mathlib.Core.List.{List, [], _∷_, _++_}
+use Prim.Native.Nat.{ℕ, zero, suc, _+_, _*_, _-_, _≤_, _<_}
+use native.Mathlib.Omega.{arith}
+use lib.Dec.{eqb}
+use lib.ListN.{length, take, drop}
+use borrow.Author.Tests.{ne-eqb}
+use Rattle.model.specs as Model
+use Rattle.formal_statements.specs.Disk.{pick, withEntry, Geometry, fan, rootBlock, block, stored, slotStart, branchAt, walk}
+use Rattle.formal_statements.specs.Rounds.{Store, store, apply, addresses, nodeWith, nodeStores, pathStores, copied, keptStores, randomStores, dummyStores}
+use Rattle.formal_statements.proofs.Translation.{geometryOf, storesOf, walkOf}
+use Rattle.formal_statements.proofs.Entries.{withEntry-is, block-is, stored-is}
+use Rattle.formal_statements.proofs.Walks.{branchAt-is, walk-is, length-walk}
+
+-- ---- stores ----
+
+pub storesOf-append : (xs ys : Model.Stores.Trace) → storesOf (xs ++ ys) ≡ storesOf xs ++ storesOf ys
+unfolding storesOf
+storesOf-append [] ys = refl
+storesOf-append (x ∷ xs) ys =
+    ap {B = List Store} (λ (rest : List Store). store (x .address) (x .content) ∷ rest) (storesOf-append xs ys)
+
+pub storesOf-one : (x : Model.Stores.Store) → storesOf (x ∷ []) ≡ store (x .address) (x .content) ∷ []
+unfolding storesOf
+storesOf-one x = refl
+
+pub addresses-is : (xs : Model.Stores.Trace) → addresses (storesOf xs) ≡ Model.Stores.addresses xs
+unfolding storesOf addresses Model.Stores.addresses
+addresses-is [] = refl
+addresses-is (x ∷ xs) = ap {B = List ℕ} (λ (rest : List ℕ). x .address ∷ rest) (addresses-is xs)
+
+module _ (g : Geometry) where
+  pub apply-is : (xs : Model.Stores.Trace) (disk : List ℕ) → apply g (storesOf xs) disk ≡ Model.Stores.apply (g .size) xs disk
+  unfolding storesOf apply Model.Stores.apply
+  apply-is [] disk = refl
+  apply-is (x ∷ xs) disk =
+      apply-is xs (stored g (x .address) (x .content) disk)
+      ∙ ap (Model.Stores.apply (g .size) xs) (stored-is g (x .address) (x .content) disk)
+
+  -- ---- blocks written back, and random blocks ----
+
+  copied-is :
+      (disk : List ℕ) (address count : ℕ) → copied g disk address count ≡ storesOf (Model.Paths.keptBlocks (geometryOf g) disk address count)
+  unfolding copied storesOf Model.Paths.keptBlocks
+  copied-is disk address zero = refl
+  copied-is disk address (suc count) =
+      ap₂ {C = List Store} (λ (content : List ℕ) (rest : List Store). store address content ∷ rest) (block-is g disk address)
+      (copied-is disk (suc address) count)
+
+  randomStores-is :
+      (address count : ℕ) (random : List ℕ) →
+      randomStores g address count random ≡ storesOf (Model.Paths.randomBlocks (geometryOf g) address count random)
+  unfolding randomStores storesOf Model.Paths.randomBlocks
+  randomStores-is address zero random = refl
+  randomStores-is address (suc count) random =
+      ap {B = List Store} (λ (rest : List Store). store address (take (g .size) random) ∷ rest)
+      (randomStores-is (suc address) count (drop (g .size) random))
+
+  -- hidden blocks, then the root written back
+  with-root :
+      (hidden : List Store) (trace : Model.Stores.Trace) (disk : List ℕ) → hidden ≡ storesOf trace →
+      hidden ++ (store (rootBlock g) (block g disk (rootBlock g)) ∷ []) ≡
+      storesOf (trace ++ (Model.Paths.keptBlock (geometryOf g) disk (rootBlock g) ∷ []))
+  unfolding storesOf
+  with-root hidden trace disk e =
+      ap₂ (λ (front : List Store) (content : List ℕ). front ++ (store (rootBlock g) content ∷ [])) e (block-is g disk (rootBlock g))
+      ∙ sym (storesOf-append trace (Model.Paths.keptBlock (geometryOf g) disk (rootBlock g) ∷ []))
+
+  pub keptStores-is : (disk : List ℕ) (slot : ℕ) → keptStores g disk slot ≡ storesOf (Model.Paths.writtenBack (geometryOf g) disk slot)
+  keptStores-is disk slot = with-root _ _ disk (copied-is disk (slotStart g slot + 1) (g .height))
+
+  pub dummyStores-is :
+      (disk : List ℕ) (slot : ℕ) (random : List ℕ) →
+      dummyStores g disk slot random ≡ storesOf (Model.Paths.dummyStores (geometryOf g) disk slot random)
+  dummyStores-is disk slot random = with-root _ _ disk (randomStores-is (slotStart g slot + 1) (g .height) random)
+
+  -- ---- a path ----
+
+  module _ (number slot : ℕ) where
+    nodeWith-is :
+        (level : ℕ) (node : List ℕ) →
+        nodeWith g number slot (suc level) node ≡ Model.Paths.linkedNode (geometryOf g) number slot level node
+    unfolding Model.Paths.linkedNode
+    nodeWith-is zero node =
+        withEntry-is (fan g - 1) number (withEntry (branchAt g number 1) (slotStart g slot + g .height) node)
+        ∙ ap (Model.Blocks.setEntry (fan g - 1) number)
+        (withEntry-is (branchAt g number 1) (slotStart g slot + g .height) node
+        ∙ ap (λ (n : ℕ). Model.Blocks.setEntry n (slotStart g slot + g .height) node) (branchAt-is g number 0))
+    nodeWith-is (suc level) node =
+        let e : slotStart g slot + suc (suc level) - 1 ≡ slotStart g slot + suc level = omega arith in
+        let leaf : List ℕ =
+        withEntry (fan g - 1) number (withEntry (branchAt g number 1) (slotStart g slot + g .height) node) in
+        ap (λ (b : Bool). pick b leaf (withEntry (branchAt g number (suc (suc level))) (slotStart g slot + suc (suc level) - 1) node))
+        (ne-eqb (suc (suc level)) 1 (λ z. omega arith))
+        ∙ withEntry-is (branchAt g number (suc (suc level))) (slotStart g slot + suc (suc level) - 1) node
+        ∙ ap₂ (λ (index value : ℕ). Model.Blocks.setEntry index value node) (branchAt-is g number (suc level)) e
+
+    nodeStores-is :
+        (nodes : List (List ℕ)) →
+        nodeStores g number slot (length nodes) nodes ≡ storesOf (Model.Paths.nodeStores (geometryOf g) number slot nodes)
+    unfolding nodeStores storesOf Model.Paths.nodeStores
+    nodeStores-is [] = refl
+    nodeStores-is (node ∷ below) =
+        let e : suc (length below) - 1 ≡ length below = omega arith in
+        let last : Model.Stores.Store =
+        Model.Stores.store (Model.Layout.levelAddress (geometryOf g) slot (suc (length below)))
+        (Model.Paths.linkedNode (geometryOf g) number slot (length below) node) in
+        ap₂ (λ (front : List Store) (content : List ℕ). front ++ (store (slotStart g slot + suc (length below)) content ∷ []))
+        (ap (λ (n : ℕ). nodeStores g number slot n below) e ∙ nodeStores-is below) (nodeWith-is (length below) node)
+        ∙ sym (storesOf-append (Model.Paths.nodeStores (geometryOf g) number slot below) (last ∷ []))
+
+    pathStores-is :
+        (content : List ℕ) (nodes : List (List ℕ)) → 0 < g .height → length nodes ≡ g .height →
+        pathStores g number slot content nodes ≡ storesOf (Model.Paths.pathStores (geometryOf g) number slot content nodes)
+    unfolding storesOf Model.Paths.pathStores
+    pathStores-is content [] h e = absurd (omega arith)
+    pathStores-is content (root ∷ below) h e =
+        let level : g .height - 1 ≡ length below = omega arith in
+        let top : g .height ≡ suc (length below) = sym e in
+        let hidden : Model.Stores.Store = Model.Stores.store (slotStart g slot + g .height) content in
+        let rest : Model.Stores.Store =
+        Model.Stores.store (rootBlock g) (Model.Paths.linkedNode (geometryOf g) number slot (length below) root) in
+        ap₂ (λ (front : List Store) (last : List ℕ). front ++ (store (slotStart g slot + g .height) content ∷ store (rootBlock g) last ∷ []))
+        (ap (λ (n : ℕ). nodeStores g number slot n below) level ∙ nodeStores-is below)
+        (ap (λ (n : ℕ). nodeWith g number slot n root) top ∙ nodeWith-is (length below) root)
+        ∙ sym (storesOf-append (Model.Paths.nodeStores (geometryOf g) number slot below) (hidden ∷ rest ∷ []))
+
+    -- a number's current path
+    pub currentPath-is :
+        (disk content : List ℕ) → Model.Geometry.Fits (geometryOf g) →
+        pathStores g number slot content (walk g disk number .nodes) ≡
+        storesOf (Model.Paths.currentPath (geometryOf g) disk number slot content)
+    currentPath-is disk content f =
+        ap (λ (nodes : List (List ℕ)). pathStores g number slot content nodes) (ap (λ w. w .nodes) (walk-is g disk number f))
+        ∙ pathStores-is content (Model.HiddenTree.walk (geometryOf g) disk number .nodes) (omega (arith, f .height-low))
+        (length-walk (geometryOf g) disk number f)

@@ -3,3 +3,4 @@ pub mod Entries
 pub mod Marks
 pub mod Walks
 pub mod Traces
+pub mod Halves

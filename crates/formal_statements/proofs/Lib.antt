@@ -4,3 +4,4 @@ pub mod Marks
 pub mod Walks
 pub mod Traces
 pub mod Halves
+pub mod Rounds

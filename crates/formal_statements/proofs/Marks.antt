@@ -102,6 +102,9 @@ module _ (g : Geometry) (f : Model.Geometry.Fits (geometryOf g)) (slot : ℕ) wh
             over-one disk at (byte - power) (inside-of-marked e) ∙ sym (ap (set disk at) (withBit-clear bit byte e))
         by false false e h = sym (ap (set disk at) (withBit-clear-already bit byte e) ∙ set-getD disk at 0)
 
+    pub bitByte-lt : bitBlock g slot * g .size + g .size ≤ length disk → bitByte g slot < length disk
+    bitByte-lt h = omega (arith, bitByte-is, bitPlace-byte-lt (geometryOf g) f slot)
+
     -- the block of the changed bit
     pub block-marked-is :
         (isSet : Bool) → (isSet ≡ true → bitByte g slot < length disk) →
@@ -122,8 +125,5 @@ module _ (g : Geometry) (f : Model.Geometry.Fits (geometryOf g)) (slot : ℕ) wh
     marked-true-is h =
         over-part-set (bitBlock g slot * g .size) (g .size) (Model.Layout.bitPlace (geometryOf g) slot / 8) _ disk
         (bitPlace-byte-lt (geometryOf g) f slot) h
-        ∙ sym (marked-is true (λ e. omega (arith, bitByte-is, bitPlace-byte-lt (geometryOf g) f slot))
+        ∙ sym (marked-is true (λ e. bitByte-lt h)
         ∙ ap₂ (set disk) bitByte-is (ap₂ (λ (at byte : ℕ). Laws.Bits.withBit at true byte) bitPlace-is byte-is))
-
-    pub length-marked : (isSet : Bool) → (isSet ≡ true → bitByte g slot < length disk) → length (marked g slot isSet disk) ≡ length disk
-    length-marked isSet inside = ap length (marked-is isSet inside) ∙ length-set disk (bitByte g slot) _

@@ -5,3 +5,5 @@ pub mod Walks
 pub mod Traces
 pub mod Halves
 pub mod Rounds
+pub mod Refusals
+pub mod CallRefusals

@@ -1,0 +1,211 @@
+-- Refusals 4 to 12 of document 03, nested choices, are ours, chains of checks, on a drive that refusals 1 to 3 do not
+-- meet. Assumes nothing.
+use mathlib.Core.Path.{_≡_, refl, sym, ap, ap₂, _∙_, subst}
+use mathlib.Core.Bool.{Bool, true, false, cond, not, _&&_, _||_}
+use mathlib.Core.List.{List, [], _∷_, _++_}
+use Prim.Native.Nat.{ℕ, zero, suc, _+_, _*_, _%_}
+use native.Mathlib.Omega.{arith}
+use lib.Dec.{ltb, leb, eqb}
+use lib.ListN.{length}
+use borrow.Author.Tests.{ne-eqb}
+use Rattle.laws.specs as Laws
+use Rattle.model.specs as Model
+use Rattle.model.proofs.Laws.Refusals.{accepted-of-refusal, after-drive-pass}
+use Rattle.formal_statements.specs.Disk.{pick, Geometry, geometryIn, headIn, mapEntry, isMarked, isPublicBlock, slotOf, Walk, walk}
+use Rattle.formal_statements.specs.Calls.{diskFault, isPlaced, publicFault, roundsTo, writeFault, offerFault, endFault, hiddenFault}
+use Rattle.formal_statements.proofs.Translation.{geometryOf, endOf}
+use Rattle.formal_statements.proofs.Entries.{pick-is, entry-is, geometryIn-is, mapEntry-is}
+use Rattle.formal_statements.proofs.Marks.{isMarked-is}
+use Rattle.formal_statements.proofs.Walks.{walk-is}
+use Rattle.formal_statements.proofs.Refusals.{diskFault-is}
+
+-- ---- chains over any tests ----
+
+place-chain :
+    (isPast isUnfit isGood : Bool) →
+    _≡_ {A = ℕ} (pick isPast 4 (pick isUnfit 5 (pick isGood 0 6))) (cond isPast 4 (cond isUnfit 5 (cond (not isGood) 6 0)))
+place-chain true isUnfit isGood = refl
+place-chain false true isGood = refl
+place-chain false false true = refl
+place-chain false false false = refl
+
+write-chain :
+    (isPast isUnfit isGood isFull isShort isSmall : Bool) →
+    _≡_ {A = ℕ}
+    (pick (not (eqb (pick isPast 4 (pick isUnfit 5 (pick isGood 0 6))) 0)) (pick isPast 4 (pick isUnfit 5 (pick isGood 0 6)))
+    (pick isFull 7 (pick isShort 8 (pick isSmall 9 0))))
+    (cond isPast 4 (cond isUnfit 5 (cond (not isGood) 6 (cond isFull 7 (cond isShort 8 (cond isSmall 9 0))))))
+write-chain true isUnfit isGood isFull isShort isSmall = refl
+write-chain false true isGood isFull isShort isSmall = refl
+write-chain false false false isFull isShort isSmall = refl
+write-chain false false true true isShort isSmall = refl
+write-chain false false true false true isSmall = refl
+write-chain false false true false false true = refl
+write-chain false false true false false false = refl
+
+offer-chain :
+    (isPast isFit : Bool) → _≡_ {A = ℕ} (pick isPast 10 (pick isFit 0 11)) (cond isPast 10 (cond (not isFit) 11 0))
+offer-chain true isFit = refl
+offer-chain false true = refl
+offer-chain false false = refl
+
+hidden-chain :
+    (isPast isFit : Bool) (end : Model.HiddenTree.End) →
+    _≡_ {A = ℕ}
+    (pick (not (eqb (pick isPast 10 (pick isFit 0 11)) 0)) (pick isPast 10 (pick isFit 0 11)) (endFault (endOf end)))
+    (cond isPast 10 (cond (not isFit) 11 (cond (Model.HiddenTree.isDamaged end) 12 0)))
+hidden-chain true isFit end = refl
+hidden-chain false false end = refl
+hidden-chain false true (Model.HiddenTree.found address) = refl
+hidden-chain false true Model.HiddenTree.unmapped = refl
+hidden-chain false true Model.HiddenTree.damaged = refl
+
+-- ---- rounds ----
+
+module _ (g : Geometry) (f : Model.Geometry.Fits (geometryOf g)) (disk : List ℕ) where
+  roundsTo-is :
+      (most slot : ℕ) →
+      roundsTo most g disk slot ≡ Model.Refusals.roundsTo most (Model.Layout.isAllocated (geometryOf g) disk) (geometryOf g) slot
+  unfolding roundsTo Model.Refusals.roundsTo
+  roundsTo-is zero slot = refl
+  roundsTo-is (suc most) slot =
+      ap₂ (λ (b : Bool) (rounds : ℕ). pick b (pick (eqb rounds 0) 0 (suc rounds)) 1) (isMarked-is g f slot disk)
+      (roundsTo-is most ((slot + 1) % g .slots))
+      ∙ ap (λ (n : ℕ). pick (Model.Layout.isAllocated (geometryOf g) disk slot) n 1) (more rest)
+      ∙ pick-is (Model.Layout.isAllocated (geometryOf g) disk slot) (Model.Refusals.oneMore rest) 1
+    where
+      rest : ℕ
+      rest =
+          Model.Refusals.roundsTo most (Model.Layout.isAllocated (geometryOf g) disk) (geometryOf g)
+          (Model.Layout.nextSlot (geometryOf g) slot)
+
+      more : (rounds : ℕ) → pick (eqb rounds 0) 0 (suc rounds) ≡ Model.Refusals.oneMore rounds
+      more zero = refl
+      more (suc rounds) = ap (λ (b : Bool). pick b 0 (suc (suc rounds))) (ne-eqb (suc rounds) 0 (λ z. omega arith))
+
+  -- ---- public calls ----
+
+  -- 4 to 6, once the drive is accepted
+  abbrev placeFault : (number size : ℕ) → ℕ
+  placeFault number size =
+      pick (leb (g .publics) number) 4
+      (pick (not (eqb size (g .size))) 5 (pick (eqb (mapEntry g disk number) 0 || isPlaced g disk number) 0 6))
+
+  isPlace-is :
+      (number : ℕ) →
+      (eqb (mapEntry g disk number) 0 || isPlaced g disk number) ≡
+      (eqb (Model.Layout.mapEntry (geometryOf g) disk number) 0 ||
+      Model.Layout.isPlace (geometryOf g) disk (Model.Layout.mapEntry (geometryOf g) disk number))
+  unfolding Model.Layout.isPlace Model.Layout.isSlotBlock
+  isPlace-is number =
+      let entry = Model.Layout.mapEntry (geometryOf g) disk number in
+      ap (λ (n : ℕ). eqb n 0 || isPublicBlock g n && isMarked g disk (slotOf g n)) (mapEntry-is g disk number f)
+      ∙ ap (λ (b : Bool). eqb entry 0 || isPublicBlock g entry && b) (isMarked-is g f (slotOf g entry) disk)
+
+  placeFault-is :
+      (number size : ℕ) → placeFault number size ≡ Laws.Checks.firstOf (Model.Refusals.placeChecks (geometryOf g) disk number size)
+  unfolding Model.Refusals.placeChecks Laws.Checks.firstOf
+  placeFault-is number size =
+      let entry = Model.Layout.mapEntry (geometryOf g) disk number in
+      ap (λ (b : Bool). pick (leb (g .publics) number) 4 (pick (not (eqb size (g .size))) 5 (pick b 0 6))) (isPlace-is number)
+      ∙ place-chain (leb (g .publics) number) (not (eqb size (g .size)))
+      (eqb entry 0 || Model.Layout.isPlace (geometryOf g) disk entry)
+
+  -- 7 to 9, by the rounds and the map entry
+  abbrev roundFault : (random room rounds entry : ℕ) → ℕ
+  roundFault random room rounds entry =
+      pick (eqb rounds 0) 7
+      (pick (ltb random (rounds * g .height * g .size)) 8
+      (pick (ltb room (rounds * (g .height + 3) + pick (eqb entry 0) 2 3)) 9 0))
+
+  writeFault-is :
+      (number size random room : ℕ) →
+      pick (not (eqb (placeFault number size) 0)) (placeFault number size)
+      (roundFault random room (roundsTo (g .slots) g disk (headIn disk)) (mapEntry g disk number)) ≡
+      Laws.Checks.firstOf
+      (Model.Refusals.placeChecks (geometryOf g) disk number size ++
+      Model.Refusals.roundChecks (geometryOf g) disk number random room)
+  unfolding Model.Refusals.placeChecks Model.Refusals.roundChecks Laws.Checks.firstOf
+  writeFault-is number size random room =
+      let entry = Model.Layout.mapEntry (geometryOf g) disk number in
+      let rounds = Model.Refusals.roundCount (geometryOf g) disk in
+      let unfit = not (eqb size (g .size)) in
+      let good = eqb entry 0 || Model.Layout.isPlace (geometryOf g) disk entry in
+      let count : roundsTo (g .slots) g disk (headIn disk) ≡ rounds =
+      ap (roundsTo (g .slots) g disk) (entry-is 5 disk) ∙ roundsTo-is (g .slots) (Model.Layout.headIn disk) in
+      ap₂ (λ (b : Bool) (later : ℕ).
+      pick (not (eqb (pick (leb (g .publics) number) 4 (pick unfit 5 (pick b 0 6))) 0))
+      (pick (leb (g .publics) number) 4 (pick unfit 5 (pick b 0 6))) later)
+      (isPlace-is number) (ap₂ (roundFault random room) count (mapEntry-is g disk number f))
+      ∙ write-chain (leb (g .publics) number) unfit good (eqb rounds 0) (ltb random (rounds * g .height * g .size))
+      (ltb room (rounds * (g .height + 3) + pick (eqb entry 0) 2 3))
+      ∙ ap (λ (n : ℕ).
+      cond (leb (g .publics) number) 4 (cond unfit 5 (cond (not good) 6
+      (cond (eqb rounds 0) 7 (cond (ltb random (rounds * g .height * g .size)) 8
+      (cond (ltb room (rounds * (g .height + 3) + n)) 9 0)))))) (pick-is (eqb entry 0) 2 3)
+
+  -- ---- hidden calls ----
+
+  pub offerFault-is :
+      (number : ℕ) (content : List ℕ) →
+      offerFault g number content ≡ Model.Refusals.hiddenWriteRefusal (geometryOf g) number content
+  unfolding Model.Refusals.hiddenWriteRefusal Model.Refusals.hiddenChecks Laws.Checks.firstOf
+  offerFault-is number content = offer-chain (leb (g .hidden) number) (eqb (length content) (g .size))
+
+  hiddenFault-is :
+      (number : ℕ) (blank : List ℕ) →
+      pick (not (eqb (offerFault g number blank) 0)) (offerFault g number blank) (endFault (walk g disk number .ends)) ≡
+      Laws.Checks.firstOf
+      (Model.Refusals.hiddenChecks (geometryOf g) number (length blank) ++ Model.Refusals.walkChecks (geometryOf g) disk number)
+  unfolding Model.Refusals.hiddenChecks Model.Refusals.walkChecks Laws.Checks.firstOf
+  hiddenFault-is number blank =
+      ap (λ (w : Walk). pick (not (eqb (offerFault g number blank) 0)) (offerFault g number blank) (endFault (w .ends)))
+      (walk-is g disk number f)
+      ∙ hidden-chain (leb (g .hidden) number) (eqb (length blank) (g .size)) (Model.HiddenTree.walk (geometryOf g) disk number .end)
+
+-- ---- on an accepted drive ----
+
+module _ (disk : List ℕ) (accepted : Model.Refusals.driveRefusal disk ≡ 0) where
+  pub fits-of-accepted : Model.Geometry.Fits (geometryOf (geometryIn disk))
+  fits-of-accepted = subst Model.Geometry.Fits (sym (geometryIn-is disk)) (accepted-of-refusal disk accepted .sized .fits)
+
+  -- a call's checks after the drive's
+  after-drive : (later : ℕ) → pick (not (eqb (diskFault disk) 0)) (diskFault disk) later ≡ later
+  after-drive later = ap (λ (n : ℕ). pick (not (eqb n 0)) n later) (diskFault-is disk ∙ accepted)
+
+  pub publicFault-accepted :
+      (number : ℕ) (blank : List ℕ) → publicFault disk number blank ≡ Model.Refusals.publicReadRefusal disk number blank
+  unfolding Model.Refusals.publicReadRefusal
+  publicFault-accepted number blank =
+      after-drive (placeFault (geometryIn disk) fits-of-accepted disk number (length blank))
+      ∙ placeFault-is (geometryIn disk) fits-of-accepted disk number (length blank)
+      ∙ ap (λ (g : Model.Geometry.Geometry). Laws.Checks.firstOf (Model.Refusals.placeChecks g disk number (length blank)))
+      (geometryIn-is disk)
+      ∙ sym (after-drive-pass disk (Model.Refusals.placeChecks (Model.Layout.geometryIn disk) disk number (length blank)) accepted)
+
+  pub writeFault-accepted :
+      (number : ℕ) (content : List ℕ) (random room : ℕ) →
+      writeFault disk number content random room ≡ Model.Refusals.writeRefusal disk number content random room
+  unfolding Model.Refusals.writeRefusal
+  writeFault-accepted number content random room =
+      let g = geometryIn disk in
+      let f = fits-of-accepted in
+      ap (λ (n : ℕ). pick (not (eqb n 0)) n
+      (roundFault g f disk random room (roundsTo (g .slots) g disk (headIn disk)) (mapEntry g disk number)))
+      (after-drive (placeFault g f disk number (length content)))
+      ∙ writeFault-is g f disk number (length content) random room
+      ∙ ap (λ (g : Model.Geometry.Geometry). Laws.Checks.firstOf
+      (Model.Refusals.placeChecks g disk number (length content) ++ Model.Refusals.roundChecks g disk number random room))
+      (geometryIn-is disk)
+      ∙ sym (after-drive-pass disk _ accepted)
+
+  pub hiddenFault-accepted :
+      (number : ℕ) (blank : List ℕ) → hiddenFault disk number blank ≡ Model.Refusals.hiddenReadRefusal disk number blank
+  unfolding Model.Refusals.hiddenReadRefusal
+  hiddenFault-accepted number blank =
+      let g = geometryIn disk in
+      after-drive (pick (not (eqb (offerFault g number blank) 0)) (offerFault g number blank) (endFault (walk g disk number .ends)))
+      ∙ hiddenFault-is g fits-of-accepted disk number blank
+      ∙ ap (λ (g : Model.Geometry.Geometry). Laws.Checks.firstOf
+      (Model.Refusals.hiddenChecks g number (length blank) ++ Model.Refusals.walkChecks g disk number)) (geometryIn-is disk)
+      ∙ sym (after-drive-pass disk _ accepted)

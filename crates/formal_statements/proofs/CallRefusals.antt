@@ -60,6 +60,14 @@ hidden-chain false true (Model.HiddenTree.found address) = refl
 hidden-chain false true Model.HiddenTree.unmapped = refl
 hidden-chain false true Model.HiddenTree.damaged = refl
 
+-- ---- 10 and 11 ----
+
+pub offerFault-is :
+    (g : Geometry) (number : ℕ) (content : List ℕ) →
+    offerFault g number content ≡ Model.Refusals.hiddenWriteRefusal (geometryOf g) number content
+unfolding Model.Refusals.hiddenWriteRefusal Model.Refusals.hiddenChecks Laws.Checks.firstOf
+offerFault-is g number content = offer-chain (leb (g .hidden) number) (eqb (length content) (g .size))
+
 -- ---- rounds ----
 
 module _ (g : Geometry) (f : Model.Geometry.Fits (geometryOf g)) (disk : List ℕ) where
@@ -145,12 +153,6 @@ module _ (g : Geometry) (f : Model.Geometry.Fits (geometryOf g)) (disk : List �
       (cond (ltb room (rounds * (g .height + 3) + n)) 9 0)))))) (pick-is (eqb entry 0) 2 3)
 
   -- ---- hidden calls ----
-
-  pub offerFault-is :
-      (number : ℕ) (content : List ℕ) →
-      offerFault g number content ≡ Model.Refusals.hiddenWriteRefusal (geometryOf g) number content
-  unfolding Model.Refusals.hiddenWriteRefusal Model.Refusals.hiddenChecks Laws.Checks.firstOf
-  offerFault-is number content = offer-chain (leb (g .hidden) number) (eqb (length content) (g .size))
 
   hiddenFault-is :
       (number : ℕ) (blank : List ℕ) →

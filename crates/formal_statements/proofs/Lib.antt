@@ -7,3 +7,4 @@ pub mod Halves
 pub mod Rounds
 pub mod Refusals
 pub mod CallRefusals
+pub mod Calls

@@ -8,3 +8,5 @@ pub mod Rounds
 pub mod Refusals
 pub mod CallRefusals
 pub mod Calls
+pub mod Formats
+pub mod Views

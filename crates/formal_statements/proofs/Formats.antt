@@ -1,0 +1,54 @@
+-- Formatting of document 03 is ours. Assumes nothing.
+use mathlib.Core.Path.{_≡_, refl, sym, ap, ap₂, _∙_}
+use mathlib.Core.Bool.{Bool, cond}
+use mathlib.Core.List.{List, [], _∷_, _++_, append-assoc}
+use Prim.Native.Nat.{ℕ, zero, suc, _+_, _*_, _-_}
+use native.Mathlib.Nat.{suc-mul, zero-add}
+use native.Mathlib.Omega.{arith}
+use lib.Dec.{eqb}
+use lib.ListN.{length, drop, replicate, length-append, length-replicate, replicate-append-replicate}
+use Rattle.laws.specs as Laws
+use Rattle.laws.proofs.Lists.{over-is}
+use Rattle.model.specs as Model
+use Rattle.model.proofs.Laws.Entries.{length-packed}
+use Rattle.model.proofs.Laws.Refusals.{sized-of-refusal}
+use Rattle.formal_statements.specs.Disk.{pick, little, Geometry, areaStart}
+use Rattle.formal_statements.specs.Calls.{headerFor, formatFault, formatted}
+use Rattle.formal_statements.proofs.Translation.{geometryOf}
+use Rattle.formal_statements.proofs.Refusals.{formatFault-is}
+
+module _ (g : Geometry) (f : Model.Geometry.Fits (geometryOf g)) where
+  header-is : headerFor g ≡ Model.Calls.headerBlock (geometryOf g)
+  unfolding little Model.Calls.headerBlock Model.Blocks.packed Laws.Numbers.littleEndian
+  header-is =
+      let e : 4 + (g .size - 24) ≡ g .size - 20 = omega arith in
+      ap (λ (zeros : List ℕ).
+      little 4 (g .size) ++ little 4 (g .height) ++ little 4 (g .publics) ++ little 4 (g .hidden) ++ little 4 (g .slots) ++ zeros)
+      (ap (λ (n : ℕ). replicate n 0) (sym e) ∙ sym (replicate-append-replicate 4 (g .size - 24) 0))
+
+  length-front : length (Model.Calls.freshFront (geometryOf g)) ≡ areaStart g * g .size
+  unfolding Model.Calls.freshFront Model.Calls.headerBlock
+  length-front =
+      let header = g .size ∷ g .height ∷ g .publics ∷ g .hidden ∷ g .slots ∷ 0 ∷ [] in
+      let e : areaStart g ≡ suc (areaStart g - 1) = omega arith in
+      let total = ap (λ (n : ℕ). n * g .size) e ∙ suc-mul (areaStart g - 1) (g .size) in
+      simp (length-append, length-packed, length-replicate) (omega arith)
+
+  front-is :
+      (disk : List ℕ) →
+      headerFor g ++ replicate ((areaStart g - 1) * g .size) 0 ++ drop (areaStart g * g .size) disk ≡
+      Laws.Lists.over 0 (Model.Calls.freshFront (geometryOf g)) disk
+  unfolding Model.Calls.freshFront
+  front-is disk =
+      ap₂ (λ (header : List ℕ) (n : ℕ). header ++ replicate ((areaStart g - 1) * g .size) 0 ++ drop n disk) header-is
+      (sym (zero-add _ ∙ length-front))
+      ∙ sym (over-is 0 (Model.Calls.freshFront (geometryOf g)) disk)
+
+pub formatted-is :
+    (disk : List ℕ) (g : Geometry) → formatFault disk g ≡ 0 → formatted disk g ≡ Model.Calls.formatted disk (geometryOf g)
+unfolding Model.Calls.formatted
+formatted-is disk g e =
+    let z : Model.Refusals.formatRefusal disk (geometryOf g) ≡ 0 = sym (formatFault-is disk g) ∙ e in
+    ap (λ (n : ℕ). pick (eqb n 0) (headerFor g ++ replicate ((areaStart g - 1) * g .size) 0 ++ drop (areaStart g * g .size) disk) disk) e
+    ∙ front-is g (sized-of-refusal (length disk) (geometryOf g) z .fits) disk
+    ∙ ap (λ (n : ℕ). cond (eqb n 0) (Laws.Lists.over 0 (Model.Calls.freshFront (geometryOf g)) disk) disk) (sym z)

@@ -10,3 +10,5 @@ pub mod CallRefusals
 pub mod Calls
 pub mod Formats
 pub mod Views
+pub mod Runs
+pub mod ReadAfterWrite

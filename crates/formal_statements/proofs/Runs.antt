@@ -1,0 +1,164 @@
+-- Lists of document 03's calls on drives that stay accepted are ours: the disk that they leave, what is seen, and what was
+-- last placed under a number. Assumes nothing.
+use mathlib.Core.Path.{_≡_, refl, sym, ap, ap₂, _∙_}
+use mathlib.Core.Bool.{Bool, true, false, cond, _&&_}
+use mathlib.Core.List.{List, [], _∷_, _++_, append-nil}
+use mathlib.Core.Option.{Option, none, some}
+use Prim.Native.Nat.{ℕ, _+_}
+use native.Mathlib.Nat.{zero-add}
+use lib.Dec.{eqb}
+use lib.ListN.{length, take, drop, replicate, length-replicate}
+use lib.Seq.{take-at}
+use Rattle.laws.specs as Laws
+use Rattle.laws.proofs.Lists.{over-is}
+use Rattle.model.specs as Model
+use Rattle.model.proofs.Laws.Stores.{length-addresses}
+use Rattle.formal_statements.specs.Disk.{pick}
+use Rattle.formal_statements.specs.Rounds.{Offer}
+use Rattle.formal_statements.specs.Calls.{Result, write, publicFault, publicRead}
+use Rattle.formal_statements.specs.Promise.{Call, reads, hiddenReads, writesTo, afterOne, diskAfter, Seen, seenBy, seen, viewOf, publicBy, hiddenBy, offeredTo, lastPublic, lastHidden, orBlank, Shape, shapeOf, shapes}
+use Rattle.formal_statements.proofs.Translation.{offerOf, callOf, callsOf, resultOf}
+use Rattle.formal_statements.proofs.Entries.{pick-is}
+use Rattle.formal_statements.proofs.CallRefusals.{publicFault-accepted}
+use Rattle.formal_statements.proofs.Calls.{publicRead-is, write-is}
+use Rattle.formal_statements.proofs.Views.{viewOf-is}
+
+-- ---- what is seen ----
+
+abbrev pub seenOf : Model.Runs.Seen → Seen
+seenOf here =
+    record {
+      answer = here .answer; shown = here .shown; rounds = here .rounds; stores = here .entries; view = here .view;
+    }
+
+unfoldable pub seensOf : List Model.Runs.Seen → List Seen
+seensOf [] = []
+seensOf (here ∷ later) = seenOf here ∷ seensOf later
+
+seensOf-nil : seensOf [] ≡ []
+unfolding seensOf
+seensOf-nil = refl
+
+seensOf-append : (xs ys : List Model.Runs.Seen) → seensOf (xs ++ ys) ≡ seensOf xs ++ seensOf ys
+unfolding seensOf
+seensOf-append [] ys = refl
+seensOf-append (x ∷ xs) ys = ap {B = List Seen} (λ (rest : List Seen). seenOf x ∷ rest) (seensOf-append xs ys)
+
+-- ---- one call ----
+
+offeredTo-is :
+    (number : ℕ) (before : Option (List ℕ)) (offer : Option Offer) →
+    offeredTo number offer before ≡ Model.Promises.ReadAfterWrite.offeredUnder number before (offerOf offer)
+offeredTo-is number before none = refl
+offeredTo-is number before (some offer) = pick-is (eqb (offer .number) number) (some (offer .content)) before
+
+module _ (disk : List ℕ) (accepted : Model.Refusals.driveRefusal disk ≡ 0) where
+  module _ (number : ℕ) (content random : List ℕ) (room : ℕ) (offer : Option Offer) where
+    abbrev ours : Model.Calls.Written
+    ours = Model.Calls.written disk number content random (length {A = ℕ} (replicate room 0)) (offerOf offer)
+
+    call-is : write disk number content random room offer ≡ resultOf disk ours
+    call-is =
+        write-is disk accepted number content random offer room
+        ∙ ap (λ (n : ℕ). resultOf disk (Model.Calls.written disk number content random n (offerOf offer)))
+        (sym (length-replicate room 0))
+
+    -- the entries that a write's list shows are its stores
+    entries-is :
+        take (length (ours .trace)) (Model.Calls.writtenList ours (replicate room 0)) ≡ Model.Stores.addresses (ours .trace)
+    entries-is =
+        ap (take (length (ours .trace))) (over-is 0 (Model.Stores.addresses (ours .trace)) (replicate room 0))
+        ∙ take-at (Model.Stores.addresses (ours .trace)) _ (length (ours .trace)) (length-addresses (ours .trace))
+
+  pub afterOne-is : (call : Call) → afterOne disk call ≡ Model.Runs.diskAfter disk (callOf call)
+  afterOne-is (reads number blank) = refl
+  afterOne-is (hiddenReads number blank) = refl
+  afterOne-is (writesTo number content random room offer) =
+      ap (λ (result : Result). result .disk) (call-is number content random room offer)
+
+  seenBy-is : (call : Call) → seenBy disk call ≡ seensOf (Model.Runs.seenOf disk (callOf call))
+  unfolding seensOf
+  seenBy-is (reads number blank) =
+      ap₂ {C = List Seen} (λ (n : ℕ) (bytes : List ℕ). record { answer = n; shown = bytes; rounds = 0; stores = []; view = viewOf disk } ∷ [])
+      (publicFault-accepted disk accepted number blank) (publicRead-is disk accepted number blank)
+      ∙ ap {B = List Seen} (λ (view : List ℕ).
+      record {
+        answer = Model.Refusals.publicReadRefusal disk number blank; shown = Model.Calls.publicRead disk number blank;
+        rounds = 0; stores = []; view = view;
+      } ∷ []) (viewOf-is disk)
+  seenBy-is (hiddenReads number blank) = refl
+  seenBy-is (writesTo number content random room offer) =
+      let result : Model.Calls.Written = ours number content random room offer in
+      ap {B = List Seen} (λ (r : Result).
+      record { answer = r .number; shown = []; rounds = r .rounds; stores = r .stores; view = viewOf (r .disk) } ∷ [])
+      (call-is number content random room offer)
+      ∙ ap₂ {C = List Seen} (λ (stores view : List ℕ).
+      record { answer = result .answer; shown = []; rounds = result .rounds; stores = stores; view = view } ∷ [])
+      (sym (entries-is number content random room offer)) (viewOf-is (Model.Calls.writtenDisk result disk))
+
+  publicBy-is :
+      (number : ℕ) (before : Option (List ℕ)) (call : Call) →
+      publicBy disk number before call ≡ Model.Promises.ReadAfterWrite.publicAfter number before disk (callOf call)
+  publicBy-is number before (reads other blank) = refl
+  publicBy-is number before (hiddenReads other blank) = refl
+  publicBy-is number before (writesTo other content random room offer) =
+      ap (λ (result : Result). pick (eqb other number && eqb (result .number) 0) (some content) before)
+      (call-is other content random room offer)
+      ∙ pick-is (eqb other number && eqb (ours other content random room offer .answer) 0) (some content) before
+
+  hiddenBy-is :
+      (number : ℕ) (before : Option (List ℕ)) (call : Call) →
+      hiddenBy disk number before call ≡ Model.Promises.ReadAfterWrite.hiddenAfter number before disk (callOf call)
+  hiddenBy-is number before (reads other blank) = refl
+  hiddenBy-is number before (hiddenReads other blank) = refl
+  hiddenBy-is number before (writesTo other content random room offer) =
+      let result : Model.Calls.Written = ours other content random room offer in
+      ap (λ (r : Result). pick (eqb (r .number) 0 && eqb (r .outcome) 1) (offeredTo number offer before) before)
+      (call-is other content random room offer)
+      ∙ pick-is (Model.Promises.ReadAfterWrite.isPlaced result) (offeredTo number offer before) before
+      ∙ ap (λ (after : Option (List ℕ)). cond (Model.Promises.ReadAfterWrite.isPlaced result) after before)
+      (offeredTo-is number before offer)
+
+-- ---- lists of calls ----
+
+-- on drives of a kind that is accepted and that every call keeps
+module _ (Good : List ℕ → Type 0) (accepted : (disk : List ℕ) → Good disk → Model.Refusals.driveRefusal disk ≡ 0)
+    (kept : (disk : List ℕ) (call : Call) → Good disk → Good (Model.Runs.diskAfter disk (callOf call))) where
+  pub diskAfter-is : (disk : List ℕ) (calls : List Call) → Good disk → diskAfter disk calls ≡ Model.Runs.diskAfterAll disk (callsOf calls)
+  unfolding diskAfter callsOf Model.Runs.diskAfterAll
+  diskAfter-is disk [] good = refl
+  diskAfter-is disk (call ∷ calls) good =
+      ap (λ (d : List ℕ). diskAfter d calls) (afterOne-is disk (accepted disk good) call)
+      ∙ diskAfter-is (Model.Runs.diskAfter disk (callOf call)) calls (kept disk call good)
+
+  pub seen-is : (disk : List ℕ) (calls : List Call) → Good disk → seen disk calls ≡ seensOf (Model.Runs.seenOfAll disk (callsOf calls))
+  unfolding seen callsOf Model.Runs.seenOfAll
+  seen-is disk [] good = sym seensOf-nil
+  seen-is disk (call ∷ calls) good =
+      let after = Model.Runs.diskAfter disk (callOf call) in
+      ap₂ (λ (here : List Seen) (d : List ℕ). here ++ seen d calls) (seenBy-is disk (accepted disk good) call)
+      (afterOne-is disk (accepted disk good) call)
+      ∙ ap (λ (later : List Seen). seensOf (Model.Runs.seenOf disk (callOf call)) ++ later) (seen-is after calls (kept disk call good))
+      ∙ sym (seensOf-append (Model.Runs.seenOf disk (callOf call)) (Model.Runs.seenOfAll after (callsOf calls)))
+
+  pub lastPublic-is :
+      (number : ℕ) (before : Option (List ℕ)) (disk : List ℕ) (calls : List Call) → Good disk →
+      lastPublic disk number before calls ≡ Model.Promises.ReadAfterWrite.lastPublic number before disk (callsOf calls)
+  unfolding lastPublic callsOf Model.Promises.ReadAfterWrite.lastPublic
+  lastPublic-is number before disk [] good = refl
+  lastPublic-is number before disk (call ∷ calls) good =
+      ap₂ (λ (d : List ℕ) (b : Option (List ℕ)). lastPublic d number b calls) (afterOne-is disk (accepted disk good) call)
+      (publicBy-is disk (accepted disk good) number before call)
+      ∙ lastPublic-is number (Model.Promises.ReadAfterWrite.publicAfter number before disk (callOf call))
+      (Model.Runs.diskAfter disk (callOf call)) calls (kept disk call good)
+
+  pub lastHidden-is :
+      (number : ℕ) (before : Option (List ℕ)) (disk : List ℕ) (calls : List Call) → Good disk →
+      lastHidden disk number before calls ≡ Model.Promises.ReadAfterWrite.lastHidden number before disk (callsOf calls)
+  unfolding lastHidden callsOf Model.Promises.ReadAfterWrite.lastHidden
+  lastHidden-is number before disk [] good = refl
+  lastHidden-is number before disk (call ∷ calls) good =
+      ap₂ (λ (d : List ℕ) (b : Option (List ℕ)). lastHidden d number b calls) (afterOne-is disk (accepted disk good) call)
+      (hiddenBy-is disk (accepted disk good) number before call)
+      ∙ lastHidden-is number (Model.Promises.ReadAfterWrite.hiddenAfter number before disk (callOf call))
+      (Model.Runs.diskAfter disk (callOf call)) calls (kept disk call good)

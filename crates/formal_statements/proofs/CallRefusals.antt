@@ -21,7 +21,7 @@ use Rattle.formal_statements.proofs.Refusals.{diskFault-is}
 
 -- ---- chains over any tests ----
 
-place-chain :
+pub place-chain :
     (isPast isUnfit isGood : Bool) →
     _≡_ {A = ℕ} (pick isPast 4 (pick isUnfit 5 (pick isGood 0 6))) (cond isPast 4 (cond isUnfit 5 (cond (not isGood) 6 0)))
 place-chain true isUnfit isGood = refl
@@ -29,7 +29,7 @@ place-chain false true isGood = refl
 place-chain false false true = refl
 place-chain false false false = refl
 
-write-chain :
+pub write-chain :
     (isPast isUnfit isGood isFull isShort isSmall : Bool) →
     _≡_ {A = ℕ}
     (pick (not (eqb (pick isPast 4 (pick isUnfit 5 (pick isGood 0 6))) 0)) (pick isPast 4 (pick isUnfit 5 (pick isGood 0 6)))

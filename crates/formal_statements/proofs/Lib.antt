@@ -12,3 +12,5 @@ pub mod Formats
 pub mod Views
 pub mod Runs
 pub mod ReadAfterWrite
+pub mod Books
+pub mod BookCalls

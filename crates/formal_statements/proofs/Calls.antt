@@ -127,12 +127,12 @@ module _ (disk : List ℕ) (accepted : Model.Refusals.driveRefusal disk ≡ 0) w
 
   -- ---- the write ----
 
-  head-inside : Model.Layout.headIn disk < g .slots
+  pub head-inside : Model.Layout.headIn disk < g .slots
   head-inside =
       subst (λ (h : Model.Geometry.Geometry). Model.Layout.headIn disk < h .slots) (sym (geometryIn-is disk))
       (accepted-of-refusal disk accepted .head-inside)
 
-  front-inside : rootBlock g * g .size ≤ length disk
+  pub front-inside : rootBlock g * g .size ≤ length disk
   front-inside =
       let whole : length disk ≡ Model.Geometry.driveSize (geometryOf g) =
       accepted-of-refusal disk accepted .sized .whole ∙ ap Model.Geometry.driveSize (sym (geometryIn-is disk)) in

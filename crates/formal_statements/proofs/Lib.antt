@@ -14,3 +14,4 @@ pub mod Runs
 pub mod ReadAfterWrite
 pub mod Books
 pub mod BookCalls
+pub mod BookStart

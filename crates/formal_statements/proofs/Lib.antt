@@ -15,3 +15,4 @@ pub mod ReadAfterWrite
 pub mod Books
 pub mod BookCalls
 pub mod BookStart
+pub mod Noninterference

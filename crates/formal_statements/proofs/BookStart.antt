@@ -20,7 +20,7 @@ use Rattle.formal_statements.proofs.Translation.{geometryOf}
 use Rattle.formal_statements.proofs.Entries.{entry-is, geometryIn-is, mapEntry-is}
 use Rattle.formal_statements.proofs.Marks.{isMarked-is}
 use Rattle.formal_statements.proofs.CallRefusals.{fits-of-accepted}
-use Rattle.formal_statements.proofs.Calls.{front-inside}
+use Rattle.formal_statements.proofs.Writes.{front-inside}
 use Rattle.formal_statements.proofs.Views.{viewOf-is}
 use Rattle.formal_statements.proofs.Books.{simulatorFor}
 

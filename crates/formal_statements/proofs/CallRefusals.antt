@@ -1,6 +1,7 @@
--- Refusals 4 to 12 of document 03, nested choices, are ours, chains of checks, on a drive that refusals 1 to 3 do not
--- meet. Assumes nothing.
+-- The calls' refusals of document 03, nested choices, are ours, chains of checks: 4 to 12 over any tests, on a drive that
+-- refusals 1 to 3 do not meet, and on every disk. Assumes nothing.
 use mathlib.Core.Path.{_≡_, refl, sym, ap, ap₂, _∙_, subst}
+use mathlib.Core.Logic.{_≢_, ⊎-elim}
 use mathlib.Core.Bool.{Bool, true, false, cond, not, _&&_, _||_}
 use mathlib.Core.List.{List, [], _∷_, _++_}
 use Prim.Native.Nat.{ℕ, zero, suc, _+_, _*_, _%_}
@@ -9,8 +10,9 @@ use lib.Dec.{ltb, leb, eqb}
 use lib.ListN.{length}
 use borrow.Author.Tests.{ne-eqb}
 use Rattle.laws.specs as Laws
+use Rattle.laws.proofs.Cases.{eq-cases}
 use Rattle.model.specs as Model
-use Rattle.model.proofs.Laws.Refusals.{accepted-of-refusal, after-drive-pass}
+use Rattle.model.proofs.Laws.Refusals.{accepted-of-refusal, after-drive-pass, after-drive-stop}
 use Rattle.formal_statements.specs.Disk.{pick, Geometry, geometryIn, headIn, mapEntry, isMarked, isPublicBlock, slotOf, Walk, walk}
 use Rattle.formal_statements.specs.Calls.{diskFault, isPlaced, publicFault, roundsTo, writeFault, offerFault, endFault, hiddenFault}
 use Rattle.formal_statements.proofs.Translation.{geometryOf, endOf}
@@ -126,7 +128,7 @@ module _ (g : Geometry) (f : Model.Geometry.Fits (geometryOf g)) (disk : List �
       (pick (ltb random (rounds * g .height * g .size)) 8
       (pick (ltb room (rounds * (g .height + 3) + pick (eqb entry 0) 2 3)) 9 0))
 
-  writeFault-is :
+  roundFault-is :
       (number size random room : ℕ) →
       pick (not (eqb (placeFault number size) 0)) (placeFault number size)
       (roundFault random room (roundsTo (g .slots) g disk (headIn disk)) (mapEntry g disk number)) ≡
@@ -134,7 +136,7 @@ module _ (g : Geometry) (f : Model.Geometry.Fits (geometryOf g)) (disk : List �
       (Model.Refusals.placeChecks (geometryOf g) disk number size ++
       Model.Refusals.roundChecks (geometryOf g) disk number random room)
   unfolding Model.Refusals.placeChecks Model.Refusals.roundChecks Laws.Checks.firstOf
-  writeFault-is number size random room =
+  roundFault-is number size random room =
       let entry = Model.Layout.mapEntry (geometryOf g) disk number in
       let rounds = Model.Refusals.roundCount (geometryOf g) disk in
       let unfit = not (eqb size (g .size)) in
@@ -154,13 +156,13 @@ module _ (g : Geometry) (f : Model.Geometry.Fits (geometryOf g)) (disk : List �
 
   -- ---- hidden calls ----
 
-  hiddenFault-is :
+  walkFault-is :
       (number : ℕ) (blank : List ℕ) →
       pick (not (eqb (offerFault g number blank) 0)) (offerFault g number blank) (endFault (walk g disk number .ends)) ≡
       Laws.Checks.firstOf
       (Model.Refusals.hiddenChecks (geometryOf g) number (length blank) ++ Model.Refusals.walkChecks (geometryOf g) disk number)
   unfolding Model.Refusals.hiddenChecks Model.Refusals.walkChecks Laws.Checks.firstOf
-  hiddenFault-is number blank =
+  walkFault-is number blank =
       ap (λ (w : Walk). pick (not (eqb (offerFault g number blank) 0)) (offerFault g number blank) (endFault (w .ends)))
       (walk-is g disk number f)
       ∙ hidden-chain (leb (g .hidden) number) (eqb (length blank) (g .size)) (Model.HiddenTree.walk (geometryOf g) disk number .end)
@@ -175,7 +177,7 @@ module _ (disk : List ℕ) (accepted : Model.Refusals.driveRefusal disk ≡ 0) w
   after-drive : (later : ℕ) → pick (not (eqb (diskFault disk) 0)) (diskFault disk) later ≡ later
   after-drive later = ap (λ (n : ℕ). pick (not (eqb n 0)) n later) (diskFault-is disk ∙ accepted)
 
-  pub publicFault-accepted :
+  publicFault-accepted :
       (number : ℕ) (blank : List ℕ) → publicFault disk number blank ≡ Model.Refusals.publicReadRefusal disk number blank
   unfolding Model.Refusals.publicReadRefusal
   publicFault-accepted number blank =
@@ -185,7 +187,7 @@ module _ (disk : List ℕ) (accepted : Model.Refusals.driveRefusal disk ≡ 0) w
       (geometryIn-is disk)
       ∙ sym (after-drive-pass disk (Model.Refusals.placeChecks (Model.Layout.geometryIn disk) disk number (length blank)) accepted)
 
-  pub writeFault-accepted :
+  writeFault-accepted :
       (number : ℕ) (content : List ℕ) (random room : ℕ) →
       writeFault disk number content random room ≡ Model.Refusals.writeRefusal disk number content random room
   unfolding Model.Refusals.writeRefusal
@@ -195,19 +197,71 @@ module _ (disk : List ℕ) (accepted : Model.Refusals.driveRefusal disk ≡ 0) w
       ap (λ (n : ℕ). pick (not (eqb n 0)) n
       (roundFault g f disk random room (roundsTo (g .slots) g disk (headIn disk)) (mapEntry g disk number)))
       (after-drive (placeFault g f disk number (length content)))
-      ∙ writeFault-is g f disk number (length content) random room
+      ∙ roundFault-is g f disk number (length content) random room
       ∙ ap (λ (g : Model.Geometry.Geometry). Laws.Checks.firstOf
       (Model.Refusals.placeChecks g disk number (length content) ++ Model.Refusals.roundChecks g disk number random room))
       (geometryIn-is disk)
       ∙ sym (after-drive-pass disk _ accepted)
 
-  pub hiddenFault-accepted :
+  hiddenFault-accepted :
       (number : ℕ) (blank : List ℕ) → hiddenFault disk number blank ≡ Model.Refusals.hiddenReadRefusal disk number blank
   unfolding Model.Refusals.hiddenReadRefusal
   hiddenFault-accepted number blank =
       let g = geometryIn disk in
       after-drive (pick (not (eqb (offerFault g number blank) 0)) (offerFault g number blank) (endFault (walk g disk number .ends)))
-      ∙ hiddenFault-is g fits-of-accepted disk number blank
+      ∙ walkFault-is g fits-of-accepted disk number blank
       ∙ ap (λ (g : Model.Geometry.Geometry). Laws.Checks.firstOf
       (Model.Refusals.hiddenChecks g number (length blank) ++ Model.Refusals.walkChecks g disk number)) (geometryIn-is disk)
       ∙ sym (after-drive-pass disk _ accepted)
+
+-- ---- on a drive that is refused ----
+
+module _ (disk : List ℕ) (refused : Model.Refusals.driveRefusal disk ≢ 0) where
+  stops : (answer later : ℕ) → answer ≡ Model.Refusals.driveRefusal disk → pick (not (eqb answer 0)) answer later ≡ Model.Refusals.driveRefusal disk
+  stops answer later e =
+      ap (λ (n : ℕ). pick (not (eqb n 0)) n later) e
+      ∙ ap (λ (b : Bool). pick (not b) (Model.Refusals.driveRefusal disk) later) (ne-eqb (Model.Refusals.driveRefusal disk) 0 refused)
+
+  publicFault-refused : (number : ℕ) (blank : List ℕ) → publicFault disk number blank ≡ Model.Refusals.driveRefusal disk
+  publicFault-refused number blank = stops (diskFault disk) _ (diskFault-is disk)
+
+  pub publicReadRefusal-refused :
+      (number : ℕ) (blank : List ℕ) → Model.Refusals.publicReadRefusal disk number blank ≡ Model.Refusals.driveRefusal disk
+  unfolding Model.Refusals.publicReadRefusal
+  publicReadRefusal-refused number blank = after-drive-stop disk _ refused
+
+  pub hiddenReadRefusal-refused :
+      (number : ℕ) (blank : List ℕ) → Model.Refusals.hiddenReadRefusal disk number blank ≡ Model.Refusals.driveRefusal disk
+  unfolding Model.Refusals.hiddenReadRefusal
+  hiddenReadRefusal-refused number blank = after-drive-stop disk _ refused
+
+  pub writeRefusal-refused :
+      (number : ℕ) (content : List ℕ) (random room : ℕ) →
+      Model.Refusals.writeRefusal disk number content random room ≡ Model.Refusals.driveRefusal disk
+  unfolding Model.Refusals.writeRefusal
+  writeRefusal-refused number content random room = after-drive-stop disk _ refused
+
+-- ---- on every disk ----
+
+pub publicFault-is :
+    (disk : List ℕ) (number : ℕ) (blank : List ℕ) → publicFault disk number blank ≡ Model.Refusals.publicReadRefusal disk number blank
+publicFault-is disk number blank =
+    ⊎-elim (λ a. publicFault-accepted disk a number blank)
+    (λ r. publicFault-refused disk r number blank ∙ sym (publicReadRefusal-refused disk r number blank))
+    (eq-cases (Model.Refusals.driveRefusal disk) 0)
+
+pub hiddenFault-is :
+    (disk : List ℕ) (number : ℕ) (blank : List ℕ) → hiddenFault disk number blank ≡ Model.Refusals.hiddenReadRefusal disk number blank
+hiddenFault-is disk number blank =
+    ⊎-elim (λ a. hiddenFault-accepted disk a number blank)
+    (λ r. stops disk r (diskFault disk) _ (diskFault-is disk) ∙ sym (hiddenReadRefusal-refused disk r number blank))
+    (eq-cases (Model.Refusals.driveRefusal disk) 0)
+
+pub writeFault-is :
+    (disk : List ℕ) (number : ℕ) (content : List ℕ) (random room : ℕ) →
+    writeFault disk number content random room ≡ Model.Refusals.writeRefusal disk number content random room
+writeFault-is disk number content random room =
+    ⊎-elim (λ a. writeFault-accepted disk a number content random room)
+    (λ r. stops disk r (publicFault disk number content) _ (publicFault-refused disk r number content)
+    ∙ sym (writeRefusal-refused disk r number content random room))
+    (eq-cases (Model.Refusals.driveRefusal disk) 0)

@@ -1,4 +1,4 @@
--- Formatting of document 03 is ours. Assumes nothing.
+-- Formatting of document 03 is ours on every disk. Assumes nothing.
 use mathlib.Core.Path.{_≡_, refl, sym, ap, ap₂, _∙_}
 use mathlib.Core.Bool.{Bool, cond}
 use mathlib.Core.List.{List, [], _∷_, _++_, append-assoc}
@@ -16,6 +16,7 @@ use Rattle.formal_statements.specs.Disk.{pick, little, Geometry, areaSta
 use Rattle.formal_statements.specs.Calls.{headerFor, formatFault, formatted}
 use Rattle.formal_statements.proofs.Translation.{geometryOf}
 use Rattle.formal_statements.proofs.Refusals.{formatFault-is}
+use Rattle.formal_statements.proofs.Answers.{answer-is}
 
 module _ (g : Geometry) (f : Model.Geometry.Fits (geometryOf g)) where
   header-is : headerFor g ≡ Model.Calls.headerBlock (geometryOf g)
@@ -44,11 +45,8 @@ module _ (g : Geometry) (f : Model.Geometry.Fits (geometryOf g)) where
       (sym (zero-add _ ∙ length-front))
       ∙ sym (over-is 0 (Model.Calls.freshFront (geometryOf g)) disk)
 
-pub formatted-is :
-    (disk : List ℕ) (g : Geometry) → formatFault disk g ≡ 0 → formatted disk g ≡ Model.Calls.formatted disk (geometryOf g)
+pub formatted-is : (disk : List ℕ) (g : Geometry) → formatted disk g ≡ Model.Calls.formatted disk (geometryOf g)
 unfolding Model.Calls.formatted
-formatted-is disk g e =
-    let z : Model.Refusals.formatRefusal disk (geometryOf g) ≡ 0 = sym (formatFault-is disk g) ∙ e in
-    ap (λ (n : ℕ). pick (eqb n 0) (headerFor g ++ replicate ((areaStart g - 1) * g .size) 0 ++ drop (areaStart g * g .size) disk) disk) e
-    ∙ front-is g (sized-of-refusal (length disk) (geometryOf g) z .fits) disk
-    ∙ ap (λ (n : ℕ). cond (eqb n 0) (Laws.Lists.over 0 (Model.Calls.freshFront (geometryOf g)) disk) disk) (sym z)
+formatted-is disk g =
+    answer-is (formatFault disk g) (Model.Refusals.formatRefusal disk (geometryOf g)) _ _ disk (formatFault-is disk g)
+    (λ e. front-is g (sized-of-refusal (length disk) (geometryOf g) e .fits) disk)

@@ -7,7 +7,10 @@ pub mod Halves
 pub mod Rounds
 pub mod Refusals
 pub mod CallRefusals
-pub mod Calls
+pub mod Answers
+pub mod Outcomes
+pub mod ShownReads
+pub mod Writes
 pub mod Formats
 pub mod Views
 pub mod Runs

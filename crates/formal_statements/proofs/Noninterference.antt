@@ -1,5 +1,4 @@
--- Our noninterference implies document 03's NothingShows. That a call leaves an accepted drive accepted is taken from the
--- promise itself, for lists of one call. Assumes nothing.
+-- Our noninterference implies document 03's NothingShows. Assumes nothing.
 use mathlib.Core.Path.{_≡_, refl, sym, ap, ap₂, _∙_, subst}
 use mathlib.Core.Bool.{Bool, true, false}
 use mathlib.Core.List.{List, [], _∷_, _++_}
@@ -12,7 +11,7 @@ use Rattle.formal_statements.specs.Promise.{Alike, Call, reads, hiddenRe
 use Rattle.formal_statements.proofs.Translation.{callOf, callsOf}
 use Rattle.formal_statements.proofs.Entries.{entry-is}
 use Rattle.formal_statements.proofs.Refusals.{diskFault-is}
-use Rattle.formal_statements.proofs.Calls.{head-inside}
+use Rattle.formal_statements.proofs.Writes.{head-inside}
 use Rattle.formal_statements.proofs.Views.{viewOf-is}
 use Rattle.formal_statements.proofs.Runs.{seensOf, diskAfter-is, seen-is}
 use Rattle.formal_statements.proofs.Books.{publicCallOf, publicCallsOf, toldOf, toldsOf, simulatorFor}
@@ -75,42 +74,23 @@ alike-from disk other alike =
       viewOf-is disk ∙ alike .same-view ∙ sym (viewOf-is other),
     )
 
-module _ (promise : Model.Promises.Noninterference.Noninterference) where
-  abbrev Good : List ℕ → Type 0
-  Good disk = Model.Refusals.driveRefusal disk ≡ 0
-
-  -- a call keeps an accepted drive accepted
-  accepted-kept : (disk : List ℕ) (call : Call) → Good disk → Good (Model.Runs.diskAfter disk (callOf call))
-  unfolding Model.Runs.diskAfterAll
-  accepted-kept disk call good =
-      let alike : Model.View.Alike disk disk =
-      record { same-length = refl; accepted = good; other-accepted = good; same-view = refl } in
-      promise disk disk (callOf call ∷ []) (callOf call ∷ []) alike refl .alike-after .accepted
-
-  after-is : (disk : List ℕ) (calls : List Call) → Good disk → diskAfter disk calls ≡ Model.Runs.diskAfterAll disk (callsOf calls)
-  after-is = diskAfter-is Good (λ d good. good) accepted-kept
-
-  seen-all : (disk : List ℕ) (calls : List Call) → Good disk → seen disk calls ≡ seensOf (Model.Runs.seenOfAll disk (callsOf calls))
-  seen-all = seen-is Good (λ d good. good) accepted-kept
-
 -- document 03's NothingShows
 pub noninterference-implied : Model.Promises.Noninterference.Noninterference → NothingShows
 noninterference-implied promise disk other calls others bytes otherBytes alike fit otherFit same =
     let good : Model.Refusals.driveRefusal disk ≡ 0 = sym (diskFault-is disk) ∙ alike .1 in
-    let otherGood : Model.Refusals.driveRefusal other ≡ 0 = sym (diskFault-is other) ∙ alike .2 in
     let parts : Model.Runs.publicParts (callsOf calls) ≡ Model.Runs.publicParts (callsOf others) =
     sym (shapes-is calls) ∙ ap publicCallsOf same ∙ shapes-is others in
     let ours = promise disk other (callsOf calls) (callsOf others) (alike-of disk other alike) parts in
     let inside : headIn disk < geometryIn disk .slots =
     subst (λ (n : ℕ). n < geometryIn disk .slots) (sym (entry-is 5 disk)) (head-inside disk good) in
     (
-      seen-all promise disk calls good ∙ ap seensOf (ours .same-seen) ∙ sym (seen-all promise other others otherGood),
-      ap allToldOf (seen-all promise disk calls good) ∙ allToldOf-is (Model.Runs.seenOfAll disk (callsOf calls))
+      seen-is disk calls ∙ ap seensOf (ours .same-seen) ∙ sym (seen-is other others),
+      ap allToldOf (seen-is disk calls) ∙ allToldOf-is (Model.Runs.seenOfAll disk (callsOf calls))
       ∙ ap toldsOf (ours .here .by-simulator)
       ∙ ap₂ (λ (sim : Model.Simulator.Simulator) (public : List Model.Runs.PublicCall).
       toldsOf (Model.Simulator.told sim (Model.Simulator.lengthsOfAll public))) (sym (bookOf-is disk good)) (sym (shapes-is calls))
       ∙ sym (told-is (bookOf disk) (shapes calls) inside),
-      rw (after-is promise disk calls good, after-is promise other others otherGood) (
+      rw (diskAfter-is disk calls, diskAfter-is other others) (
         alike-from (Model.Runs.diskAfterAll disk (callsOf calls)) (Model.Runs.diskAfterAll other (callsOf others)) (ours .alike-after)
       ),
     )

@@ -8,10 +8,10 @@ use Rattle.model.specs as Model
 use Rattle.formal_statements.specs.Disk.{Geometry}
 use Rattle.formal_statements.specs.Calls.{diskFault, formatted, formatFault, publicFault, publicRead, hiddenFault, hiddenRead}
 use Rattle.formal_statements.specs.Promise.{Call, diskAfter, lastPublic, lastHidden, orBlank, ReadsBack}
-use Rattle.formal_statements.proofs.Translation.{geometryOf, callOf, callsOf}
+use Rattle.formal_statements.proofs.Translation.{geometryOf, callsOf}
 use Rattle.formal_statements.proofs.Refusals.{diskFault-is, formatFault-is}
-use Rattle.formal_statements.proofs.CallRefusals.{publicFault-accepted, hiddenFault-accepted}
-use Rattle.formal_statements.proofs.Calls.{publicRead-is, hiddenRead-is}
+use Rattle.formal_statements.proofs.CallRefusals.{publicFault-is, hiddenFault-is}
+use Rattle.formal_statements.proofs.ShownReads.{publicRead-is, hiddenRead-is}
 use Rattle.formal_statements.proofs.Formats.{formatted-is}
 use Rattle.formal_statements.proofs.Runs.{diskAfter-is, lastPublic-is, lastHidden-is}
 
@@ -20,13 +20,6 @@ orElse-is none blank = refl
 orElse-is (some content) blank = refl
 
 module _ (promise : Model.Promises.ReadAfterWrite.ReadAfterWrite) where
-  -- a call keeps a drive sound
-  sound-kept :
-      (g : Model.Geometry.Geometry) (disk : List ℕ) (call : Call) → Model.Promises.ReadAfterWrite.Sound g disk →
-      Model.Promises.ReadAfterWrite.Sound g (Model.Runs.diskAfter disk (callOf call))
-  unfolding Model.Runs.diskAfterAll
-  sound-kept g disk call sound = promise .reads-back g disk (callOf call ∷ []) sound .sound
-
   module _ (disk : List ℕ) (g : Geometry) (calls : List Call) (good : formatFault disk g ≡ 0) where
     accepted-format : Model.Refusals.formatRefusal disk (geometryOf g) ≡ 0
     accepted-format = sym (formatFault-is disk g) ∙ good
@@ -43,13 +36,10 @@ module _ (promise : Model.Promises.ReadAfterWrite.ReadAfterWrite) where
     back : Model.Promises.ReadAfterWrite.ReadsBack (geometryOf g) fresh (callsOf calls)
     back = promise .reads-back (geometryOf g) fresh (callsOf calls) sound
 
-    abbrev Good : List ℕ → Type 0
-    Good = Model.Promises.ReadAfterWrite.Sound (geometryOf g)
-
     after-is : diskAfter (formatted disk g) calls ≡ after
     after-is =
-        ap (λ (d : List ℕ). diskAfter d calls) (formatted-is disk g good)
-        ∙ diskAfter-is Good (λ d s. s .accepted) (sound-kept (geometryOf g)) fresh calls sound
+        ap (λ (d : List ℕ). diskAfter d calls) (formatted-is disk g)
+        ∙ diskAfter-is fresh calls
 
     accepted-after : Model.Refusals.driveRefusal after ≡ 0
     accepted-after = back .sound .accepted
@@ -58,15 +48,15 @@ module _ (promise : Model.Promises.ReadAfterWrite.ReadAfterWrite) where
         (number : ℕ) → lastPublic (formatted disk g) number none calls ≡
         Model.Promises.ReadAfterWrite.lastPublic number none fresh (callsOf calls)
     public-last-is number =
-        ap (λ (d : List ℕ). lastPublic d number none calls) (formatted-is disk g good)
-        ∙ lastPublic-is Good (λ d s. s .accepted) (sound-kept (geometryOf g)) number none fresh calls sound
+        ap (λ (d : List ℕ). lastPublic d number none calls) (formatted-is disk g)
+        ∙ lastPublic-is number none fresh calls
 
     hidden-last-is :
         (number : ℕ) → lastHidden (formatted disk g) number none calls ≡
         Model.Promises.ReadAfterWrite.lastHidden number none fresh (callsOf calls)
     hidden-last-is number =
-        ap (λ (d : List ℕ). lastHidden d number none calls) (formatted-is disk g good)
-        ∙ lastHidden-is Good (λ d s. s .accepted) (sound-kept (geometryOf g)) number none fresh calls sound
+        ap (λ (d : List ℕ). lastHidden d number none calls) (formatted-is disk g)
+        ∙ lastHidden-is number none fresh calls
 
     module _ (number : ℕ) (blank : List ℕ) (sized : length blank ≡ g .size) where
       public-back :
@@ -76,9 +66,9 @@ module _ (promise : Model.Promises.ReadAfterWrite.ReadAfterWrite) where
       public-back h =
           let last = Model.Promises.ReadAfterWrite.lastPublic number none fresh (callsOf calls) in
           (
-            ap (λ (d : List ℕ). publicFault d number blank) after-is ∙ publicFault-accepted after accepted-after number blank
+            ap (λ (d : List ℕ). publicFault d number blank) after-is ∙ publicFault-is after number blank
             ∙ back .readable .public-answer number blank h sized,
-            ap (λ (d : List ℕ). publicRead d number blank) after-is ∙ publicRead-is after accepted-after number blank
+            ap (λ (d : List ℕ). publicRead d number blank) after-is ∙ publicRead-is after number blank
             ∙ back .public-shown number blank h sized
             ∙ ap (Model.Promises.ReadAfterWrite.orElse last)
             (promise .fresh-public disk (geometryOf g) number blank accepted-format h sized)
@@ -92,9 +82,9 @@ module _ (promise : Model.Promises.ReadAfterWrite.ReadAfterWrite) where
       hidden-back h =
           let last = Model.Promises.ReadAfterWrite.lastHidden number none fresh (callsOf calls) in
           (
-            ap (λ (d : List ℕ). hiddenFault d number blank) after-is ∙ hiddenFault-accepted after accepted-after number blank
+            ap (λ (d : List ℕ). hiddenFault d number blank) after-is ∙ hiddenFault-is after number blank
             ∙ back .readable .hidden-answer number blank h sized,
-            ap (λ (d : List ℕ). hiddenRead d number blank) after-is ∙ hiddenRead-is after accepted-after number blank
+            ap (λ (d : List ℕ). hiddenRead d number blank) after-is ∙ hiddenRead-is after number blank
             ∙ back .hidden-shown number blank h sized
             ∙ ap (Model.Promises.ReadAfterWrite.orElse last)
             (promise .fresh-hidden disk (geometryOf g) number blank accepted-format h sized)

@@ -1,5 +1,5 @@
--- Lists of document 03's calls on drives that stay accepted are ours: the disk that they leave, what is seen, and what was
--- last placed under a number. Assumes nothing.
+-- Lists of document 03's calls are ours on every disk: the disk that they leave, what is seen, and what was last placed
+-- under a number. Assumes nothing.
 use mathlib.Core.Path.{_≡_, refl, sym, ap, ap₂, _∙_}
 use mathlib.Core.Bool.{Bool, true, false, cond, _&&_}
 use mathlib.Core.List.{List, [], _∷_, _++_, append-nil}
@@ -19,8 +19,9 @@ use Rattle.formal_statements.specs.Calls.{Result, write, publicFault, pu
 use Rattle.formal_statements.specs.Promise.{Call, reads, hiddenReads, writesTo, afterOne, diskAfter, Seen, seenBy, seen, viewOf, publicBy, hiddenBy, offeredTo, lastPublic, lastHidden, orBlank, Shape, shapeOf, shapes}
 use Rattle.formal_statements.proofs.Translation.{offerOf, callOf, callsOf, resultOf}
 use Rattle.formal_statements.proofs.Entries.{pick-is}
-use Rattle.formal_statements.proofs.CallRefusals.{publicFault-accepted}
-use Rattle.formal_statements.proofs.Calls.{publicRead-is, write-is}
+use Rattle.formal_statements.proofs.CallRefusals.{publicFault-is}
+use Rattle.formal_statements.proofs.ShownReads.{publicRead-is}
+use Rattle.formal_statements.proofs.Writes.{write-is}
 use Rattle.formal_statements.proofs.Views.{viewOf-is}
 
 -- ---- what is seen ----
@@ -52,14 +53,14 @@ offeredTo-is :
 offeredTo-is number before none = refl
 offeredTo-is number before (some offer) = pick-is (eqb (offer .number) number) (some (offer .content)) before
 
-module _ (disk : List ℕ) (accepted : Model.Refusals.driveRefusal disk ≡ 0) where
+module _ (disk : List ℕ) where
   module _ (number : ℕ) (content random : List ℕ) (room : ℕ) (offer : Option Offer) where
     abbrev ours : Model.Calls.Written
     ours = Model.Calls.written disk number content random (length {A = ℕ} (replicate room 0)) (offerOf offer)
 
     call-is : write disk number content random room offer ≡ resultOf disk ours
     call-is =
-        write-is disk accepted number content random offer room
+        write-is disk number content random offer room
         ∙ ap (λ (n : ℕ). resultOf disk (Model.Calls.written disk number content random n (offerOf offer)))
         (sym (length-replicate room 0))
 
@@ -80,7 +81,7 @@ module _ (disk : List ℕ) (accepted : Model.Refusals.driveRefusal disk ≡ 0) w
   unfolding seensOf
   seenBy-is (reads number blank) =
       ap₂ {C = List Seen} (λ (n : ℕ) (bytes : List ℕ). record { answer = n; shown = bytes; rounds = 0; stores = []; view = viewOf disk } ∷ [])
-      (publicFault-accepted disk accepted number blank) (publicRead-is disk accepted number blank)
+      (publicFault-is disk number blank) (publicRead-is disk number blank)
       ∙ ap {B = List Seen} (λ (view : List ℕ).
       record {
         answer = Model.Refusals.publicReadRefusal disk number blank; shown = Model.Calls.publicRead disk number blank;
@@ -121,44 +122,41 @@ module _ (disk : List ℕ) (accepted : Model.Refusals.driveRefusal disk ≡ 0) w
 
 -- ---- lists of calls ----
 
--- on drives of a kind that is accepted and that every call keeps
-module _ (Good : List ℕ → Type 0) (accepted : (disk : List ℕ) → Good disk → Model.Refusals.driveRefusal disk ≡ 0)
-    (kept : (disk : List ℕ) (call : Call) → Good disk → Good (Model.Runs.diskAfter disk (callOf call))) where
-  pub diskAfter-is : (disk : List ℕ) (calls : List Call) → Good disk → diskAfter disk calls ≡ Model.Runs.diskAfterAll disk (callsOf calls)
-  unfolding diskAfter callsOf Model.Runs.diskAfterAll
-  diskAfter-is disk [] good = refl
-  diskAfter-is disk (call ∷ calls) good =
-      ap (λ (d : List ℕ). diskAfter d calls) (afterOne-is disk (accepted disk good) call)
-      ∙ diskAfter-is (Model.Runs.diskAfter disk (callOf call)) calls (kept disk call good)
+pub diskAfter-is : (disk : List ℕ) (calls : List Call) → diskAfter disk calls ≡ Model.Runs.diskAfterAll disk (callsOf calls)
+unfolding diskAfter callsOf Model.Runs.diskAfterAll
+diskAfter-is disk [] = refl
+diskAfter-is disk (call ∷ calls) =
+    ap (λ (d : List ℕ). diskAfter d calls) (afterOne-is disk call)
+    ∙ diskAfter-is (Model.Runs.diskAfter disk (callOf call)) calls
 
-  pub seen-is : (disk : List ℕ) (calls : List Call) → Good disk → seen disk calls ≡ seensOf (Model.Runs.seenOfAll disk (callsOf calls))
-  unfolding seen callsOf Model.Runs.seenOfAll
-  seen-is disk [] good = sym seensOf-nil
-  seen-is disk (call ∷ calls) good =
-      let after = Model.Runs.diskAfter disk (callOf call) in
-      ap₂ (λ (here : List Seen) (d : List ℕ). here ++ seen d calls) (seenBy-is disk (accepted disk good) call)
-      (afterOne-is disk (accepted disk good) call)
-      ∙ ap (λ (later : List Seen). seensOf (Model.Runs.seenOf disk (callOf call)) ++ later) (seen-is after calls (kept disk call good))
-      ∙ sym (seensOf-append (Model.Runs.seenOf disk (callOf call)) (Model.Runs.seenOfAll after (callsOf calls)))
+pub seen-is : (disk : List ℕ) (calls : List Call) → seen disk calls ≡ seensOf (Model.Runs.seenOfAll disk (callsOf calls))
+unfolding seen callsOf Model.Runs.seenOfAll
+seen-is disk [] = sym seensOf-nil
+seen-is disk (call ∷ calls) =
+    let after = Model.Runs.diskAfter disk (callOf call) in
+    ap₂ (λ (here : List Seen) (d : List ℕ). here ++ seen d calls) (seenBy-is disk call)
+    (afterOne-is disk call)
+    ∙ ap (λ (later : List Seen). seensOf (Model.Runs.seenOf disk (callOf call)) ++ later) (seen-is after calls)
+    ∙ sym (seensOf-append (Model.Runs.seenOf disk (callOf call)) (Model.Runs.seenOfAll after (callsOf calls)))
 
-  pub lastPublic-is :
-      (number : ℕ) (before : Option (List ℕ)) (disk : List ℕ) (calls : List Call) → Good disk →
-      lastPublic disk number before calls ≡ Model.Promises.ReadAfterWrite.lastPublic number before disk (callsOf calls)
-  unfolding lastPublic callsOf Model.Promises.ReadAfterWrite.lastPublic
-  lastPublic-is number before disk [] good = refl
-  lastPublic-is number before disk (call ∷ calls) good =
-      ap₂ (λ (d : List ℕ) (b : Option (List ℕ)). lastPublic d number b calls) (afterOne-is disk (accepted disk good) call)
-      (publicBy-is disk (accepted disk good) number before call)
-      ∙ lastPublic-is number (Model.Promises.ReadAfterWrite.publicAfter number before disk (callOf call))
-      (Model.Runs.diskAfter disk (callOf call)) calls (kept disk call good)
+pub lastPublic-is :
+    (number : ℕ) (before : Option (List ℕ)) (disk : List ℕ) (calls : List Call) →
+    lastPublic disk number before calls ≡ Model.Promises.ReadAfterWrite.lastPublic number before disk (callsOf calls)
+unfolding lastPublic callsOf Model.Promises.ReadAfterWrite.lastPublic
+lastPublic-is number before disk [] = refl
+lastPublic-is number before disk (call ∷ calls) =
+    ap₂ (λ (d : List ℕ) (b : Option (List ℕ)). lastPublic d number b calls) (afterOne-is disk call)
+    (publicBy-is disk number before call)
+    ∙ lastPublic-is number (Model.Promises.ReadAfterWrite.publicAfter number before disk (callOf call))
+    (Model.Runs.diskAfter disk (callOf call)) calls
 
-  pub lastHidden-is :
-      (number : ℕ) (before : Option (List ℕ)) (disk : List ℕ) (calls : List Call) → Good disk →
-      lastHidden disk number before calls ≡ Model.Promises.ReadAfterWrite.lastHidden number before disk (callsOf calls)
-  unfolding lastHidden callsOf Model.Promises.ReadAfterWrite.lastHidden
-  lastHidden-is number before disk [] good = refl
-  lastHidden-is number before disk (call ∷ calls) good =
-      ap₂ (λ (d : List ℕ) (b : Option (List ℕ)). lastHidden d number b calls) (afterOne-is disk (accepted disk good) call)
-      (hiddenBy-is disk (accepted disk good) number before call)
-      ∙ lastHidden-is number (Model.Promises.ReadAfterWrite.hiddenAfter number before disk (callOf call))
-      (Model.Runs.diskAfter disk (callOf call)) calls (kept disk call good)
+pub lastHidden-is :
+    (number : ℕ) (before : Option (List ℕ)) (disk : List ℕ) (calls : List Call) →
+    lastHidden disk number before calls ≡ Model.Promises.ReadAfterWrite.lastHidden number before disk (callsOf calls)
+unfolding lastHidden callsOf Model.Promises.ReadAfterWrite.lastHidden
+lastHidden-is number before disk [] = refl
+lastHidden-is number before disk (call ∷ calls) =
+    ap₂ (λ (d : List ℕ) (b : Option (List ℕ)). lastHidden d number b calls) (afterOne-is disk call)
+    (hiddenBy-is disk number before call)
+    ∙ lastHidden-is number (Model.Promises.ReadAfterWrite.hiddenAfter number before disk (callOf call))
+    (Model.Runs.diskAfter disk (callOf call)) calls

@@ -14,6 +14,7 @@ pub mod Writes
 pub mod Formats
 pub mod Views
 pub mod Runs
+pub mod Figures
 pub mod ReadAfterWrite
 pub mod Books
 pub mod BookCalls

@@ -14,9 +14,9 @@ use Rattle.model.proofs.Laws.Table.{rowAt-ruled}
 use Rattle.formal_statements.specs.Disk.{pick, Geometry, fan, block, slotStart, End, Walk, walk}
 use Rattle.formal_statements.specs.Rounds.{Offer, Fate, Store, ownerOf, isFoundAt, isDamaged, isLive, ownerDamaged, Half, half, keepsFate, placedFate, offerHalf, hiddenHalf, keptStores, pathStores}
 use Rattle.formal_statements.proofs.Translation.{geometryOf, endOf, storesOf, fateOf, waitingOf, halfOf}
-use Rattle.formal_statements.proofs.Entries.{entry-block-is, block-is}
-use Rattle.formal_statements.proofs.Walks.{walk-is}
-use Rattle.formal_statements.proofs.Traces.{keptStores-is, dummyStores-is, currentPath-is}
+use Rattle.formal_statements.proofs.Equations.Entries.{entry-block-is, block-is}
+use Rattle.formal_statements.proofs.Equations.Walks.{walk-is}
+use Rattle.formal_statements.proofs.Equations.Traces.{keptStores-is, dummyStores-is, currentPath-is}
 
 abbrev pub AtMostOne : List Model.HiddenHalf.HiddenWrite → Type 0
 AtMostOne [] = Unit {0}

@@ -13,8 +13,8 @@ use Rattle.formal_statements.specs.Disk.{pick, Geometry}
 use Rattle.formal_statements.specs.Rounds.{Offer, fresh}
 use Rattle.formal_statements.specs.Calls.{isSome, outcomeBy, badOffer, goodOffer}
 use Rattle.formal_statements.proofs.Translation.{geometryOf, offerOf, fateOf, waitingOf}
-use Rattle.formal_statements.proofs.Halves.{AtMostOne}
-use Rattle.formal_statements.proofs.CallRefusals.{offerFault-is}
+use Rattle.formal_statements.proofs.Equations.Halves.{AtMostOne}
+use Rattle.formal_statements.proofs.Equations.CallRefusals.{offerFault-is}
 
 -- ---- what a write offers ----
 

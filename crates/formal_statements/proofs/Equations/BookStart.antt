@@ -17,12 +17,12 @@ use Rattle.model.proofs.Laws.PublicMap.{mapEntry-block}
 use Rattle.formal_statements.specs.Disk.{Geometry, geometryIn, headIn, rootBlock, mapEntry, isMarked}
 use Rattle.formal_statements.specs.Promise.{Book, entriesOf, marksOf, bookOf, publicBlocks, viewOf}
 use Rattle.formal_statements.proofs.Translation.{geometryOf}
-use Rattle.formal_statements.proofs.Entries.{entry-is, geometryIn-is, mapEntry-is}
-use Rattle.formal_statements.proofs.Marks.{isMarked-is}
-use Rattle.formal_statements.proofs.CallRefusals.{fits-of-accepted}
-use Rattle.formal_statements.proofs.Writes.{front-inside}
-use Rattle.formal_statements.proofs.Views.{viewOf-is}
-use Rattle.formal_statements.proofs.Books.{simulatorFor}
+use Rattle.formal_statements.proofs.Equations.Entries.{entry-is, geometryIn-is, mapEntry-is}
+use Rattle.formal_statements.proofs.Equations.Marks.{isMarked-is}
+use Rattle.formal_statements.proofs.Equations.CallRefusals.{fits-of-accepted}
+use Rattle.formal_statements.proofs.Equations.WriteCalls.{front-inside}
+use Rattle.formal_statements.proofs.Equations.Views.{viewOf-is}
+use Rattle.formal_statements.proofs.Equations.Books.{simulatorFor}
 
 -- a part of a list's front
 part-front :

@@ -15,11 +15,11 @@ use Rattle.formal_statements.specs.Rounds.{Offer, Fate, roundsFrom, writ
 use Rattle.formal_statements.specs.Calls.{Result, goodOffer, refusal, write}
 use Rattle.formal_statements.specs.Calls as Theirs
 use Rattle.formal_statements.proofs.Translation.{geometryOf, offerOf, writtenOf, resultOf}
-use Rattle.formal_statements.proofs.Entries.{entry-is, geometryIn-is}
-use Rattle.formal_statements.proofs.Rounds.{roundsFrom-is}
-use Rattle.formal_statements.proofs.CallRefusals.{fits-of-accepted, writeRefusal-refused, writeFault-is}
-use Rattle.formal_statements.proofs.Outcomes.{fresh-is, offered-one, outcome-is}
-use Rattle.formal_statements.proofs.Answers.{answer-is, accepted-of}
+use Rattle.formal_statements.proofs.Equations.Entries.{entry-is, geometryIn-is}
+use Rattle.formal_statements.proofs.Equations.Rounds.{roundsFrom-is}
+use Rattle.formal_statements.proofs.Equations.CallRefusals.{fits-of-accepted, writeRefusal-refused, writeFault-is}
+use Rattle.formal_statements.proofs.Equations.Outcomes.{fresh-is, offered-one, outcome-is}
+use Rattle.formal_statements.proofs.Equations.Answers.{answer-is, accepted-of}
 
 -- ---- on an accepted drive ----
 

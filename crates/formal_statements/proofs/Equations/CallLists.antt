@@ -18,11 +18,11 @@ use Rattle.formal_statements.specs.Rounds.{Offer}
 use Rattle.formal_statements.specs.Calls.{Result, write, publicFault, publicRead}
 use Rattle.formal_statements.specs.Promise.{Call, reads, hiddenReads, writesTo, afterOne, diskAfter, Seen, seenBy, seen, viewOf, publicBy, hiddenBy, offeredTo, lastPublic, lastHidden, orBlank, Shape, shapeOf, shapes}
 use Rattle.formal_statements.proofs.Translation.{offerOf, callOf, callsOf, resultOf}
-use Rattle.formal_statements.proofs.Entries.{pick-is}
-use Rattle.formal_statements.proofs.CallRefusals.{publicFault-is}
-use Rattle.formal_statements.proofs.ShownReads.{publicRead-is}
-use Rattle.formal_statements.proofs.Writes.{write-is}
-use Rattle.formal_statements.proofs.Views.{viewOf-is}
+use Rattle.formal_statements.proofs.Equations.Entries.{pick-is}
+use Rattle.formal_statements.proofs.Equations.CallRefusals.{publicFault-is}
+use Rattle.formal_statements.proofs.Equations.ReadCalls.{publicRead-is}
+use Rattle.formal_statements.proofs.Equations.WriteCalls.{write-is}
+use Rattle.formal_statements.proofs.Equations.Views.{viewOf-is}
 
 -- ---- what is seen ----
 

@@ -12,8 +12,8 @@ use Rattle.model.specs as Model
 use Rattle.formal_statements.specs.Disk.{pick, withEntry, Geometry, fan, rootBlock, block, stored, slotStart, branchAt, walk}
 use Rattle.formal_statements.specs.Rounds.{Store, store, apply, addresses, nodeWith, nodeStores, pathStores, copied, keptStores, randomStores, dummyStores}
 use Rattle.formal_statements.proofs.Translation.{geometryOf, storesOf, walkOf}
-use Rattle.formal_statements.proofs.Entries.{withEntry-is, block-is, stored-is}
-use Rattle.formal_statements.proofs.Walks.{branchAt-is, walk-is, length-walk}
+use Rattle.formal_statements.proofs.Equations.Entries.{withEntry-is, block-is, stored-is}
+use Rattle.formal_statements.proofs.Equations.Walks.{branchAt-is, walk-is, length-walk}
 
 -- ---- stores ----
 

@@ -9,14 +9,14 @@ use Rattle.model.specs as Model
 use Rattle.formal_statements.specs.Disk.{geometryIn, headIn}
 use Rattle.formal_statements.specs.Promise.{Alike, Call, reads, hiddenReads, writesTo, Shape, shapeOf, shapes, Seen, seen, diskAfter, bookOf, Told, told, allToldOf, NothingShows}
 use Rattle.formal_statements.proofs.Translation.{callOf, callsOf}
-use Rattle.formal_statements.proofs.Entries.{entry-is}
-use Rattle.formal_statements.proofs.Refusals.{diskFault-is}
-use Rattle.formal_statements.proofs.Writes.{head-inside}
-use Rattle.formal_statements.proofs.Views.{viewOf-is}
-use Rattle.formal_statements.proofs.Runs.{seensOf, diskAfter-is, seen-is}
-use Rattle.formal_statements.proofs.Books.{publicCallOf, publicCallsOf, toldOf, toldsOf, simulatorFor}
-use Rattle.formal_statements.proofs.BookCalls.{told-is}
-use Rattle.formal_statements.proofs.BookStart.{bookOf-is}
+use Rattle.formal_statements.proofs.Equations.Entries.{entry-is}
+use Rattle.formal_statements.proofs.Equations.Refusals.{diskFault-is}
+use Rattle.formal_statements.proofs.Equations.WriteCalls.{head-inside}
+use Rattle.formal_statements.proofs.Equations.Views.{viewOf-is}
+use Rattle.formal_statements.proofs.Equations.CallLists.{seensOf, diskAfter-is, seen-is}
+use Rattle.formal_statements.proofs.Equations.Books.{publicCallOf, publicCallsOf, toldOf, toldsOf, simulatorFor}
+use Rattle.formal_statements.proofs.Equations.BookCalls.{told-is}
+use Rattle.formal_statements.proofs.Equations.BookStart.{bookOf-is}
 
 -- ---- the public parts of calls ----
 

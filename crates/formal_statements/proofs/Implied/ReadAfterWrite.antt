@@ -9,11 +9,11 @@ use Rattle.formal_statements.specs.Disk.{Geometry}
 use Rattle.formal_statements.specs.Calls.{diskFault, formatted, formatFault, publicFault, publicRead, hiddenFault, hiddenRead}
 use Rattle.formal_statements.specs.Promise.{Call, diskAfter, lastPublic, lastHidden, orBlank, ReadsBack}
 use Rattle.formal_statements.proofs.Translation.{geometryOf, callsOf}
-use Rattle.formal_statements.proofs.Refusals.{diskFault-is, formatFault-is}
-use Rattle.formal_statements.proofs.CallRefusals.{publicFault-is, hiddenFault-is}
-use Rattle.formal_statements.proofs.ShownReads.{publicRead-is, hiddenRead-is}
-use Rattle.formal_statements.proofs.Formats.{formatted-is}
-use Rattle.formal_statements.proofs.Runs.{diskAfter-is, lastPublic-is, lastHidden-is}
+use Rattle.formal_statements.proofs.Equations.Refusals.{diskFault-is, formatFault-is}
+use Rattle.formal_statements.proofs.Equations.CallRefusals.{publicFault-is, hiddenFault-is}
+use Rattle.formal_statements.proofs.Equations.ReadCalls.{publicRead-is, hiddenRead-is}
+use Rattle.formal_statements.proofs.Equations.Formatting.{formatted-is}
+use Rattle.formal_statements.proofs.Equations.CallLists.{diskAfter-is, lastPublic-is, lastHidden-is}
 
 orElse-is : (last : Option (List ℕ)) (blank : List ℕ) → Model.Promises.ReadAfterWrite.orElse last blank ≡ orBlank last blank
 orElse-is none blank = refl

@@ -19,10 +19,10 @@ use Rattle.formal_statements.specs.Rounds.{Offer}
 use Rattle.formal_statements.specs.Calls.{Result, publicRead}
 use Rattle.formal_statements.specs.Promise.{fresh, filled, wrote, next, fourWritten, offerTwo, Figures}
 use Rattle.formal_statements.proofs.Translation.{geometryOf, offerOf, resultOf}
-use Rattle.formal_statements.proofs.Refusals.{geometryFits-is}
-use Rattle.formal_statements.proofs.ShownReads.{publicRead-is}
-use Rattle.formal_statements.proofs.Writes.{write-is}
-use Rattle.formal_statements.proofs.Formats.{formatted-is}
+use Rattle.formal_statements.proofs.Equations.Refusals.{geometryFits-is}
+use Rattle.formal_statements.proofs.Equations.ReadCalls.{publicRead-is}
+use Rattle.formal_statements.proofs.Equations.WriteCalls.{write-is}
+use Rattle.formal_statements.proofs.Equations.Formatting.{formatted-is}
 
 -- ---- geometries ----
 

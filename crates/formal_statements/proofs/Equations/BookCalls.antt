@@ -14,8 +14,8 @@ use Rattle.model.specs as Model
 use Rattle.formal_statements.specs.Disk.{pick, Geometry, slotStart, slotOf}
 use Rattle.formal_statements.specs.Promise.{Shape, Book, entryAt, readAnswer, bookRounds, storesFor, bookStores, writeAnswer, lastSlot, unmarkedOld, bookWritten, Told, toldBy, bookAfter, told}
 use Rattle.formal_statements.proofs.Translation.{geometryOf}
-use Rattle.formal_statements.proofs.Entries.{pick-is}
-use Rattle.formal_statements.proofs.Books.{simulatorFor, publicCallOf, publicCallsOf, toldOf, toldsOf, lengths, bookRounds-is, storesFor-is, readAnswer-is, writeAnswer-is, rounds-positive}
+use Rattle.formal_statements.proofs.Equations.Entries.{pick-is}
+use Rattle.formal_statements.proofs.Equations.Books.{simulatorFor, publicCallOf, publicCallsOf, toldOf, toldsOf, lengths, bookRounds-is, storesFor-is, readAnswer-is, writeAnswer-is, rounds-positive}
 
 abbrev tell : (answer rounds : ℕ) → (stores : List ℕ) → Told
 tell answer rounds stores = record { answer = answer; rounds = rounds; stores = stores }

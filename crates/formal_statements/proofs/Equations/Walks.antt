@@ -12,7 +12,7 @@ use Rattle.laws.proofs.Cases.{cond-cases}
 use Rattle.model.specs as Model
 use Rattle.formal_statements.specs.Disk.{pick, entry, Geometry, fan, areaStart, allBlocks, rootBlock, block, zeros, levelPlace, isWellFormed, leafOf, branchAt, End, found, unmapped, damaged, Walk, passing, emptyNodes, endsWalk, walkFrom, walk}
 use Rattle.formal_statements.proofs.Translation.{geometryOf, walkOf}
-use Rattle.formal_statements.proofs.Entries.{entry-is, block-is}
+use Rattle.formal_statements.proofs.Equations.Entries.{entry-is, block-is}
 
 module _ (g : Geometry) where
   -- ---- levels ----

@@ -16,10 +16,10 @@ use Rattle.model.proofs.Laws.Refusals.{accepted-of-refusal, after-drive-pass, a
 use Rattle.formal_statements.specs.Disk.{pick, Geometry, geometryIn, headIn, mapEntry, isMarked, isPublicBlock, slotOf, Walk, walk}
 use Rattle.formal_statements.specs.Calls.{diskFault, isPlaced, publicFault, roundsTo, writeFault, offerFault, endFault, hiddenFault}
 use Rattle.formal_statements.proofs.Translation.{geometryOf, endOf}
-use Rattle.formal_statements.proofs.Entries.{pick-is, entry-is, geometryIn-is, mapEntry-is}
-use Rattle.formal_statements.proofs.Marks.{isMarked-is}
-use Rattle.formal_statements.proofs.Walks.{walk-is}
-use Rattle.formal_statements.proofs.Refusals.{diskFault-is}
+use Rattle.formal_statements.proofs.Equations.Entries.{pick-is, entry-is, geometryIn-is, mapEntry-is}
+use Rattle.formal_statements.proofs.Equations.Marks.{isMarked-is}
+use Rattle.formal_statements.proofs.Equations.Walks.{walk-is}
+use Rattle.formal_statements.proofs.Equations.Refusals.{diskFault-is}
 
 -- ---- chains over any tests ----
 

@@ -17,7 +17,7 @@ use Rattle.model.proofs.Laws.Slots.{isSlotBlock-slotStart, isSlotBlock-other, i
 use Rattle.formal_statements.specs.Disk.{Geometry, geometryIn, rootBlock, areaStart, block, slotStart}
 use Rattle.formal_statements.specs.Promise.{publicBlocks, viewOf}
 use Rattle.formal_statements.proofs.Translation.{geometryOf}
-use Rattle.formal_statements.proofs.Entries.{block-is, geometryIn-is}
+use Rattle.formal_statements.proofs.Equations.Entries.{block-is, geometryIn-is}
 
 -- ---- which addresses are shown ----
 

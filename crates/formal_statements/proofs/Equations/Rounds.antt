@@ -18,10 +18,10 @@ use Rattle.model.proofs.Laws.Table.{rowAt-ruled}
 use Rattle.formal_statements.specs.Disk.{pick, withEntry, Geometry, fan, rootBlock, block, slotStart, mapBlock, mapEntry, bitBlock, isMarked, marked, slotOf}
 use Rattle.formal_statements.specs.Rounds.{Fate, Store, store, apply, addresses, Half, hiddenHalf, publicStore, headerStore, newBit, oldBit, oldStores, lastStores, roundStores, Written, written, before, roundBy, roundsFrom}
 use Rattle.formal_statements.proofs.Translation.{geometryOf, storesOf, fateOf, halfOf, writtenOf}
-use Rattle.formal_statements.proofs.Entries.{withEntry-is, block-is, mapEntry-is}
-use Rattle.formal_statements.proofs.Marks.{isMarked-is, bitByte-lt, block-marked-is, marked-true-is}
-use Rattle.formal_statements.proofs.Traces.{storesOf-append, addresses-is, apply-is}
-use Rattle.formal_statements.proofs.Halves.{AtMostOne, hiddenHalf-is, hiddenHalf-one}
+use Rattle.formal_statements.proofs.Equations.Entries.{withEntry-is, block-is, mapEntry-is}
+use Rattle.formal_statements.proofs.Equations.Marks.{isMarked-is, bitByte-lt, block-marked-is, marked-true-is}
+use Rattle.formal_statements.proofs.Equations.Traces.{storesOf-append, addresses-is, apply-is}
+use Rattle.formal_statements.proofs.Equations.Halves.{AtMostOne, hiddenHalf-is, hiddenHalf-one}
 
 -- ---- a store never shortens a disk ----
 

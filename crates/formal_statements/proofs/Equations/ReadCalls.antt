@@ -8,10 +8,10 @@ use Rattle.model.specs as Model
 use Rattle.formal_statements.specs.Disk.{pick, Geometry, geometryIn, block, mapEntry, Walk, walk}
 use Rattle.formal_statements.specs.Calls.{publicFault, publicRead, shownBy, hiddenFault, hiddenRead}
 use Rattle.formal_statements.proofs.Translation.{geometryOf, endOf}
-use Rattle.formal_statements.proofs.Entries.{pick-is, block-is, geometryIn-is, mapEntry-is}
-use Rattle.formal_statements.proofs.Walks.{walk-is}
-use Rattle.formal_statements.proofs.CallRefusals.{fits-of-accepted, publicReadRefusal-refused, hiddenReadRefusal-refused, publicFault-is, hiddenFault-is}
-use Rattle.formal_statements.proofs.Answers.{answer-is, accepted-of}
+use Rattle.formal_statements.proofs.Equations.Entries.{pick-is, block-is, geometryIn-is, mapEntry-is}
+use Rattle.formal_statements.proofs.Equations.Walks.{walk-is}
+use Rattle.formal_statements.proofs.Equations.CallRefusals.{fits-of-accepted, publicReadRefusal-refused, hiddenReadRefusal-refused, publicFault-is, hiddenFault-is}
+use Rattle.formal_statements.proofs.Equations.Answers.{answer-is, accepted-of}
 
 module _ (disk : List ℕ) (number : ℕ) (blank : List ℕ) where
   abbrev g : Geometry

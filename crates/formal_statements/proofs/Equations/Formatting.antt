@@ -15,8 +15,8 @@ use Rattle.model.proofs.Laws.Refusals.{sized-of-refusal}
 use Rattle.formal_statements.specs.Disk.{pick, little, Geometry, areaStart}
 use Rattle.formal_statements.specs.Calls.{headerFor, formatFault, formatted}
 use Rattle.formal_statements.proofs.Translation.{geometryOf}
-use Rattle.formal_statements.proofs.Refusals.{formatFault-is}
-use Rattle.formal_statements.proofs.Answers.{answer-is}
+use Rattle.formal_statements.proofs.Equations.Refusals.{formatFault-is}
+use Rattle.formal_statements.proofs.Equations.Answers.{answer-is}
 
 module _ (g : Geometry) (f : Model.Geometry.Fits (geometryOf g)) where
   header-is : headerFor g ≡ Model.Calls.headerBlock (geometryOf g)

@@ -14,7 +14,7 @@ use Rattle.model.specs as Model
 use Rattle.formal_statements.specs.Disk.{pick, isIn, Geometry, fan, allBlocks, geometryFits, geometryIn, headIn}
 use Rattle.formal_statements.specs.Calls.{diskFault, formatFault}
 use Rattle.formal_statements.proofs.Translation.{geometryOf}
-use Rattle.formal_statements.proofs.Entries.{entry-is, geometryIn-is}
+use Rattle.formal_statements.proofs.Equations.Entries.{entry-is, geometryIn-is}
 
 -- ---- tests ----
 

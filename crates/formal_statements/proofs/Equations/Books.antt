@@ -16,8 +16,8 @@ use Rattle.model.specs as Model
 use Rattle.formal_statements.specs.Disk.{pick, Geometry, rootBlock, slotStart, mapBlock, bitBlock, slotOf}
 use Rattle.formal_statements.specs.Promise.{Shape, Book, markAt, entryAt, isGood, readAnswer, roundsIn, bookRounds, slotRun, slotStores, lastOnes, bookStores, writeAnswer, Told}
 use Rattle.formal_statements.proofs.Translation.{geometryOf}
-use Rattle.formal_statements.proofs.Entries.{pick-is}
-use Rattle.formal_statements.proofs.CallRefusals.{place-chain, write-chain}
+use Rattle.formal_statements.proofs.Equations.Entries.{pick-is}
+use Rattle.formal_statements.proofs.Equations.CallRefusals.{place-chain, write-chain}
 
 -- ---- translation ----
 

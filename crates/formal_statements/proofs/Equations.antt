@@ -5,6 +5,7 @@ pub mod Walks
 pub mod Traces
 pub mod Halves
 pub mod Rounds
+pub mod Chains
 pub mod Refusals
 pub mod CallRefusals
 pub mod Answers

@@ -12,11 +12,11 @@ use Rattle.model.specs as Model
 use Rattle.formal_statements.specs.Disk.{pick}
 
 pub answer-is :
-    {A : Type 0} (answer other : ℕ) (x y z : A) → answer ≡ other → (other ≡ 0 → x ≡ y) →
-    pick (eqb answer 0) x z ≡ cond (eqb other 0) y z
-answer-is answer other x y z e same = ap (λ (n : ℕ). pick (eqb n 0) x z) e ∙ by (eqb other 0) refl
+    {A : Type 0} (answer other : ℕ) (here there otherwise : A) → answer ≡ other → (other ≡ 0 → here ≡ there) →
+    pick (eqb answer 0) here otherwise ≡ cond (eqb other 0) there otherwise
+answer-is answer other here there otherwise e same = ap (λ (n : ℕ). pick (eqb n 0) here otherwise) e ∙ by (eqb other 0) refl
   where
-    by : (isDone : Bool) → eqb other 0 ≡ isDone → pick isDone x z ≡ cond isDone y z
+    by : (isDone : Bool) → eqb other 0 ≡ isDone → pick isDone here otherwise ≡ cond isDone there otherwise
     by true p = same (eqb-true other 0 p)
     by false p = refl
 
@@ -24,4 +24,4 @@ pub accepted-of :
     (disk : List ℕ) (answer : ℕ) → (Model.Refusals.driveRefusal disk ≢ 0 → answer ≡ Model.Refusals.driveRefusal disk) →
     answer ≡ 0 → Model.Refusals.driveRefusal disk ≡ 0
 accepted-of disk answer stopped e =
-    ⊎-elim (λ a. a) (λ r. absurd (r (sym (stopped r) ∙ e))) (eq-cases (Model.Refusals.driveRefusal disk) 0)
+    ⊎-elim (λ accepted. accepted) (λ refused. absurd (refused (sym (stopped refused) ∙ e))) (eq-cases (Model.Refusals.driveRefusal disk) 0)

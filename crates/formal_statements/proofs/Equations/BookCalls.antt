@@ -1,21 +1,20 @@
 -- What the book of document 03 tells of a list of calls is what our simulator tells. Assumes nothing.
-use mathlib.Core.Path.{_≡_, refl, sym, ap, ap₂, _∙_, subst}
+use mathlib.Core.Path.{_≡_, refl, ap, ap₂, _∙_}
 use mathlib.Core.Bool.{Bool, true, false, cond, not, _&&_}
 use mathlib.Core.List.{List, [], _∷_, _++_}
-use Prim.Native.Nat.{ℕ, suc, _+_, _-_, _%_, _≤_, _<_}
+use Prim.Native.Nat.{ℕ, _+_, _-_, _%_, _<_}
 use native.Mathlib.Nat.{mod-lt}
 use native.Mathlib.Omega.{arith}
 use lib.Dec.{eqb}
 use lib.ListN.{set}
 use borrow.Author.Tests.{eqb-true}
 use Rattle.laws.specs as Laws
-use Rattle.laws.proofs.Cases.{cond-cases}
 use Rattle.model.specs as Model
-use Rattle.formal_statements.specs.Disk.{pick, Geometry, slotStart, slotOf}
-use Rattle.formal_statements.specs.Promise.{Shape, Book, entryAt, readAnswer, bookRounds, storesFor, bookStores, writeAnswer, lastSlot, unmarkedOld, bookWritten, Told, toldBy, bookAfter, told}
+use Rattle.formal_statements.specs.Disk.{pick, slotStart, slotOf}
+use Rattle.formal_statements.specs.Promise.{Shape, Book, entryAt, readAnswer, bookRounds, storesFor, bookStores, writeAnswer, lastSlot, bookWritten, Told, toldBy, bookAfter, told}
 use Rattle.formal_statements.proofs.Translation.{geometryOf}
 use Rattle.formal_statements.proofs.Equations.Entries.{pick-is}
-use Rattle.formal_statements.proofs.Equations.Books.{simulatorFor, publicCallOf, publicCallsOf, toldOf, toldsOf, lengths, bookRounds-is, storesFor-is, readAnswer-is, writeAnswer-is, rounds-positive}
+use Rattle.formal_statements.proofs.Equations.Books.{simulatorFor, publicCallsOf, toldOf, toldsOf, lengths, bookRounds-is, storesFor-is, readAnswer-is, writeAnswer-is, rounds-positive}
 
 abbrev tell : (answer rounds : ℕ) → (stores : List ℕ) → Told
 tell answer rounds stores = record { answer = answer; rounds = rounds; stores = stores }

@@ -1,9 +1,9 @@
 -- The book of document 03, taken from a disk, is our simulator, taken from that disk's view: header, map and bitmap stand at
 -- the view's front as they do on the disk. Assumes nothing.
-use mathlib.Core.Path.{_≡_, refl, sym, ap, ap₂, _∙_, subst}
+use mathlib.Core.Path.{_≡_, refl, sym, ap, ap₂, _∙_}
 use mathlib.Core.Bool.{Bool}
-use mathlib.Core.List.{List, [], _∷_, _++_}
-use Prim.Native.Nat.{ℕ, zero, suc, _+_, _*_, _-_, _≤_, _<_}
+use mathlib.Core.List.{List, _∷_, _++_}
+use Prim.Native.Nat.{ℕ, zero, suc, _+_, _*_, _≤_, _<_}
 use native.Mathlib.Nat.{mul-le-mul-right}
 use native.Mathlib.Omega.{arith}
 use lib.ListN.{length, take, drop}
@@ -14,8 +14,8 @@ use Rattle.model.specs as Model
 use Rattle.model.proofs.Laws.Geometry.{mapAddress-lt, bitAddress-lt}
 use Rattle.model.proofs.Laws.Bitmap.{isAllocated-block}
 use Rattle.model.proofs.Laws.PublicMap.{mapEntry-block}
-use Rattle.formal_statements.specs.Disk.{Geometry, geometryIn, headIn, rootBlock, mapEntry, isMarked}
-use Rattle.formal_statements.specs.Promise.{Book, entriesOf, marksOf, bookOf, publicBlocks, viewOf}
+use Rattle.formal_statements.specs.Disk.{Geometry, geometryIn, headIn, rootBlock}
+use Rattle.formal_statements.specs.Promise.{entriesOf, marksOf, bookOf, publicBlocks, viewOf}
 use Rattle.formal_statements.proofs.Translation.{geometryOf}
 use Rattle.formal_statements.proofs.Equations.Entries.{entry-is, geometryIn-is, mapEntry-is}
 use Rattle.formal_statements.proofs.Equations.Marks.{isMarked-is}
@@ -102,12 +102,12 @@ module _ (disk : List ℕ) (accepted : Model.Refusals.driveRefusal disk ≡ 0) w
 
   -- our simulator of the view, at a geometry
   abbrev simulatorAt : Model.Geometry.Geometry → Model.Simulator.Simulator
-  simulatorAt h =
+  simulatorAt shape =
       record {
-        geometry = h;
+        geometry = shape;
         head = Model.Layout.headIn (viewOf disk);
-        entries = Model.Simulator.entriesFrom h (viewOf disk) 0 (h .publics);
-        allocated = Model.Simulator.allocatedFrom h (viewOf disk) 0 (h .slots);
+        entries = Model.Simulator.entriesFrom shape (viewOf disk) 0 (shape .publics);
+        allocated = Model.Simulator.allocatedFrom shape (viewOf disk) 0 (shape .slots);
       }
 
   pub bookOf-is : simulatorFor (bookOf disk) ≡ Model.Simulator.simulatorOf (Model.View.viewOf disk)

@@ -2,22 +2,21 @@
 -- ours looked for by their number. Assumes nothing.
 use mathlib.Core.Path.{_≡_, refl, sym, ap, ap₂, _∙_}
 use mathlib.Core.Logic.{_⊎_, inl, inr}
-use mathlib.Core.Bool.{Bool, true, false, cond, not, _&&_, _||_}
-use mathlib.Core.List.{List, [], _∷_, _++_, append-assoc, append-nil}
+use mathlib.Core.Bool.{Bool, true, false, cond, not, _||_}
+use mathlib.Core.List.{List, [], _∷_, _++_, append-assoc}
 use Prim.Native.Nat.{ℕ, zero, suc, _+_, _*_, _-_, _%_, _≤_, _<_}
 use native.Mathlib.Nat.{mod-add-mod, mod-eq-of-lt, mod-lt}
 use native.Mathlib.Omega.{arith}
 use lib.Dec.{ltb, leb, eqb}
-use lib.ListN.{length, getD, set}
-use borrow.Author.Tests.{eq-eqb, ne-eqb, eqb-true}
+use lib.ListN.{length}
+use borrow.Author.Tests.{eq-eqb, ne-eqb}
 use Rattle.laws.specs as Laws
 use Rattle.laws.proofs.Cases.{true-is-not-false}
 use Rattle.model.specs as Model
 use Rattle.formal_statements.specs.Disk.{pick, Geometry, rootBlock, slotStart, mapBlock, bitBlock, slotOf}
 use Rattle.formal_statements.specs.Promise.{Shape, Book, markAt, entryAt, isGood, readAnswer, roundsIn, bookRounds, slotRun, slotStores, lastOnes, bookStores, writeAnswer, Told}
 use Rattle.formal_statements.proofs.Translation.{geometryOf}
-use Rattle.formal_statements.proofs.Equations.Entries.{pick-is}
-use Rattle.formal_statements.proofs.Equations.CallRefusals.{place-chain, write-chain}
+use Rattle.formal_statements.proofs.Equations.Chains.{place-chain, write-chain}
 
 -- ---- translation ----
 
@@ -52,13 +51,13 @@ zero-cases (suc n) = inr (omega arith)
 never : (answer : ℕ) (isFull : Bool) (later : ℕ) → isFull ≡ true → pick (not (eqb answer 0)) answer (pick isFull 7 later) ≡ 0 → ⊥
 never zero true later e z = omega arith
 never (suc answer) true later e z =
-    let p = sym (ap (λ (b : Bool). pick (not b) (suc answer) 7) (ne-eqb (suc answer) 0 (λ w. omega arith))) ∙ z in
+    let p = sym (ap (λ (test : Bool). pick (not test) (suc answer) 7) (ne-eqb (suc answer) 0 (λ e. omega arith))) ∙ z in
     omega arith
 never answer false later e z = true-is-not-false e refl
 
-pick-not : {A : Type 0} (b : Bool) (x y : A) → pick b x y ≡ cond (not b) y x
-pick-not true x y = refl
-pick-not false x y = refl
+pick-not : {A : Type 0} (test : Bool) (here there : A) → pick test here there ≡ cond (not test) there here
+pick-not true here there = refl
+pick-not false here there = refl
 
 module _ (book : Book) where
   abbrev g : Geometry
@@ -191,7 +190,7 @@ module _ (book : Book) where
 
           full : rounds ≡ 0 → (stores : ℕ) → later rounds stores ≡ 7
           full e stores =
-              ap (λ (b : Bool). pick b 7
+              ap (λ (test : Bool). pick test 7
               (pick (ltb (call .random) (rounds * g .height * g .size)) 8 (pick (ltb (call .room) stores) 9 0)))
               (eq-eqb rounds 0 e)
 

@@ -1,22 +1,21 @@
 -- Lists of document 03's calls are ours on every disk: the disk that they leave, what is seen, and what was last placed
 -- under a number. Assumes nothing.
 use mathlib.Core.Path.{_≡_, refl, sym, ap, ap₂, _∙_}
-use mathlib.Core.Bool.{Bool, true, false, cond, _&&_}
-use mathlib.Core.List.{List, [], _∷_, _++_, append-nil}
+use mathlib.Core.Bool.{cond, _&&_}
+use mathlib.Core.List.{List, [], _∷_, _++_}
 use mathlib.Core.Option.{Option, none, some}
-use Prim.Native.Nat.{ℕ, _+_}
-use native.Mathlib.Nat.{zero-add}
+use Prim.Native.Nat.{ℕ}
 use lib.Dec.{eqb}
-use lib.ListN.{length, take, drop, replicate, length-replicate}
+use lib.ListN.{length, take, replicate, length-replicate}
 use lib.Seq.{take-at}
-use Rattle.laws.specs as Laws
 use Rattle.laws.proofs.Lists.{over-is}
 use Rattle.model.specs as Model
+use Rattle.model.specs.Promises.ReadAfterWrite as Ours
 use Rattle.model.proofs.Laws.Stores.{length-addresses}
 use Rattle.formal_statements.specs.Disk.{pick}
 use Rattle.formal_statements.specs.Rounds.{Offer}
-use Rattle.formal_statements.specs.Calls.{Result, write, publicFault, publicRead}
-use Rattle.formal_statements.specs.Promise.{Call, reads, hiddenReads, writesTo, afterOne, diskAfter, Seen, seenBy, seen, viewOf, publicBy, hiddenBy, offeredTo, lastPublic, lastHidden, orBlank, Shape, shapeOf, shapes}
+use Rattle.formal_statements.specs.Calls.{Result, write, publicRead}
+use Rattle.formal_statements.specs.Promise.{Call, reads, hiddenReads, writesTo, afterOne, diskAfter, Seen, seenBy, seen, viewOf, publicBy, hiddenBy, offeredTo, lastPublic, lastHidden}
 use Rattle.formal_statements.proofs.Translation.{offerOf, callOf, callsOf, resultOf}
 use Rattle.formal_statements.proofs.Equations.Entries.{pick-is}
 use Rattle.formal_statements.proofs.Equations.CallRefusals.{publicFault-is}
@@ -49,7 +48,7 @@ seensOf-append (x ∷ xs) ys = ap {B = List Seen} (λ (rest : List Seen). seenOf
 
 offeredTo-is :
     (number : ℕ) (before : Option (List ℕ)) (offer : Option Offer) →
-    offeredTo number offer before ≡ Model.Promises.ReadAfterWrite.offeredUnder number before (offerOf offer)
+    offeredTo number offer before ≡ Ours.offeredUnder number before (offerOf offer)
 offeredTo-is number before none = refl
 offeredTo-is number before (some offer) = pick-is (eqb (offer .number) number) (some (offer .content)) before
 
@@ -90,8 +89,8 @@ module _ (disk : List ℕ) where
   seenBy-is (hiddenReads number blank) = refl
   seenBy-is (writesTo number content random room offer) =
       let result : Model.Calls.Written = ours number content random room offer in
-      ap {B = List Seen} (λ (r : Result).
-      record { answer = r .number; shown = []; rounds = r .rounds; stores = r .stores; view = viewOf (r .disk) } ∷ [])
+      ap {B = List Seen} (λ (given : Result).
+      record { answer = given .number; shown = []; rounds = given .rounds; stores = given .stores; view = viewOf (given .disk) } ∷ [])
       (call-is number content random room offer)
       ∙ ap₂ {C = List Seen} (λ (stores view : List ℕ).
       record { answer = result .answer; shown = []; rounds = result .rounds; stores = stores; view = view } ∷ [])
@@ -99,7 +98,7 @@ module _ (disk : List ℕ) where
 
   publicBy-is :
       (number : ℕ) (before : Option (List ℕ)) (call : Call) →
-      publicBy disk number before call ≡ Model.Promises.ReadAfterWrite.publicAfter number before disk (callOf call)
+      publicBy disk number before call ≡ Ours.publicAfter number before disk (callOf call)
   publicBy-is number before (reads other blank) = refl
   publicBy-is number before (hiddenReads other blank) = refl
   publicBy-is number before (writesTo other content random room offer) =
@@ -109,15 +108,15 @@ module _ (disk : List ℕ) where
 
   hiddenBy-is :
       (number : ℕ) (before : Option (List ℕ)) (call : Call) →
-      hiddenBy disk number before call ≡ Model.Promises.ReadAfterWrite.hiddenAfter number before disk (callOf call)
+      hiddenBy disk number before call ≡ Ours.hiddenAfter number before disk (callOf call)
   hiddenBy-is number before (reads other blank) = refl
   hiddenBy-is number before (hiddenReads other blank) = refl
   hiddenBy-is number before (writesTo other content random room offer) =
       let result : Model.Calls.Written = ours other content random room offer in
-      ap (λ (r : Result). pick (eqb (r .number) 0 && eqb (r .outcome) 1) (offeredTo number offer before) before)
+      ap (λ (given : Result). pick (eqb (given .number) 0 && eqb (given .outcome) 1) (offeredTo number offer before) before)
       (call-is other content random room offer)
-      ∙ pick-is (Model.Promises.ReadAfterWrite.isPlaced result) (offeredTo number offer before) before
-      ∙ ap (λ (after : Option (List ℕ)). cond (Model.Promises.ReadAfterWrite.isPlaced result) after before)
+      ∙ pick-is (Ours.isPlaced result) (offeredTo number offer before) before
+      ∙ ap (λ (after : Option (List ℕ)). cond (Ours.isPlaced result) after before)
       (offeredTo-is number before offer)
 
 -- ---- lists of calls ----
@@ -126,7 +125,7 @@ pub diskAfter-is : (disk : List ℕ) (calls : List Call) → diskAfter disk call
 unfolding diskAfter callsOf Model.Runs.diskAfterAll
 diskAfter-is disk [] = refl
 diskAfter-is disk (call ∷ calls) =
-    ap (λ (d : List ℕ). diskAfter d calls) (afterOne-is disk call)
+    ap (λ (drive : List ℕ). diskAfter drive calls) (afterOne-is disk call)
     ∙ diskAfter-is (Model.Runs.diskAfter disk (callOf call)) calls
 
 pub seen-is : (disk : List ℕ) (calls : List Call) → seen disk calls ≡ seensOf (Model.Runs.seenOfAll disk (callsOf calls))
@@ -134,29 +133,29 @@ unfolding seen callsOf Model.Runs.seenOfAll
 seen-is disk [] = sym seensOf-nil
 seen-is disk (call ∷ calls) =
     let after = Model.Runs.diskAfter disk (callOf call) in
-    ap₂ (λ (here : List Seen) (d : List ℕ). here ++ seen d calls) (seenBy-is disk call)
+    ap₂ (λ (here : List Seen) (drive : List ℕ). here ++ seen drive calls) (seenBy-is disk call)
     (afterOne-is disk call)
     ∙ ap (λ (later : List Seen). seensOf (Model.Runs.seenOf disk (callOf call)) ++ later) (seen-is after calls)
     ∙ sym (seensOf-append (Model.Runs.seenOf disk (callOf call)) (Model.Runs.seenOfAll after (callsOf calls)))
 
 pub lastPublic-is :
     (number : ℕ) (before : Option (List ℕ)) (disk : List ℕ) (calls : List Call) →
-    lastPublic disk number before calls ≡ Model.Promises.ReadAfterWrite.lastPublic number before disk (callsOf calls)
-unfolding lastPublic callsOf Model.Promises.ReadAfterWrite.lastPublic
+    lastPublic disk number before calls ≡ Ours.lastPublic number before disk (callsOf calls)
+unfolding lastPublic callsOf Ours.lastPublic
 lastPublic-is number before disk [] = refl
 lastPublic-is number before disk (call ∷ calls) =
-    ap₂ (λ (d : List ℕ) (b : Option (List ℕ)). lastPublic d number b calls) (afterOne-is disk call)
+    ap₂ (λ (drive : List ℕ) (last : Option (List ℕ)). lastPublic drive number last calls) (afterOne-is disk call)
     (publicBy-is disk number before call)
-    ∙ lastPublic-is number (Model.Promises.ReadAfterWrite.publicAfter number before disk (callOf call))
+    ∙ lastPublic-is number (Ours.publicAfter number before disk (callOf call))
     (Model.Runs.diskAfter disk (callOf call)) calls
 
 pub lastHidden-is :
     (number : ℕ) (before : Option (List ℕ)) (disk : List ℕ) (calls : List Call) →
-    lastHidden disk number before calls ≡ Model.Promises.ReadAfterWrite.lastHidden number before disk (callsOf calls)
-unfolding lastHidden callsOf Model.Promises.ReadAfterWrite.lastHidden
+    lastHidden disk number before calls ≡ Ours.lastHidden number before disk (callsOf calls)
+unfolding lastHidden callsOf Ours.lastHidden
 lastHidden-is number before disk [] = refl
 lastHidden-is number before disk (call ∷ calls) =
-    ap₂ (λ (d : List ℕ) (b : Option (List ℕ)). lastHidden d number b calls) (afterOne-is disk call)
+    ap₂ (λ (drive : List ℕ) (last : Option (List ℕ)). lastHidden drive number last calls) (afterOne-is disk call)
     (hiddenBy-is disk number before call)
-    ∙ lastHidden-is number (Model.Promises.ReadAfterWrite.hiddenAfter number before disk (callOf call))
+    ∙ lastHidden-is number (Ours.hiddenAfter number before disk (callOf call))
     (Model.Runs.diskAfter disk (callOf call)) calls

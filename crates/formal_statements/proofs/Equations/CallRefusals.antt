@@ -1,9 +1,9 @@
--- The calls' refusals of document 03, nested choices, are ours, chains of checks: 4 to 12 over any tests, on a drive that
--- refusals 1 to 3 do not meet, and on every disk. Assumes nothing.
+-- The calls' refusals of document 03, nested choices, are ours, chains of checks: on a drive that refusals 1 to 3 do not
+-- meet, on one that is refused, and so on every disk. Assumes nothing.
 use mathlib.Core.Path.{_≡_, refl, sym, ap, ap₂, _∙_, subst}
 use mathlib.Core.Logic.{_≢_, ⊎-elim}
-use mathlib.Core.Bool.{Bool, true, false, cond, not, _&&_, _||_}
-use mathlib.Core.List.{List, [], _∷_, _++_}
+use mathlib.Core.Bool.{Bool, cond, not, _&&_, _||_}
+use mathlib.Core.List.{List, _++_}
 use Prim.Native.Nat.{ℕ, zero, suc, _+_, _*_, _%_}
 use native.Mathlib.Omega.{arith}
 use lib.Dec.{ltb, leb, eqb}
@@ -15,52 +15,12 @@ use Rattle.model.specs as Model
 use Rattle.model.proofs.Laws.Refusals.{accepted-of-refusal, after-drive-pass, after-drive-stop}
 use Rattle.formal_statements.specs.Disk.{pick, Geometry, geometryIn, headIn, mapEntry, isMarked, isPublicBlock, slotOf, Walk, walk}
 use Rattle.formal_statements.specs.Calls.{diskFault, isPlaced, publicFault, roundsTo, writeFault, offerFault, endFault, hiddenFault}
-use Rattle.formal_statements.proofs.Translation.{geometryOf, endOf}
+use Rattle.formal_statements.proofs.Translation.{geometryOf}
 use Rattle.formal_statements.proofs.Equations.Entries.{pick-is, entry-is, geometryIn-is, mapEntry-is}
 use Rattle.formal_statements.proofs.Equations.Marks.{isMarked-is}
 use Rattle.formal_statements.proofs.Equations.Walks.{walk-is}
+use Rattle.formal_statements.proofs.Equations.Chains.{place-chain, write-chain, offer-chain, hidden-chain}
 use Rattle.formal_statements.proofs.Equations.Refusals.{diskFault-is}
-
--- ---- chains over any tests ----
-
-pub place-chain :
-    (isPast isUnfit isGood : Bool) →
-    _≡_ {A = ℕ} (pick isPast 4 (pick isUnfit 5 (pick isGood 0 6))) (cond isPast 4 (cond isUnfit 5 (cond (not isGood) 6 0)))
-place-chain true isUnfit isGood = refl
-place-chain false true isGood = refl
-place-chain false false true = refl
-place-chain false false false = refl
-
-pub write-chain :
-    (isPast isUnfit isGood isFull isShort isSmall : Bool) →
-    _≡_ {A = ℕ}
-    (pick (not (eqb (pick isPast 4 (pick isUnfit 5 (pick isGood 0 6))) 0)) (pick isPast 4 (pick isUnfit 5 (pick isGood 0 6)))
-    (pick isFull 7 (pick isShort 8 (pick isSmall 9 0))))
-    (cond isPast 4 (cond isUnfit 5 (cond (not isGood) 6 (cond isFull 7 (cond isShort 8 (cond isSmall 9 0))))))
-write-chain true isUnfit isGood isFull isShort isSmall = refl
-write-chain false true isGood isFull isShort isSmall = refl
-write-chain false false false isFull isShort isSmall = refl
-write-chain false false true true isShort isSmall = refl
-write-chain false false true false true isSmall = refl
-write-chain false false true false false true = refl
-write-chain false false true false false false = refl
-
-offer-chain :
-    (isPast isFit : Bool) → _≡_ {A = ℕ} (pick isPast 10 (pick isFit 0 11)) (cond isPast 10 (cond (not isFit) 11 0))
-offer-chain true isFit = refl
-offer-chain false true = refl
-offer-chain false false = refl
-
-hidden-chain :
-    (isPast isFit : Bool) (end : Model.HiddenTree.End) →
-    _≡_ {A = ℕ}
-    (pick (not (eqb (pick isPast 10 (pick isFit 0 11)) 0)) (pick isPast 10 (pick isFit 0 11)) (endFault (endOf end)))
-    (cond isPast 10 (cond (not isFit) 11 (cond (Model.HiddenTree.isDamaged end) 12 0)))
-hidden-chain true isFit end = refl
-hidden-chain false false end = refl
-hidden-chain false true (Model.HiddenTree.found address) = refl
-hidden-chain false true Model.HiddenTree.unmapped = refl
-hidden-chain false true Model.HiddenTree.damaged = refl
 
 -- ---- 10 and 11 ----
 
@@ -79,7 +39,7 @@ module _ (g : Geometry) (f : Model.Geometry.Fits (geometryOf g)) (disk : List �
   unfolding roundsTo Model.Refusals.roundsTo
   roundsTo-is zero slot = refl
   roundsTo-is (suc most) slot =
-      ap₂ (λ (b : Bool) (rounds : ℕ). pick b (pick (eqb rounds 0) 0 (suc rounds)) 1) (isMarked-is g f slot disk)
+      ap₂ (λ (test : Bool) (rounds : ℕ). pick test (pick (eqb rounds 0) 0 (suc rounds)) 1) (isMarked-is g f slot disk)
       (roundsTo-is most ((slot + 1) % g .slots))
       ∙ ap (λ (n : ℕ). pick (Model.Layout.isAllocated (geometryOf g) disk slot) n 1) (more rest)
       ∙ pick-is (Model.Layout.isAllocated (geometryOf g) disk slot) (Model.Refusals.oneMore rest) 1
@@ -91,7 +51,7 @@ module _ (g : Geometry) (f : Model.Geometry.Fits (geometryOf g)) (disk : List �
 
       more : (rounds : ℕ) → pick (eqb rounds 0) 0 (suc rounds) ≡ Model.Refusals.oneMore rounds
       more zero = refl
-      more (suc rounds) = ap (λ (b : Bool). pick b 0 (suc (suc rounds))) (ne-eqb (suc rounds) 0 (λ z. omega arith))
+      more (suc rounds) = ap (λ (test : Bool). pick test 0 (suc (suc rounds))) (ne-eqb (suc rounds) 0 (λ z. omega arith))
 
   -- ---- public calls ----
 
@@ -110,14 +70,14 @@ module _ (g : Geometry) (f : Model.Geometry.Fits (geometryOf g)) (disk : List �
   isPlace-is number =
       let entry = Model.Layout.mapEntry (geometryOf g) disk number in
       ap (λ (n : ℕ). eqb n 0 || isPublicBlock g n && isMarked g disk (slotOf g n)) (mapEntry-is g disk number f)
-      ∙ ap (λ (b : Bool). eqb entry 0 || isPublicBlock g entry && b) (isMarked-is g f (slotOf g entry) disk)
+      ∙ ap (λ (test : Bool). eqb entry 0 || isPublicBlock g entry && test) (isMarked-is g f (slotOf g entry) disk)
 
   placeFault-is :
       (number size : ℕ) → placeFault number size ≡ Laws.Checks.firstOf (Model.Refusals.placeChecks (geometryOf g) disk number size)
   unfolding Model.Refusals.placeChecks Laws.Checks.firstOf
   placeFault-is number size =
       let entry = Model.Layout.mapEntry (geometryOf g) disk number in
-      ap (λ (b : Bool). pick (leb (g .publics) number) 4 (pick (not (eqb size (g .size))) 5 (pick b 0 6))) (isPlace-is number)
+      ap (λ (test : Bool). pick (leb (g .publics) number) 4 (pick (not (eqb size (g .size))) 5 (pick test 0 6))) (isPlace-is number)
       ∙ place-chain (leb (g .publics) number) (not (eqb size (g .size)))
       (eqb entry 0 || Model.Layout.isPlace (geometryOf g) disk entry)
 
@@ -143,9 +103,9 @@ module _ (g : Geometry) (f : Model.Geometry.Fits (geometryOf g)) (disk : List �
       let good = eqb entry 0 || Model.Layout.isPlace (geometryOf g) disk entry in
       let count : roundsTo (g .slots) g disk (headIn disk) ≡ rounds =
       ap (roundsTo (g .slots) g disk) (entry-is 5 disk) ∙ roundsTo-is (g .slots) (Model.Layout.headIn disk) in
-      ap₂ (λ (b : Bool) (later : ℕ).
-      pick (not (eqb (pick (leb (g .publics) number) 4 (pick unfit 5 (pick b 0 6))) 0))
-      (pick (leb (g .publics) number) 4 (pick unfit 5 (pick b 0 6))) later)
+      ap₂ (λ (test : Bool) (later : ℕ).
+      pick (not (eqb (pick (leb (g .publics) number) 4 (pick unfit 5 (pick test 0 6))) 0))
+      (pick (leb (g .publics) number) 4 (pick unfit 5 (pick test 0 6))) later)
       (isPlace-is number) (ap₂ (roundFault random room) count (mapEntry-is g disk number f))
       ∙ write-chain (leb (g .publics) number) unfit good (eqb rounds 0) (ltb random (rounds * g .height * g .size))
       (ltb room (rounds * (g .height + 3) + pick (eqb entry 0) 2 3))
@@ -163,7 +123,7 @@ module _ (g : Geometry) (f : Model.Geometry.Fits (geometryOf g)) (disk : List �
       (Model.Refusals.hiddenChecks (geometryOf g) number (length blank) ++ Model.Refusals.walkChecks (geometryOf g) disk number)
   unfolding Model.Refusals.hiddenChecks Model.Refusals.walkChecks Laws.Checks.firstOf
   walkFault-is number blank =
-      ap (λ (w : Walk). pick (not (eqb (offerFault g number blank) 0)) (offerFault g number blank) (endFault (w .ends)))
+      ap (λ (walked : Walk). pick (not (eqb (offerFault g number blank) 0)) (offerFault g number blank) (endFault (walked .ends)))
       (walk-is g disk number f)
       ∙ hidden-chain (leb (g .hidden) number) (eqb (length blank) (g .size)) (Model.HiddenTree.walk (geometryOf g) disk number .end)
 
@@ -183,7 +143,7 @@ module _ (disk : List ℕ) (accepted : Model.Refusals.driveRefusal disk ≡ 0) w
   publicFault-accepted number blank =
       after-drive (placeFault (geometryIn disk) fits-of-accepted disk number (length blank))
       ∙ placeFault-is (geometryIn disk) fits-of-accepted disk number (length blank)
-      ∙ ap (λ (g : Model.Geometry.Geometry). Laws.Checks.firstOf (Model.Refusals.placeChecks g disk number (length blank)))
+      ∙ ap (λ (shape : Model.Geometry.Geometry). Laws.Checks.firstOf (Model.Refusals.placeChecks shape disk number (length blank)))
       (geometryIn-is disk)
       ∙ sym (after-drive-pass disk (Model.Refusals.placeChecks (Model.Layout.geometryIn disk) disk number (length blank)) accepted)
 
@@ -198,8 +158,8 @@ module _ (disk : List ℕ) (accepted : Model.Refusals.driveRefusal disk ≡ 0) w
       (roundFault g f disk random room (roundsTo (g .slots) g disk (headIn disk)) (mapEntry g disk number)))
       (after-drive (placeFault g f disk number (length content)))
       ∙ roundFault-is g f disk number (length content) random room
-      ∙ ap (λ (g : Model.Geometry.Geometry). Laws.Checks.firstOf
-      (Model.Refusals.placeChecks g disk number (length content) ++ Model.Refusals.roundChecks g disk number random room))
+      ∙ ap (λ (shape : Model.Geometry.Geometry). Laws.Checks.firstOf
+      (Model.Refusals.placeChecks shape disk number (length content) ++ Model.Refusals.roundChecks shape disk number random room))
       (geometryIn-is disk)
       ∙ sym (after-drive-pass disk _ accepted)
 
@@ -210,8 +170,8 @@ module _ (disk : List ℕ) (accepted : Model.Refusals.driveRefusal disk ≡ 0) w
       let g = geometryIn disk in
       after-drive (pick (not (eqb (offerFault g number blank) 0)) (offerFault g number blank) (endFault (walk g disk number .ends)))
       ∙ walkFault-is g fits-of-accepted disk number blank
-      ∙ ap (λ (g : Model.Geometry.Geometry). Laws.Checks.firstOf
-      (Model.Refusals.hiddenChecks g number (length blank) ++ Model.Refusals.walkChecks g disk number)) (geometryIn-is disk)
+      ∙ ap (λ (shape : Model.Geometry.Geometry). Laws.Checks.firstOf
+      (Model.Refusals.hiddenChecks shape number (length blank) ++ Model.Refusals.walkChecks shape disk number)) (geometryIn-is disk)
       ∙ sym (after-drive-pass disk _ accepted)
 
 -- ---- on a drive that is refused ----
@@ -220,7 +180,7 @@ module _ (disk : List ℕ) (refused : Model.Refusals.driveRefusal disk ≢ 0) wh
   stops : (answer later : ℕ) → answer ≡ Model.Refusals.driveRefusal disk → pick (not (eqb answer 0)) answer later ≡ Model.Refusals.driveRefusal disk
   stops answer later e =
       ap (λ (n : ℕ). pick (not (eqb n 0)) n later) e
-      ∙ ap (λ (b : Bool). pick (not b) (Model.Refusals.driveRefusal disk) later) (ne-eqb (Model.Refusals.driveRefusal disk) 0 refused)
+      ∙ ap (λ (test : Bool). pick (not test) (Model.Refusals.driveRefusal disk) later) (ne-eqb (Model.Refusals.driveRefusal disk) 0 refused)
 
   publicFault-refused : (number : ℕ) (blank : List ℕ) → publicFault disk number blank ≡ Model.Refusals.driveRefusal disk
   publicFault-refused number blank = stops (diskFault disk) _ (diskFault-is disk)
@@ -246,22 +206,22 @@ module _ (disk : List ℕ) (refused : Model.Refusals.driveRefusal disk ≢ 0) wh
 pub publicFault-is :
     (disk : List ℕ) (number : ℕ) (blank : List ℕ) → publicFault disk number blank ≡ Model.Refusals.publicReadRefusal disk number blank
 publicFault-is disk number blank =
-    ⊎-elim (λ a. publicFault-accepted disk a number blank)
-    (λ r. publicFault-refused disk r number blank ∙ sym (publicReadRefusal-refused disk r number blank))
+    ⊎-elim (λ accepted. publicFault-accepted disk accepted number blank)
+    (λ refused. publicFault-refused disk refused number blank ∙ sym (publicReadRefusal-refused disk refused number blank))
     (eq-cases (Model.Refusals.driveRefusal disk) 0)
 
 pub hiddenFault-is :
     (disk : List ℕ) (number : ℕ) (blank : List ℕ) → hiddenFault disk number blank ≡ Model.Refusals.hiddenReadRefusal disk number blank
 hiddenFault-is disk number blank =
-    ⊎-elim (λ a. hiddenFault-accepted disk a number blank)
-    (λ r. stops disk r (diskFault disk) _ (diskFault-is disk) ∙ sym (hiddenReadRefusal-refused disk r number blank))
+    ⊎-elim (λ accepted. hiddenFault-accepted disk accepted number blank)
+    (λ refused. stops disk refused (diskFault disk) _ (diskFault-is disk) ∙ sym (hiddenReadRefusal-refused disk refused number blank))
     (eq-cases (Model.Refusals.driveRefusal disk) 0)
 
 pub writeFault-is :
     (disk : List ℕ) (number : ℕ) (content : List ℕ) (random room : ℕ) →
     writeFault disk number content random room ≡ Model.Refusals.writeRefusal disk number content random room
 writeFault-is disk number content random room =
-    ⊎-elim (λ a. writeFault-accepted disk a number content random room)
-    (λ r. stops disk r (publicFault disk number content) _ (publicFault-refused disk r number content)
-    ∙ sym (writeRefusal-refused disk r number content random room))
+    ⊎-elim (λ accepted. writeFault-accepted disk accepted number content random room)
+    (λ refused. stops disk refused (publicFault disk number content) _ (publicFault-refused disk refused number content)
+    ∙ sym (writeRefusal-refused disk refused number content random room))
     (eq-cases (Model.Refusals.driveRefusal disk) 0)

@@ -1,7 +1,7 @@
 -- Bytes, entries, blocks and map entries of document 03 are ours. Assumes nothing.
-use mathlib.Core.Path.{_≡_, refl, sym, ap, ap₂, _∙_}
+use mathlib.Core.Path.{_≡_, refl, sym, ap, _∙_}
 use mathlib.Core.Bool.{Bool, true, false, cond}
-use mathlib.Core.List.{List, [], _∷_, _++_}
+use mathlib.Core.List.{List, [], _∷_}
 use Prim.Native.Nat.{ℕ, zero, suc, _+_, _*_, _/_, _%_}
 use native.Mathlib.Omega.{arith}
 use lib.ListN.{drop, take}
@@ -14,9 +14,9 @@ use Rattle.formal_statements.proofs.Translation.{geometryOf}
 
 -- ---- choices ----
 
-pub pick-is : {A : Type 0} (b : Bool) (x y : A) → pick b x y ≡ cond b x y
-pick-is true x y = refl
-pick-is false x y = refl
+pub pick-is : {A : Type 0} (test : Bool) (here there : A) → pick test here there ≡ cond test here there
+pick-is true here there = refl
+pick-is false here there = refl
 
 -- ---- bytes ----
 
@@ -61,7 +61,7 @@ entry-block-is g disk index address =
 -- ---- the header ----
 
 pub geometryIn-is : (disk : List ℕ) → geometryOf (geometryIn disk) ≡ Model.Layout.geometryIn disk
-geometryIn-is disk = rw (entry-is 0, entry-is 1, entry-is 2, entry-is 3, entry-is 4)
+geometryIn-is disk = rw (entry-is 0 disk, entry-is 1 disk, entry-is 2 disk, entry-is 3 disk, entry-is 4 disk)
 
 -- ---- the public map ----
 

@@ -1,18 +1,16 @@
 -- Formatting of document 03 is ours on every disk. Assumes nothing.
-use mathlib.Core.Path.{_≡_, refl, sym, ap, ap₂, _∙_}
-use mathlib.Core.Bool.{Bool, cond}
-use mathlib.Core.List.{List, [], _∷_, _++_, append-assoc}
-use Prim.Native.Nat.{ℕ, zero, suc, _+_, _*_, _-_}
+use mathlib.Core.Path.{_≡_, sym, ap, ap₂, _∙_}
+use mathlib.Core.List.{List, [], _∷_, _++_}
+use Prim.Native.Nat.{ℕ, suc, _+_, _*_, _-_}
 use native.Mathlib.Nat.{suc-mul, zero-add}
 use native.Mathlib.Omega.{arith}
-use lib.Dec.{eqb}
 use lib.ListN.{length, drop, replicate, length-append, length-replicate, replicate-append-replicate}
 use Rattle.laws.specs as Laws
 use Rattle.laws.proofs.Lists.{over-is}
 use Rattle.model.specs as Model
 use Rattle.model.proofs.Laws.Entries.{length-packed}
 use Rattle.model.proofs.Laws.Refusals.{sized-of-refusal}
-use Rattle.formal_statements.specs.Disk.{pick, little, Geometry, areaStart}
+use Rattle.formal_statements.specs.Disk.{little, Geometry, areaStart}
 use Rattle.formal_statements.specs.Calls.{headerFor, formatFault, formatted}
 use Rattle.formal_statements.proofs.Translation.{geometryOf}
 use Rattle.formal_statements.proofs.Equations.Refusals.{formatFault-is}

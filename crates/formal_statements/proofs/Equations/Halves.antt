@@ -2,18 +2,18 @@
 -- Assumes nothing.
 use mathlib.Core.Path.{_≡_, refl, sym, ap, ap₂, _∙_, subst}
 use mathlib.Core.Bool.{Bool, true, false, cond, not, _&&_, _||_}
-use mathlib.Core.List.{List, [], _∷_, _++_}
-use mathlib.Core.Option.{Option, none, some}
-use Prim.Native.Nat.{ℕ, zero, suc, _+_, _*_, _-_, _≤_, _<_}
+use mathlib.Core.List.{List, [], _∷_}
+use mathlib.Core.Option.{Option}
+use Prim.Native.Nat.{ℕ, suc, _+_, _-_}
 use native.Mathlib.Omega.{arith}
-use lib.Dec.{ltb, eqb}
+use lib.Dec.{ltb}
 use borrow.Author.Tests.{ne-eqb}
 use Rattle.laws.proofs.Cases.{cond-cases}
 use Rattle.model.specs as Model
 use Rattle.model.proofs.Laws.Table.{rowAt-ruled}
 use Rattle.formal_statements.specs.Disk.{pick, Geometry, fan, block, slotStart, End, Walk, walk}
 use Rattle.formal_statements.specs.Rounds.{Offer, Fate, Store, ownerOf, isFoundAt, isDamaged, isLive, ownerDamaged, Half, half, keepsFate, placedFate, offerHalf, hiddenHalf, keptStores, pathStores}
-use Rattle.formal_statements.proofs.Translation.{geometryOf, endOf, storesOf, fateOf, waitingOf, halfOf}
+use Rattle.formal_statements.proofs.Translation.{geometryOf, endOf, fateOf, waitingOf, halfOf}
 use Rattle.formal_statements.proofs.Equations.Entries.{entry-block-is, block-is}
 use Rattle.formal_statements.proofs.Equations.Walks.{walk-is}
 use Rattle.formal_statements.proofs.Equations.Traces.{keptStores-is, dummyStores-is, currentPath-is}
@@ -43,7 +43,7 @@ module _ (g : Geometry) (f : Model.Geometry.Fits (geometryOf g)) (disk : List �
   walk-damaged-is :
       (number : ℕ) → isDamaged (walk g disk number .ends) ≡ Model.HiddenTree.isDamaged (Model.HiddenTree.walk (geometryOf g) disk number .end)
   walk-damaged-is number =
-      ap (λ (w : Walk). isDamaged (w .ends)) (walk-is g disk number f)
+      ap (λ (walked : Walk). isDamaged (walked .ends)) (walk-is g disk number f)
       ∙ isDamaged-is (Model.HiddenTree.walk (geometryOf g) disk number .end)
 
   module _ (slot : ℕ) where
@@ -58,15 +58,15 @@ module _ (g : Geometry) (f : Model.Geometry.Fits (geometryOf g)) (disk : List �
     unfolding Model.HiddenHalf.isLive
     isLive-is =
         ap (λ (n : ℕ). ltb n (g .hidden) && isFoundAt (slotStart g slot + g .height) (walk g disk n .ends)) ownerOf-is
-        ∙ ap (λ (b : Bool). ltb owner (g .hidden) && b)
-        (ap (λ (w : Walk). isFoundAt (slotStart g slot + g .height) (w .ends)) (walk-is g disk owner f)
+        ∙ ap (λ (test : Bool). ltb owner (g .hidden) && test)
+        (ap (λ (walked : Walk). isFoundAt (slotStart g slot + g .height) (walked .ends)) (walk-is g disk owner f)
         ∙ isFoundAt-is (slotStart g slot + g .height) (Model.HiddenTree.walk (geometryOf g) disk owner .end))
 
     ownerDamaged-is : ownerDamaged g disk slot ≡ Model.HiddenHalf.isOwnerDamaged (geometryOf g) disk slot
     unfolding Model.HiddenHalf.isOwnerDamaged
     ownerDamaged-is =
         ap (λ (n : ℕ). ltb n (g .hidden) && isDamaged (walk g disk n .ends)) ownerOf-is
-        ∙ ap (λ (b : Bool). ltb owner (g .hidden) && b) (walk-damaged-is owner)
+        ∙ ap (λ (test : Bool). ltb owner (g .hidden) && test) (walk-damaged-is owner)
 
     -- ---- the half ----
 
@@ -126,7 +126,7 @@ module _ (g : Geometry) (f : Model.Geometry.Fits (geometryOf g)) (disk : List �
       unfolding Model.HiddenHalf.hiddenBy Model.HiddenHalf.isNextDamaged
       offer-half-is [] one = ap (λ (stores : List Store). half stores (fateOf state)) (dummyStores-is g disk slot random)
       offer-half-is (next ∷ later) one =
-          ap₂ (λ (b : Bool) (placed : Half). pick b (half (keptStores g disk slot) (keepsFate (fateOf state))) placed)
+          ap₂ (λ (test : Bool) (placed : Half). pick test (half (keptStores g disk slot) (keepsFate (fateOf state))) placed)
           (walk-damaged-is (next .number))
           (ap₂ half (currentPath-is g (next .number) slot disk (next .content) f) (placedFate-is later one))
           ∙ by (Model.HiddenTree.isDamaged (Model.HiddenTree.walk (geometryOf g) disk (next .number) .end))

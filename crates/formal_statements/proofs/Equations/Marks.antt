@@ -1,10 +1,10 @@
 -- Marks of document 03, bits at a byte of the whole disk, are ours, bits of a bitmap block; and the disk with a bit
 -- changed has our block with that bit. Assumes nothing.
 use mathlib.Core.Path.{_≡_, refl, sym, ap, ap₂, _∙_}
-use mathlib.Core.Logic.{_⊎_, inl, inr, ⊎-elim}
+use mathlib.Core.Logic.{⊎-elim}
 use mathlib.Core.Bool.{Bool, true, false}
 use mathlib.Core.List.{List, [], _∷_, _++_}
-use Prim.Native.Nat.{ℕ, zero, suc, _+_, _*_, _-_, _/_, _%_, _^_, _≤_, _<_}
+use Prim.Native.Nat.{ℕ, _+_, _*_, _-_, _/_, _%_, _^_, _≤_, _<_}
 use native.Mathlib.Nat.{div-add-mod', zero-div}
 use native.Mathlib.Omega.{arith}
 use lib.Dec.{eqb}
@@ -12,7 +12,7 @@ use lib.ListN.{length, getD, take, drop, set, length-set, take-append-drop, List
 use lib.Seq.{take-set-le, drop-set-lt, take-add, set-getD}
 use borrow.Author.Tests.{eqb-true}
 use Rattle.laws.specs as Laws
-use Rattle.laws.proofs.Cases.{bool-cases, lt-cases, true-is-not-false}
+use Rattle.laws.proofs.Cases.{lt-cases}
 use Rattle.laws.proofs.Lists.{part-is, length-part, part-set-in, over-one, over-is}
 use Rattle.laws.proofs.Bits.{withBit-set, withBit-set-already, withBit-clear, withBit-clear-already}
 use Rattle.model.specs as Model

@@ -27,15 +27,15 @@ module _ (disk : List ℕ) (number : ℕ) (blank : List ℕ) where
       let entry = Model.Layout.mapEntry (geometryOf g) disk number in
       ap (λ (n : ℕ). pick (eqb n 0) blank (block g disk n)) (mapEntry-is g disk number f)
       ∙ pick-is (eqb entry 0) blank (block g disk entry) ∙ ap (cond (eqb entry 0) blank) (block-is g disk entry)
-      ∙ ap (λ (h : Model.Geometry.Geometry). cond (eqb (Model.Layout.mapEntry h disk number) 0) blank
-      (Model.Blocks.blockAt (h .blockSize) disk (Model.Layout.mapEntry h disk number))) (geometryIn-is disk)
+      ∙ ap (λ (shape : Model.Geometry.Geometry). cond (eqb (Model.Layout.mapEntry shape disk number) 0) blank
+      (Model.Blocks.blockAt (shape .blockSize) disk (Model.Layout.mapEntry shape disk number))) (geometryIn-is disk)
 
   pub publicRead-is : publicRead disk number blank ≡ Model.Calls.publicRead disk number blank
   unfolding Model.Calls.publicRead
   publicRead-is =
       answer-is (publicFault disk number blank) (Model.Refusals.publicReadRefusal disk number blank) _ _ []
       (publicFault-is disk number blank)
-      (λ e. placed-is (fits-of-accepted disk (accepted-of disk _ (λ r. publicReadRefusal-refused disk r number blank) e)))
+      (λ e. placed-is (fits-of-accepted disk (accepted-of disk _ (λ refused. publicReadRefusal-refused disk refused number blank) e)))
 
   shownBy-is :
       (end : Model.HiddenTree.End) →
@@ -50,9 +50,9 @@ module _ (disk : List ℕ) (number : ℕ) (blank : List ℕ) where
       Model.Calls.shownAt (Model.Layout.geometryIn disk) disk blank
       (Model.HiddenTree.walk (Model.Layout.geometryIn disk) disk number .end)
   shown-is f =
-      ap (λ (w : Walk). shownBy disk blank (w .ends)) (walk-is g disk number f)
+      ap (λ (walked : Walk). shownBy disk blank (walked .ends)) (walk-is g disk number f)
       ∙ shownBy-is (Model.HiddenTree.walk (geometryOf g) disk number .end)
-      ∙ ap (λ (h : Model.Geometry.Geometry). Model.Calls.shownAt h disk blank (Model.HiddenTree.walk h disk number .end))
+      ∙ ap (λ (shape : Model.Geometry.Geometry). Model.Calls.shownAt shape disk blank (Model.HiddenTree.walk shape disk number .end))
       (geometryIn-is disk)
 
   pub hiddenRead-is : hiddenRead disk number blank ≡ Model.Calls.hiddenRead disk number blank
@@ -60,4 +60,4 @@ module _ (disk : List ℕ) (number : ℕ) (blank : List ℕ) where
   hiddenRead-is =
       answer-is (hiddenFault disk number blank) (Model.Refusals.hiddenReadRefusal disk number blank) _ _ []
       (hiddenFault-is disk number blank)
-      (λ e. shown-is (fits-of-accepted disk (accepted-of disk _ (λ r. hiddenReadRefusal-refused disk r number blank) e)))
+      (λ e. shown-is (fits-of-accepted disk (accepted-of disk _ (λ refused. hiddenReadRefusal-refused disk refused number blank) e)))

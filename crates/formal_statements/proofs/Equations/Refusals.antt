@@ -3,7 +3,7 @@ use mathlib.Core.Path.{_≡_, refl, sym, ap, ap₂, _∙_}
 use mathlib.Core.Logic.{⊎-elim}
 use mathlib.Core.Bool.{Bool, true, false, cond, not, _&&_, _||_}
 use mathlib.Core.List.{List, [], _∷_, _++_}
-use Prim.Native.Nat.{ℕ, _+_, _*_, _-_, _^_}
+use Prim.Native.Nat.{ℕ, _*_, _-_, _^_}
 use native.Mathlib.Omega.{arith}
 use lib.Dec.{ltb, leb, eqb}
 use lib.ListN.{length}
@@ -15,6 +15,7 @@ use Rattle.formal_statements.specs.Disk.{pick, isIn, Geometry, fan, allB
 use Rattle.formal_statements.specs.Calls.{diskFault, formatFault}
 use Rattle.formal_statements.proofs.Translation.{geometryOf}
 use Rattle.formal_statements.proofs.Equations.Entries.{entry-is, geometryIn-is}
+use Rattle.formal_statements.proofs.Equations.Chains.{size-chain, drive-chain}
 
 -- ---- tests ----
 
@@ -50,50 +51,29 @@ unfolding Model.Geometry.isGeometry
 geometryFits-is g =
     let n = g .size in
     let size = or-nested (eqb n 32) (eqb n 64) (eqb n 128) (eqb n 256) (eqb n 512) (eqb n 1024) (eqb n 2048) (eqb n 4096) in
-    let front = and-nested (Model.Geometry.isOneOf n Model.Geometry.blockSizes) (leb 2 (g .height)) (leb (g .height) 4) in
-    ap₂ (λ (a b : Bool).
-    a && leb 1 (g .publics) && leb 1 (g .hidden) && ltb (g .publics) (g .slots) && ltb (g .hidden) (g .slots) &&
-    leb (g .hidden) ((fan g - 1) * fan g ^ (g .height - 1)) && b)
-    (ap (λ (b : Bool). b && isIn 2 4 (g .height)) size ∙ front) (most-blocks (allBlocks g))
-
-size-chain :
-    (isShort isGood isWhole : Bool) →
-    _≡_ {A = ℕ} (pick isShort 1 (pick (not isGood) 1 (pick isWhole 0 2)))
-    (cond (isShort || not isGood) 1 (cond (not isWhole) 2 0))
-size-chain true isGood isWhole = refl
-size-chain false false isWhole = refl
-size-chain false true true = refl
-size-chain false true false = refl
+    let heights = and-nested (Model.Geometry.isOneOf n Model.Geometry.blockSizes) (leb 2 (g .height)) (leb (g .height) 4) in
+    ap₂ (λ (front last : Bool).
+    front && leb 1 (g .publics) && leb 1 (g .hidden) && ltb (g .publics) (g .slots) && ltb (g .hidden) (g .slots) &&
+    leb (g .hidden) ((fan g - 1) * fan g ^ (g .height - 1)) && last)
+    (ap (λ (test : Bool). test && isIn 2 4 (g .height)) size ∙ heights) (most-blocks (allBlocks g))
 
 pub formatFault-is : (disk : List ℕ) (g : Geometry) → formatFault disk g ≡ Model.Refusals.formatRefusal disk (geometryOf g)
 unfolding Model.Refusals.sizeRefusal Model.Refusals.sizeChecks Laws.Checks.firstOf
 formatFault-is disk g =
-    ap (λ (b : Bool). pick (ltb (length disk) 24) 1 (pick (not b) 1 (pick (eqb (length disk) (allBlocks g * g .size)) 0 2)))
+    ap (λ (test : Bool). pick (ltb (length disk) 24) 1 (pick (not test) 1 (pick (eqb (length disk) (allBlocks g * g .size)) 0 2)))
     (geometryFits-is g)
     ∙ size-chain (ltb (length disk) 24) (Model.Geometry.isGeometry (geometryOf g)) (eqb (length disk) (allBlocks g * g .size))
-
-drive-chain :
-    (isShort isGood isWhole isInside : Bool) →
-    _≡_ {A = ℕ}
-    (pick isShort 1
-    (pick (not (eqb (pick (not isGood) 1 (pick isWhole 0 2)) 0)) (pick (not isGood) 1 (pick isWhole 0 2)) (pick isInside 0 3)))
-    (cond (isShort || not isGood) 1 (cond (not isWhole) 2 (cond (not isInside) 3 0)))
-drive-chain true isGood isWhole isInside = refl
-drive-chain false false isWhole isInside = refl
-drive-chain false true false isInside = refl
-drive-chain false true true true = refl
-drive-chain false true true false = refl
 
 pub diskFault-is : (disk : List ℕ) → diskFault disk ≡ Model.Refusals.driveRefusal disk
 unfolding Model.Refusals.driveRefusal Model.Refusals.driveChecks Model.Refusals.sizeChecks Laws.Checks.firstOf
 diskFault-is disk =
     let n = length disk in
     let g = geometryOf (geometryIn disk) in
-    ap (λ (b : Bool). pick (ltb n 24) 1
-    (pick (not (eqb (pick (not b) 1 (pick (eqb n (Model.Geometry.driveSize g)) 0 2)) 0)) (pick (not b) 1 (pick (eqb n (Model.Geometry.driveSize g)) 0 2))
+    ap (λ (test : Bool). pick (ltb n 24) 1
+    (pick (not (eqb (pick (not test) 1 (pick (eqb n (Model.Geometry.driveSize g)) 0 2)) 0)) (pick (not test) 1 (pick (eqb n (Model.Geometry.driveSize g)) 0 2))
     (pick (ltb (headIn disk) (g .slots)) 0 3))) (geometryFits-is (geometryIn disk))
     ∙ drive-chain (ltb n 24) (Model.Geometry.isGeometry g) (eqb n (Model.Geometry.driveSize g)) (ltb (headIn disk) (g .slots))
-    ∙ ap (λ (b : Bool). cond (ltb n 24 || not (Model.Geometry.isGeometry g)) 1 (cond (not (eqb n (Model.Geometry.driveSize g))) 2 (cond b 3 0)))
+    ∙ ap (λ (test : Bool). cond (ltb n 24 || not (Model.Geometry.isGeometry g)) 1 (cond (not (eqb n (Model.Geometry.driveSize g))) 2 (cond test 3 0)))
     (sym (leb-not-ltb (g .slots) (headIn disk)))
     ∙ ap₂ (λ (shape : Model.Geometry.Geometry) (head : ℕ). Laws.Checks.firstOf
     (Model.Refusals.sizeChecks n shape ++ (Laws.Checks.check (leb (shape .slots) head) 3 ∷ []))) (geometryIn-is disk) (entry-is 5 disk)

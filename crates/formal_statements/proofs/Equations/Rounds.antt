@@ -1,13 +1,12 @@
 -- The rounds of document 03's writes are ours, on a disk that holds header, map and bitmap whole. Assumes nothing.
-use mathlib.Core.Path.{_≡_, refl, sym, ap, ap₂, _∙_, subst}
-use mathlib.Core.Bool.{Bool, true, false, cond, not, _&&_, _||_}
+use mathlib.Core.Path.{_≡_, refl, sym, ap, ap₂, _∙_}
+use mathlib.Core.Bool.{Bool, true, false, cond}
 use mathlib.Core.List.{List, [], _∷_, _++_, append-assoc}
-use mathlib.Core.Option.{Option, none, some}
-use Prim.Native.Nat.{ℕ, zero, suc, _+_, _*_, _-_, _%_, _≤_, _<_}
+use Prim.Native.Nat.{ℕ, zero, suc, _+_, _*_, _%_, _≤_, _<_}
 use native.Mathlib.Nat.{mul-le-mul-right, le-trans}
 use native.Mathlib.Omega.{arith}
 use lib.Dec.{eqb}
-use lib.ListN.{length, take, drop, length-append, length-take, length-drop}
+use lib.ListN.{length, drop, length-append, length-take, length-drop}
 use Rattle.laws.specs as Laws
 use Rattle.laws.proofs.Cases.{true-is-not-false}
 use Rattle.model.specs as Model
@@ -16,7 +15,7 @@ use Rattle.model.proofs.Laws.Slots.{nextSlot-lt}
 use Rattle.model.proofs.Laws.Stores.{apply-append, apply-one, addresses-append}
 use Rattle.model.proofs.Laws.Table.{rowAt-ruled}
 use Rattle.formal_statements.specs.Disk.{pick, withEntry, Geometry, fan, rootBlock, block, slotStart, mapBlock, mapEntry, bitBlock, isMarked, marked, slotOf}
-use Rattle.formal_statements.specs.Rounds.{Fate, Store, store, apply, addresses, Half, hiddenHalf, publicStore, headerStore, newBit, oldBit, oldStores, lastStores, roundStores, Written, written, before, roundBy, roundsFrom}
+use Rattle.formal_statements.specs.Rounds.{Fate, Store, store, apply, addresses, Half, hiddenHalf, publicStore, headerStore, newBit, lastStores, roundStores, Written, written, before, roundBy, roundsFrom}
 use Rattle.formal_statements.proofs.Translation.{geometryOf, storesOf, fateOf, halfOf, writtenOf}
 use Rattle.formal_statements.proofs.Equations.Entries.{withEntry-is, block-is, mapEntry-is}
 use Rattle.formal_statements.proofs.Equations.Marks.{isMarked-is, bitByte-lt, block-marked-is, marked-true-is}
@@ -125,9 +124,9 @@ module _ (g : Geometry) (f : Model.Geometry.Fits (geometryOf g)) (number : ℕ) 
           storesOf (Model.Rounds.roundTrace (choiceOf isOn) (geometryOf g) disk number slot content hidden)
       unfolding storesOf Model.Rounds.roundTrace Model.Rounds.publicStore Model.Rounds.mapStores
       roundStores-is isOn e =
-          ap (λ (b : Bool).
-          (store (slotStart g slot) (pick b (block g disk (slotStart g slot)) content) ∷ storesOf hidden) ++
-          pick b [] (lastStores g disk number slot) ++ (headerStore g disk slot ∷ [])) e
+          ap (λ (test : Bool).
+          (store (slotStart g slot) (pick test (block g disk (slotStart g slot)) content) ∷ storesOf hidden) ++
+          pick test [] (lastStores g disk number slot) ++ (headerStore g disk slot ∷ [])) e
           ∙ by isOn
         where
           by : (isOn : Bool) →
@@ -206,7 +205,7 @@ module _ (g : Geometry) (f : Model.Geometry.Fits (geometryOf g)) (number : ℕ) 
           (isOn : Bool) (whole : List ℕ) → isMarked g disk slot ≡ isOn → length disk ≤ length whole → Later →
           onward whole (fateOf (hidden .state)) ≡ writtenOf (g .size) whole (rest (choiceOf isOn) whole)
       onward-is isOn whole e longer go =
-          ap (λ (b : Bool). pick b (roundsFrom most g number next content later whole (fateOf (hidden .state)))
+          ap (λ (test : Bool). pick test (roundsFrom most g number next content later whole (fateOf (hidden .state)))
           (written whole 0 [] (fateOf (hidden .state)))) e
           ∙ both isOn
         where

@@ -1,17 +1,16 @@
 -- The stores of document 03's rounds are ours: those of a path, of blocks written back and of random blocks, and what
 -- stores do to a disk. Assumes nothing.
 use mathlib.Core.Path.{_≡_, refl, sym, ap, ap₂, _∙_}
-use mathlib.Core.Bool.{Bool, true, false}
+use mathlib.Core.Bool.{Bool}
 use mathlib.Core.List.{List, [], _∷_, _++_}
-use Prim.Native.Nat.{ℕ, zero, suc, _+_, _*_, _-_, _≤_, _<_}
+use Prim.Native.Nat.{ℕ, zero, suc, _+_, _-_, _<_}
 use native.Mathlib.Omega.{arith}
-use lib.Dec.{eqb}
 use lib.ListN.{length, take, drop}
 use borrow.Author.Tests.{ne-eqb}
 use Rattle.model.specs as Model
 use Rattle.formal_statements.specs.Disk.{pick, withEntry, Geometry, fan, rootBlock, block, stored, slotStart, branchAt, walk}
 use Rattle.formal_statements.specs.Rounds.{Store, store, apply, addresses, nodeWith, nodeStores, pathStores, copied, keptStores, randomStores, dummyStores}
-use Rattle.formal_statements.proofs.Translation.{geometryOf, storesOf, walkOf}
+use Rattle.formal_statements.proofs.Translation.{geometryOf, storesOf}
 use Rattle.formal_statements.proofs.Equations.Entries.{withEntry-is, block-is, stored-is}
 use Rattle.formal_statements.proofs.Equations.Walks.{branchAt-is, walk-is, length-walk}
 
@@ -22,10 +21,6 @@ unfolding storesOf
 storesOf-append [] ys = refl
 storesOf-append (x ∷ xs) ys =
     ap {B = List Store} (λ (rest : List Store). store (x .address) (x .content) ∷ rest) (storesOf-append xs ys)
-
-pub storesOf-one : (x : Model.Stores.Store) → storesOf (x ∷ []) ≡ store (x .address) (x .content) ∷ []
-unfolding storesOf
-storesOf-one x = refl
 
 pub addresses-is : (xs : Model.Stores.Trace) → addresses (storesOf xs) ≡ Model.Stores.addresses xs
 unfolding storesOf addresses Model.Stores.addresses
@@ -93,7 +88,7 @@ module _ (g : Geometry) where
         let e : slotStart g slot + suc (suc level) - 1 ≡ slotStart g slot + suc level = omega arith in
         let leaf : List ℕ =
         withEntry (fan g - 1) number (withEntry (branchAt g number 1) (slotStart g slot + g .height) node) in
-        ap (λ (b : Bool). pick b leaf (withEntry (branchAt g number (suc (suc level))) (slotStart g slot + suc (suc level) - 1) node))
+        ap (λ (test : Bool). pick test leaf (withEntry (branchAt g number (suc (suc level))) (slotStart g slot + suc (suc level) - 1) node))
         (ne-eqb (suc (suc level)) 1 (λ z. omega arith))
         ∙ withEntry-is (branchAt g number (suc (suc level))) (slotStart g slot + suc (suc level) - 1) node
         ∙ ap₂ (λ (index value : ℕ). Model.Blocks.setEntry index value node) (branchAt-is g number (suc level)) e
@@ -134,6 +129,6 @@ module _ (g : Geometry) where
         pathStores g number slot content (walk g disk number .nodes) ≡
         storesOf (Model.Paths.currentPath (geometryOf g) disk number slot content)
     currentPath-is disk content f =
-        ap (λ (nodes : List (List ℕ)). pathStores g number slot content nodes) (ap (λ w. w .nodes) (walk-is g disk number f))
+        ap (λ (nodes : List (List ℕ)). pathStores g number slot content nodes) (ap (λ walked. walked .nodes) (walk-is g disk number f))
         ∙ pathStores-is content (Model.HiddenTree.walk (geometryOf g) disk number .nodes) (omega (arith, f .height-low))
         (length-walk (geometryOf g) disk number f)

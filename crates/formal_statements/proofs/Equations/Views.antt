@@ -1,20 +1,20 @@
 -- The view of document 03, the front of the disk and then each slot's public block, is ours, shown address by address.
 -- Assumes nothing.
 use mathlib.Core.Path.{_≡_, refl, sym, ap, ap₂, _∙_}
-use mathlib.Core.Bool.{Bool, true, false, cond, _||_}
-use mathlib.Core.List.{List, [], _∷_, _++_, append-assoc, append-nil}
-use Prim.Native.Nat.{ℕ, zero, suc, _+_, _*_, _-_, _≤_, _<_}
-use native.Mathlib.Nat.{suc-mul, zero-mul, add-suc, suc-add, zero-add, add-zero}
+use mathlib.Core.Bool.{true, false}
+use mathlib.Core.List.{List, [], _++_, append-assoc}
+use Prim.Native.Nat.{ℕ, zero, suc, _+_, _*_, _≤_, _<_}
+use native.Mathlib.Nat.{suc-mul, zero-mul, suc-add, zero-add, add-zero}
 use native.Mathlib.Omega.{arith}
 use lib.Dec.{ltb}
-use lib.ListN.{length, take, drop}
+use lib.ListN.{take, drop}
 use borrow.Author.Tests.{lt-ltb, le-ltb}
 use Rattle.laws.specs as Laws
 use Rattle.laws.proofs.Cases.{cond-true, cond-false, or-left, or-right, or-neither}
 use Rattle.laws.proofs.Lists.{part-add}
 use Rattle.model.specs as Model
 use Rattle.model.proofs.Laws.Slots.{isSlotBlock-slotStart, isSlotBlock-other, isSlotBlock-below}
-use Rattle.formal_statements.specs.Disk.{Geometry, geometryIn, rootBlock, areaStart, block, slotStart}
+use Rattle.formal_statements.specs.Disk.{Geometry, geometryIn, rootBlock, block, slotStart}
 use Rattle.formal_statements.specs.Promise.{publicBlocks, viewOf}
 use Rattle.formal_statements.proofs.Translation.{geometryOf}
 use Rattle.formal_statements.proofs.Equations.Entries.{block-is, geometryIn-is}
@@ -134,4 +134,4 @@ pub viewOf-is : (disk : List ℕ) → viewOf disk ≡ Model.View.viewOf disk
 unfolding Model.View.viewOf
 viewOf-is disk =
     view-at (geometryIn disk) disk
-    ∙ ap (λ (g : Model.Geometry.Geometry). Model.View.viewFrom g disk 0 (Model.Geometry.blockCount g)) (geometryIn-is disk)
+    ∙ ap (λ (shape : Model.Geometry.Geometry). Model.View.viewFrom shape disk 0 (Model.Geometry.blockCount shape)) (geometryIn-is disk)

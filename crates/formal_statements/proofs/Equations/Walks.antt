@@ -1,16 +1,16 @@
 -- Walks of document 03, counted by the level of the node, are ours, counted by the level of the entry taken there.
 -- Assumes nothing.
-use mathlib.Core.Path.{_≡_, refl, sym, ap, ap₂, _∙_}
+use mathlib.Core.Path.{_≡_, refl, ap, ap₂, _∙_}
 use mathlib.Core.Bool.{Bool, true, false, cond, not, _&&_}
 use mathlib.Core.List.{List, [], _∷_}
-use Prim.Native.Nat.{ℕ, zero, suc, _+_, _*_, _-_, _/_, _%_, _^_, _≤_, _<_}
+use Prim.Native.Nat.{ℕ, zero, suc, _+_, _-_, _/_, _%_, _^_}
 use native.Mathlib.Omega.{arith}
 use lib.Dec.{leb, ltb, eqb}
 use lib.ListN.{length, replicate, length-replicate}
 use borrow.Author.Tests.{ne-eqb}
 use Rattle.laws.proofs.Cases.{cond-cases}
 use Rattle.model.specs as Model
-use Rattle.formal_statements.specs.Disk.{pick, entry, Geometry, fan, areaStart, allBlocks, rootBlock, block, zeros, levelPlace, isWellFormed, leafOf, branchAt, End, found, unmapped, damaged, Walk, passing, emptyNodes, endsWalk, walkFrom, walk}
+use Rattle.formal_statements.specs.Disk.{pick, Geometry, fan, areaStart, allBlocks, rootBlock, block, zeros, levelPlace, isWellFormed, leafOf, branchAt, found, unmapped, damaged, Walk, passing, emptyNodes, endsWalk, walkFrom, walk}
 use Rattle.formal_statements.proofs.Translation.{geometryOf, walkOf}
 use Rattle.formal_statements.proofs.Equations.Entries.{entry-is, block-is}
 
@@ -19,7 +19,7 @@ module _ (g : Geometry) where
 
   levelPlace-is : (level : ℕ) → levelPlace g level ≡ Model.Layout.levelPlace (geometryOf g) level
   levelPlace-is zero = refl
-  levelPlace-is (suc level) = ap (λ (b : Bool). pick b (g .height) (suc level)) (ne-eqb (suc level) 0 (λ e. omega arith))
+  levelPlace-is (suc level) = ap (λ (test : Bool). pick test (g .height) (suc level)) (ne-eqb (suc level) 0 (λ e. omega arith))
 
   isWellFormed-is : (level address : ℕ) → isWellFormed g level address ≡ Model.Layout.isWellFormed (geometryOf g) level address
   unfolding Model.Layout.isSlotBlock
@@ -32,7 +32,7 @@ module _ (g : Geometry) where
   branchAt-is number zero = refl
   branchAt-is number (suc level) =
       let e : suc (suc level) - 2 ≡ level = omega arith in
-      ap (λ (b : Bool). pick b (number % (fan g - 1)) (leafOf g number / fan g ^ (suc (suc level) - 2) % fan g))
+      ap (λ (test : Bool). pick test (number % (fan g - 1)) (leafOf g number / fan g ^ (suc (suc level) - 2) % fan g))
       (ne-eqb (suc (suc level)) 1 (λ e. omega arith))
       ∙ ap (λ (n : ℕ). leafOf g number / fan g ^ n % fan g) e
 
@@ -87,8 +87,8 @@ module _ (g : Geometry) where
         let e = entry-is (branchAt g number 1) node ∙ ap (λ (n : ℕ). Model.Blocks.entryAt n node) (branchAt-is number 0) in
         let reached = Model.Blocks.entryAt (Model.HiddenTree.branchAt (geometryOf g) number 0) node in
         ap (λ (n : ℕ). stepAt 0 node n (walkFrom g disk number 0)) e
-        ∙ ap (λ (b : Bool). pick (eqb reached 0) (endsWalk g node 0 unmapped)
-        (pick (not b) (endsWalk g node 0 damaged)
+        ∙ ap (λ (test : Bool). pick (eqb reached 0) (endsWalk g node 0 unmapped)
+        (pick (not test) (endsWalk g node 0 damaged)
         (record { nodes = node ∷ []; ends = found reached }))) (isWellFormed-is 0 reached)
         ∙ step-zero node reached (eqb reached 0) (Model.Layout.isWellFormed (geometryOf g) 0 reached) (passing node (walkFrom g disk number 0 (block g disk reached)))
     walkFrom-is (suc level) node =
@@ -102,7 +102,7 @@ module _ (g : Geometry) where
         walkFrom-is level (block g disk reached)
         ∙ ap (λ (below : List ℕ). walkOf (Model.HiddenTree.walkFrom (geometryOf g) disk number level below)) (block-is g disk reached) in
         ap (λ (n : ℕ). stepAt (suc level) node n (walkFrom g disk number (suc level))) e
-        ∙ ap (λ (w : Walk). stepAt (suc level) node reached (λ (below : List ℕ). w)) later
+        ∙ ap (λ (walked : Walk). stepAt (suc level) node reached (λ (below : List ℕ). walked)) later
         ∙ ap₂ (λ (isGood isLeaf : Bool). pick (eqb reached 0) (endsWalk g node (suc level) unmapped)
         (pick (not isGood) (endsWalk g node (suc level) damaged) (pick isLeaf ending (passing node (walkOf rest)))))
         (isWellFormed-is (suc level) reached) (ne-eqb (suc level) 0 (λ z. omega arith))

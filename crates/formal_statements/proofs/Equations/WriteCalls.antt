@@ -29,7 +29,7 @@ module _ (disk : List ℕ) (accepted : Model.Refusals.driveRefusal disk ≡ 0) w
 
   pub head-inside : Model.Layout.headIn disk < g .slots
   head-inside =
-      subst (λ (h : Model.Geometry.Geometry). Model.Layout.headIn disk < h .slots) (sym (geometryIn-is disk))
+      subst (λ (shape : Model.Geometry.Geometry). Model.Layout.headIn disk < shape .slots) (sym (geometryIn-is disk))
       (accepted-of-refusal disk accepted .head-inside)
 
   pub front-inside : rootBlock g * g .size ≤ length disk
@@ -41,7 +41,7 @@ module _ (disk : List ℕ) (accepted : Model.Refusals.driveRefusal disk ≡ 0) w
 
 module _ (disk : List ℕ) (number : ℕ) (content random : List ℕ) (offer : Option Offer) where
   abbrev runAt : Model.Geometry.Geometry → Model.Rounds.Run
-  runAt h = Model.Calls.writeRun h disk number content random (offerOf offer)
+  runAt shape = Model.Calls.writeRun shape disk number content random (offerOf offer)
 
   writes-is :
       Model.Refusals.driveRefusal disk ≡ 0 →
@@ -58,14 +58,14 @@ module _ (disk : List ℕ) (number : ℕ) (content random : List ℕ) (offer : O
 
   -- our result that is not refused, at a geometry
   abbrev doneAt : Model.Geometry.Geometry → Result
-  doneAt h =
+  doneAt shape =
       record {
         number = 0;
-        rounds = runAt h .rounds;
+        rounds = runAt shape .rounds;
         outcome =
-          Model.Calls.outcomeNumber (Model.Calls.outcomeOf (Model.Calls.offerRefusal h (offerOf offer)) (runAt h .state));
-        stores = Model.Stores.addresses (runAt h .trace);
-        disk = Model.Stores.apply (h .blockSize) (runAt h .trace) disk;
+          Model.Calls.outcomeNumber (Model.Calls.outcomeOf (Model.Calls.offerRefusal shape (offerOf offer)) (runAt shape .state));
+        stores = Model.Stores.addresses (runAt shape .trace);
+        disk = Model.Stores.apply (shape .blockSize) (runAt shape .trace) disk;
       }
 
   -- document 03's
@@ -98,7 +98,7 @@ module _ (disk : List ℕ) (number : ℕ) (content random : List ℕ) (offer : O
   write-is room =
       ap (λ (n : ℕ). pick (eqb n 0) done (refusal n disk)) (writeFault-is disk number content (length random) room)
       ∙ answer-is answer answer done (doneAt (Model.Layout.geometryIn disk)) (refusal answer disk) refl
-      (λ e. done-is (accepted-of disk answer (λ r. writeRefusal-refused disk r number content (length random) room) e))
+      (λ e. done-is (accepted-of disk answer (λ refused. writeRefusal-refused disk refused number content (length random) room) e))
       ∙ by (eqb answer 0)
     where
       answer : ℕ

@@ -1,10 +1,9 @@
 -- Our starred figures imply document 03's: its drives and writes are ours, and a geometry is allowed or not as formatting
 -- answers. Assumes nothing.
-use mathlib.Core.Path.{_≡_, refl, sym, ap, ap₂, _∙_}
-use mathlib.Core.Logic.{⊎-elim}
+use mathlib.Core.Path.{_≡_, refl, ap, _∙_}
 use mathlib.Core.Bool.{Bool, true, false, cond, not, _||_}
-use mathlib.Core.List.{List, [], _∷_}
-use mathlib.Core.Option.{Option, none, some}
+use mathlib.Core.List.{List}
+use mathlib.Core.Option.{Option, none}
 use Prim.Native.Nat.{ℕ, _≤_}
 use native.Mathlib.Omega.{arith}
 use lib.Dec.{ltb, eqb}
@@ -13,6 +12,7 @@ use borrow.Author.Tests.{le-ltb}
 use Rattle.laws.specs as Laws
 use Rattle.laws.proofs.Cases.{true-is-not-false}
 use Rattle.model.specs as Model
+use Rattle.model.specs.Promises.Figures as Ours
 use Rattle.model.proofs.Laws.Refusals.{sized-of-refusal}
 use Rattle.formal_statements.specs.Disk.{Geometry, geometryFits}
 use Rattle.formal_statements.specs.Rounds.{Offer}
@@ -26,7 +26,7 @@ use Rattle.formal_statements.proofs.Equations.Formatting.{formatted-is}
 
 -- ---- geometries ----
 
-allowed : (bytes : ℕ) (g : Geometry) → Model.Promises.Figures.formatAnswer bytes (geometryOf g) ≡ 0 → geometryFits g ≡ true
+allowed : (bytes : ℕ) (g : Geometry) → Ours.formatAnswer bytes (geometryOf g) ≡ 0 → geometryFits g ≡ true
 allowed bytes g e = geometryFits-is g ∙ sized-of-refusal (length {A = ℕ} (replicate bytes 0)) (geometryOf g) e .accepted
 
 -- an answer of 1 to a disk that is long enough
@@ -39,7 +39,7 @@ one-chain false true true short e = absurd (omega arith)
 one-chain false true false short e = absurd (omega arith)
 
 not-allowed :
-    (bytes : ℕ) (g : Geometry) → 24 ≤ bytes → Model.Promises.Figures.formatAnswer bytes (geometryOf g) ≡ 1 → geometryFits g ≡ false
+    (bytes : ℕ) (g : Geometry) → 24 ≤ bytes → Ours.formatAnswer bytes (geometryOf g) ≡ 1 → geometryFits g ≡ false
 unfolding Model.Refusals.sizeRefusal Model.Refusals.sizeChecks Laws.Checks.firstOf
 not-allowed bytes g h e =
     let size : length {A = ℕ} (replicate bytes 0) ≡ bytes = length-replicate bytes 0 in
@@ -50,37 +50,37 @@ not-allowed bytes g h e =
 
 -- ---- drives and writes ----
 
-fresh-is : fresh ≡ Model.Promises.Figures.fresh
+fresh-is : fresh ≡ Ours.fresh
 fresh-is = formatted-is (replicate 512 0) _
 
 wrote-is :
     (disk : List ℕ) (number random room : ℕ) (offer : Option Offer) →
-    wrote disk number random room offer ≡ resultOf disk (Model.Promises.Figures.writeOf disk number random room (offerOf offer))
+    wrote disk number random room offer ≡ resultOf disk (Ours.writeOf disk number random room (offerOf offer))
 wrote-is disk number random room offer = write-is disk number (filled 7) (replicate random 165) offer room
 
-next-is : (disk other : List ℕ) (number : ℕ) → disk ≡ other → next disk number ≡ Model.Promises.Figures.diskOf other number
+next-is : (disk other : List ℕ) (number : ℕ) → disk ≡ other → next disk number ≡ Ours.diskOf other number
 next-is disk other number e =
-    ap (λ (d : List ℕ). next d number) e ∙ ap (λ (result : Result). result .disk) (wrote-is other number 256 23 none)
+    ap (λ (drive : List ℕ). next drive number) e ∙ ap (λ (result : Result). result .disk) (wrote-is other number 256 23 none)
 
-four-is : fourWritten ≡ Model.Promises.Figures.fourWritten
+four-is : fourWritten ≡ Ours.fourWritten
 four-is = next-is _ _ 2 (next-is _ _ 2 (next-is _ _ 1 (next-is _ _ 0 fresh-is)))
 
 -- a write on a drive that is ours
 on :
     (disk other : List ℕ) (number random room : ℕ) (offer : Option Offer) → disk ≡ other →
-    wrote disk number random room offer ≡ resultOf other (Model.Promises.Figures.writeOf other number random room (offerOf offer))
+    wrote disk number random room offer ≡ resultOf other (Ours.writeOf other number random room (offerOf offer))
 on disk other number random room offer e =
-    ap (λ (d : List ℕ). wrote d number random room offer) e ∙ wrote-is other number random room offer
+    ap (λ (drive : List ℕ). wrote drive number random room offer) e ∙ wrote-is other number random room offer
 
 -- ---- the figures ----
 
-pub figures-implied : Model.Promises.Figures.Figures → Figures
+pub figures-implied : Ours.Figures → Figures
 figures-implied ours =
-    let first = on fresh Model.Promises.Figures.fresh 0 256 23 none fresh-is in
-    let offered = on fresh Model.Promises.Figures.fresh 0 256 23 offerTwo fresh-is in
-    let fifth = on fourWritten Model.Promises.Figures.fourWritten 2 192 18 none four-is in
-    let fewer = on fourWritten Model.Promises.Figures.fourWritten 2 191 18 none four-is in
-    let shorter = on fourWritten Model.Promises.Figures.fourWritten 2 192 17 none four-is in
+    let first = on fresh Ours.fresh 0 256 23 none fresh-is in
+    let offered = on fresh Ours.fresh 0 256 23 offerTwo fresh-is in
+    let fifth = on fourWritten Ours.fourWritten 2 192 18 none four-is in
+    let fewer = on fourWritten Ours.fourWritten 2 191 18 none four-is in
+    let shorter = on fourWritten Ours.fourWritten 2 192 17 none four-is in
     (
       ours .area-start,
       ours .block-count,
@@ -96,6 +96,6 @@ figures-implied ours =
       ap (λ (result : Result). result .stores) fifth ∙ ours .fifth-stores,
       ap (λ (result : Result). result .number) fewer ∙ ours .random-short,
       ap (λ (result : Result). result .number) shorter ∙ ours .list-short,
-      ap (λ (disk : List ℕ). publicRead disk 1 (filled 5)) fresh-is ∙ publicRead-is Model.Promises.Figures.fresh 1 (filled 5)
+      ap (λ (disk : List ℕ). publicRead disk 1 (filled 5)) fresh-is ∙ publicRead-is Ours.fresh 1 (filled 5)
       ∙ ours .blank-shown,
     )

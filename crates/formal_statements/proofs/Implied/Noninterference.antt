@@ -1,20 +1,20 @@
 -- Our noninterference implies document 03's NothingShows. Assumes nothing.
 use mathlib.Core.Path.{_≡_, refl, sym, ap, ap₂, _∙_, subst}
-use mathlib.Core.Bool.{Bool, true, false}
+use mathlib.Core.Bool.{true}
 use mathlib.Core.List.{List, [], _∷_, _++_}
-use mathlib.Core.Option.{Option}
 use Prim.Native.Nat.{ℕ, _<_}
-use lib.ListN.{length, replicate, length-replicate}
+use lib.ListN.{length, length-replicate}
 use Rattle.model.specs as Model
+use Rattle.model.specs.Promises.Noninterference as Ours
 use Rattle.formal_statements.specs.Disk.{geometryIn, headIn}
-use Rattle.formal_statements.specs.Promise.{Alike, Call, reads, hiddenReads, writesTo, Shape, shapeOf, shapes, Seen, seen, diskAfter, bookOf, Told, told, allToldOf, NothingShows}
+use Rattle.formal_statements.specs.Promise.{Alike, Call, reads, hiddenReads, writesTo, Shape, shapeOf, shapes, Seen, bookOf, Told, told, allToldOf, NothingShows}
 use Rattle.formal_statements.proofs.Translation.{callOf, callsOf}
 use Rattle.formal_statements.proofs.Equations.Entries.{entry-is}
 use Rattle.formal_statements.proofs.Equations.Refusals.{diskFault-is}
 use Rattle.formal_statements.proofs.Equations.WriteCalls.{head-inside}
 use Rattle.formal_statements.proofs.Equations.Views.{viewOf-is}
 use Rattle.formal_statements.proofs.Equations.CallLists.{seensOf, diskAfter-is, seen-is}
-use Rattle.formal_statements.proofs.Equations.Books.{publicCallOf, publicCallsOf, toldOf, toldsOf, simulatorFor}
+use Rattle.formal_statements.proofs.Equations.Books.{publicCallOf, publicCallsOf, toldOf, toldsOf}
 use Rattle.formal_statements.proofs.Equations.BookCalls.{told-is}
 use Rattle.formal_statements.proofs.Equations.BookStart.{bookOf-is}
 
@@ -75,7 +75,7 @@ alike-from disk other alike =
     )
 
 -- document 03's NothingShows
-pub noninterference-implied : Model.Promises.Noninterference.Noninterference → NothingShows
+pub noninterference-implied : Ours.Noninterference → NothingShows
 noninterference-implied promise disk other calls others bytes otherBytes alike fit otherFit same =
     let good : Model.Refusals.driveRefusal disk ≡ 0 = sym (diskFault-is disk) ∙ alike .1 in
     let parts : Model.Runs.publicParts (callsOf calls) ≡ Model.Runs.publicParts (callsOf others) =

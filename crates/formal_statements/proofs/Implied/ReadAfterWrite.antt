@@ -1,10 +1,11 @@
 -- Our promise that reads show what was last placed implies document 03's. Assumes nothing.
 use mathlib.Core.Path.{_≡_, refl, sym, ap, _∙_}
-use mathlib.Core.List.{List, [], _∷_}
+use mathlib.Core.List.{List}
 use mathlib.Core.Option.{Option, none, some}
 use Prim.Native.Nat.{ℕ, _<_}
 use lib.ListN.{length}
 use Rattle.model.specs as Model
+use Rattle.model.specs.Promises.ReadAfterWrite as Ours
 use Rattle.formal_statements.specs.Disk.{Geometry}
 use Rattle.formal_statements.specs.Calls.{diskFault, formatted, formatFault, publicFault, publicRead, hiddenFault, hiddenRead}
 use Rattle.formal_statements.specs.Promise.{Call, diskAfter, lastPublic, lastHidden, orBlank, ReadsBack}
@@ -15,11 +16,11 @@ use Rattle.formal_statements.proofs.Equations.ReadCalls.{publicRead-is,
 use Rattle.formal_statements.proofs.Equations.Formatting.{formatted-is}
 use Rattle.formal_statements.proofs.Equations.CallLists.{diskAfter-is, lastPublic-is, lastHidden-is}
 
-orElse-is : (last : Option (List ℕ)) (blank : List ℕ) → Model.Promises.ReadAfterWrite.orElse last blank ≡ orBlank last blank
+orElse-is : (last : Option (List ℕ)) (blank : List ℕ) → Ours.orElse last blank ≡ orBlank last blank
 orElse-is none blank = refl
 orElse-is (some content) blank = refl
 
-module _ (promise : Model.Promises.ReadAfterWrite.ReadAfterWrite) where
+module _ (promise : Ours.ReadAfterWrite) where
   module _ (disk : List ℕ) (g : Geometry) (calls : List Call) (good : formatFault disk g ≡ 0) where
     accepted-format : Model.Refusals.formatRefusal disk (geometryOf g) ≡ 0
     accepted-format = sym (formatFault-is disk g) ∙ good
@@ -30,15 +31,15 @@ module _ (promise : Model.Promises.ReadAfterWrite.ReadAfterWrite) where
     abbrev after : List ℕ
     after = Model.Runs.diskAfterAll fresh (callsOf calls)
 
-    sound : Model.Promises.ReadAfterWrite.Sound (geometryOf g) fresh
+    sound : Ours.Sound (geometryOf g) fresh
     sound = promise .fresh-sound disk (geometryOf g) accepted-format
 
-    back : Model.Promises.ReadAfterWrite.ReadsBack (geometryOf g) fresh (callsOf calls)
+    back : Ours.ReadsBack (geometryOf g) fresh (callsOf calls)
     back = promise .reads-back (geometryOf g) fresh (callsOf calls) sound
 
     after-is : diskAfter (formatted disk g) calls ≡ after
     after-is =
-        ap (λ (d : List ℕ). diskAfter d calls) (formatted-is disk g)
+        ap (λ (drive : List ℕ). diskAfter drive calls) (formatted-is disk g)
         ∙ diskAfter-is fresh calls
 
     accepted-after : Model.Refusals.driveRefusal after ≡ 0
@@ -46,16 +47,16 @@ module _ (promise : Model.Promises.ReadAfterWrite.ReadAfterWrite) where
 
     public-last-is :
         (number : ℕ) → lastPublic (formatted disk g) number none calls ≡
-        Model.Promises.ReadAfterWrite.lastPublic number none fresh (callsOf calls)
+        Ours.lastPublic number none fresh (callsOf calls)
     public-last-is number =
-        ap (λ (d : List ℕ). lastPublic d number none calls) (formatted-is disk g)
+        ap (λ (drive : List ℕ). lastPublic drive number none calls) (formatted-is disk g)
         ∙ lastPublic-is number none fresh calls
 
     hidden-last-is :
         (number : ℕ) → lastHidden (formatted disk g) number none calls ≡
-        Model.Promises.ReadAfterWrite.lastHidden number none fresh (callsOf calls)
+        Ours.lastHidden number none fresh (callsOf calls)
     hidden-last-is number =
-        ap (λ (d : List ℕ). lastHidden d number none calls) (formatted-is disk g)
+        ap (λ (drive : List ℕ). lastHidden drive number none calls) (formatted-is disk g)
         ∙ lastHidden-is number none fresh calls
 
     module _ (number : ℕ) (blank : List ℕ) (sized : length blank ≡ g .size) where
@@ -64,13 +65,13 @@ module _ (promise : Model.Promises.ReadAfterWrite.ReadAfterWrite) where
           (publicFault (diskAfter (formatted disk g) calls) number blank ≡ 0) ×
           (publicRead (diskAfter (formatted disk g) calls) number blank ≡ orBlank (lastPublic (formatted disk g) number none calls) blank)
       public-back h =
-          let last = Model.Promises.ReadAfterWrite.lastPublic number none fresh (callsOf calls) in
+          let last = Ours.lastPublic number none fresh (callsOf calls) in
           (
-            ap (λ (d : List ℕ). publicFault d number blank) after-is ∙ publicFault-is after number blank
+            ap (λ (drive : List ℕ). publicFault drive number blank) after-is ∙ publicFault-is after number blank
             ∙ back .readable .public-answer number blank h sized,
-            ap (λ (d : List ℕ). publicRead d number blank) after-is ∙ publicRead-is after number blank
+            ap (λ (drive : List ℕ). publicRead drive number blank) after-is ∙ publicRead-is after number blank
             ∙ back .public-shown number blank h sized
-            ∙ ap (Model.Promises.ReadAfterWrite.orElse last)
+            ∙ ap (Ours.orElse last)
             (promise .fresh-public disk (geometryOf g) number blank accepted-format h sized)
             ∙ orElse-is last blank ∙ ap (λ (content : Option (List ℕ)). orBlank content blank) (sym (public-last-is number)),
           )
@@ -80,19 +81,19 @@ module _ (promise : Model.Promises.ReadAfterWrite.ReadAfterWrite) where
           (hiddenFault (diskAfter (formatted disk g) calls) number blank ≡ 0) ×
           (hiddenRead (diskAfter (formatted disk g) calls) number blank ≡ orBlank (lastHidden (formatted disk g) number none calls) blank)
       hidden-back h =
-          let last = Model.Promises.ReadAfterWrite.lastHidden number none fresh (callsOf calls) in
+          let last = Ours.lastHidden number none fresh (callsOf calls) in
           (
-            ap (λ (d : List ℕ). hiddenFault d number blank) after-is ∙ hiddenFault-is after number blank
+            ap (λ (drive : List ℕ). hiddenFault drive number blank) after-is ∙ hiddenFault-is after number blank
             ∙ back .readable .hidden-answer number blank h sized,
-            ap (λ (d : List ℕ). hiddenRead d number blank) after-is ∙ hiddenRead-is after number blank
+            ap (λ (drive : List ℕ). hiddenRead drive number blank) after-is ∙ hiddenRead-is after number blank
             ∙ back .hidden-shown number blank h sized
-            ∙ ap (Model.Promises.ReadAfterWrite.orElse last)
+            ∙ ap (Ours.orElse last)
             (promise .fresh-hidden disk (geometryOf g) number blank accepted-format h sized)
             ∙ orElse-is last blank ∙ ap (λ (content : Option (List ℕ)). orBlank content blank) (sym (hidden-last-is number)),
           )
 
 -- document 03's ReadsBack
-pub read-after-write-implied : Model.Promises.ReadAfterWrite.ReadAfterWrite → ReadsBack
+pub read-after-write-implied : Ours.ReadAfterWrite → ReadsBack
 read-after-write-implied promise disk blank g calls number bytes blankBytes good fit =
     (
       ap diskFault (after-is promise disk g calls good) ∙ diskFault-is (after promise disk g calls good)

@@ -1,5 +1,5 @@
--- Document 03's data in our terms: geometries, hidden writes and calls; and what our write gives in its terms. A call
--- with room for so many entries becomes one with a lent list of so many zeros. Assumes nothing.
+-- Document 03's data in our terms: geometries, hidden writes and calls; and what our write gives in its
+-- terms. A call with room for so many entries becomes one with a lent list of so many zeros. Assumes nothing.
 use mathlib.Core.Bool.{not}
 use mathlib.Core.List.{List, [], _∷_}
 use mathlib.Core.Option.{Option, none, some}
@@ -16,7 +16,14 @@ use Rattle.formal_statements.specs.Promise.{Call, reads, hiddenReads, wr
 
 abbrev pub geometryOf : Geometry → Model.Geometry.Geometry
 geometryOf g =
-    record { blockSize = g .size; height = g .height; publics = g .publics; hidden = g .hidden; slots = g .slots }
+    record {
+      blockSize = g .size;
+      height = g .height;
+      publics = g .publics;
+      hidden = g .hidden;
+      slots =
+          g .slots;
+    }
 
 abbrev pub hiddenWriteOf : Offer → Model.HiddenHalf.HiddenWrite
 hiddenWriteOf offer = record { number = offer .number; content = offer .content }
@@ -56,7 +63,12 @@ waitingOf (next ∷ later) = some (record { number = next .number; content = nex
 
 abbrev pub fateOf : Model.HiddenHalf.HiddenState → Fate
 fateOf state =
-    record { waiting = waitingOf (state .waiting); isPlaced = not (eqb (state .placed) 0); wasKept = state .metDamage }
+    record {
+      waiting = waitingOf (state .waiting);
+      isPlaced = not (eqb (state .placed) 0);
+      wasKept =
+          state .metDamage;
+    }
 
 abbrev pub halfOf : Model.HiddenHalf.HiddenHalf → Half
 halfOf hidden = half (storesOf (hidden .trace)) (fateOf (hidden .state))
@@ -64,7 +76,8 @@ halfOf hidden = half (storesOf (hidden .trace)) (fateOf (hidden .state))
 -- a run from a disk on
 abbrev pub writtenOf : (width : ℕ) → (disk : List ℕ) → Model.Rounds.Run → Written
 writtenOf width disk run =
-    written (Model.Stores.apply width (run .trace) disk) (run .rounds) (Model.Stores.addresses (run .trace)) (fateOf (run .state))
+    written (Model.Stores.apply width (run .trace) disk) (run .rounds) (Model.Stores.addresses (run .trace))
+    (fateOf (run .state))
 
 -- a write's answer, rounds, outcome number, addresses, and the disk that it leaves
 abbrev pub resultOf : (disk : List ℕ) → Model.Calls.Written → Result

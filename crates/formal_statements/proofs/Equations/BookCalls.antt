@@ -11,10 +11,14 @@ use borrow.Author.Tests.{eqb-true}
 use Rattle.laws.specs as Laws
 use Rattle.model.specs as Model
 use Rattle.formal_statements.specs.Disk.{pick, slotStart, slotOf}
-use Rattle.formal_statements.specs.Promise.{Shape, Book, entryAt, readAnswer, bookRounds, storesFor, bookStores, writeAnswer, lastSlot, bookWritten, Told, toldBy, bookAfter, told}
+use Rattle.formal_statements.specs.Promise.{Shape, Book, entryAt, readAnswer, bookRounds, storesFor}
+use Rattle.formal_statements.specs.Promise.{bookStores, writeAnswer, lastSlot, bookWritten, Told}
+use Rattle.formal_statements.specs.Promise.{toldBy, bookAfter, told}
 use Rattle.formal_statements.proofs.Translation.{geometryOf}
 use Rattle.formal_statements.proofs.Equations.Entries.{pick-is}
-use Rattle.formal_statements.proofs.Equations.Books.{simulatorFor, publicCallsOf, toldOf, toldsOf, lengths, bookRounds-is, storesFor-is, readAnswer-is, writeAnswer-is, rounds-positive}
+use Rattle.formal_statements.proofs.Equations.Books.{simulatorFor, publicCallsOf, toldOf, toldsOf}
+use Rattle.formal_statements.proofs.Equations.Books.{lengths, bookRounds-is, storesFor-is}
+use Rattle.formal_statements.proofs.Equations.Books.{readAnswer-is, writeAnswer-is, rounds-positive}
 
 abbrev tell : (answer rounds : ℕ) → (stores : List ℕ) → Told
 tell answer rounds stores = record { answer = answer; rounds = rounds; stores = stores }
@@ -25,10 +29,12 @@ module _ (book : Book) (inside : book .head < book .geometry .slots) where
 
   -- ---- after a write ----
 
-  bookWritten-is : (number : ℕ) → simulatorFor (bookWritten book number) ≡ Model.Simulator.simulatedWrite sim number
+  bookWritten-is : (number : ℕ) → simulatorFor (bookWritten book number) ≡
+      Model.Simulator.simulatedWrite sim number
   bookWritten-is number =
       ap₂ after (bookRounds-is book inside)
-      (pick-is (eqb (entryAt book number) 0) (book .marks) (set (book .marks) (slotOf (book .geometry) (entryAt book number)) false))
+      (pick-is (eqb (entryAt book number) 0) (book .marks)
+      (set (book .marks) (slotOf (book .geometry) (entryAt book number)) false))
     where
       after : (rounds : ℕ) → List Bool → Model.Simulator.Simulator
       after rounds freed =
@@ -62,10 +68,12 @@ module _ (book : Book) (inside : book .head < book .geometry .slots) where
             pick isDone done (tell (answerTo true) 0 []) ≡
             toldOf
             (cond isDone
-            (Model.Simulator.toldStores 0 (Model.Simulator.simulatedRounds sim) (Model.Simulator.simulatedStores sim (call .number)))
+            (Model.Simulator.toldStores 0 (Model.Simulator.simulatedRounds sim)
+            (Model.Simulator.simulatedStores sim (call .number)))
             (Model.Simulator.toldStores (answerTo true) 0 []))
         written true e =
-            let answered : writeAnswer book call ≡ 0 = writeAnswer-is book inside call ∙ eqb-true (answerTo true) 0 e in
+            let answered : writeAnswer book call ≡ 0 = writeAnswer-is book inside call
+            ∙ eqb-true (answerTo true) 0 e in
             ap₂ (tell 0) (bookRounds-is book inside)
             (ap (λ (n : ℕ). bookStores n book (call .number) (book .head)) (bookRounds-is book inside)
             ∙ storesFor-is book inside (call .number) (rounds-positive book inside call answered))
@@ -76,14 +84,16 @@ module _ (book : Book) (inside : book .head < book .geometry .slots) where
             (pick (eqb (writeAnswer book call) 0) done (tell (writeAnswer book call) 0 [])) ≡
             toldOf
             (cond (isWrite && eqb (answerTo isWrite) 0)
-            (Model.Simulator.toldStores 0 (Model.Simulator.simulatedRounds sim) (Model.Simulator.simulatedStores sim (call .number)))
+            (Model.Simulator.toldStores 0 (Model.Simulator.simulatedRounds sim)
+            (Model.Simulator.simulatedStores sim (call .number)))
             (Model.Simulator.toldStores (answerTo isWrite) 0 []))
         by false = ap (λ (n : ℕ). tell n 0 []) (readAnswer-is book inside call)
         by true =
             ap (λ (n : ℕ). pick (eqb n 0) done (tell n 0 [])) (writeAnswer-is book inside call)
             ∙ written (eqb (answerTo true) 0) refl
 
-    bookAfter-is : simulatorFor (bookAfter book call) ≡ Model.Simulator.simulatorAfter sim (lengths book inside call)
+    bookAfter-is : simulatorFor (bookAfter book call) ≡
+        Model.Simulator.simulatorAfter sim (lengths book inside call)
     unfolding Model.Simulator.simulatorAfter Model.Simulator.simulatedAnswer
     bookAfter-is = by (call .isWrite)
       where
@@ -94,18 +104,21 @@ module _ (book : Book) (inside : book .head < book .geometry .slots) where
         both false = refl
 
         by : (isWrite : Bool) →
-            simulatorFor (pick (isWrite && eqb (writeAnswer book call) 0) (bookWritten book (call .number)) book) ≡
+            simulatorFor (pick (isWrite && eqb (writeAnswer book call) 0)
+            (bookWritten book (call .number)) book) ≡
             cond (isWrite && eqb (answerTo isWrite) 0) (Model.Simulator.simulatedWrite sim (call .number)) sim
         by false = refl
         by true =
-            ap (λ (n : ℕ). simulatorFor (pick (eqb n 0) (bookWritten book (call .number)) book)) (writeAnswer-is book inside call)
+            ap (λ (n : ℕ). simulatorFor (pick (eqb n 0) (bookWritten book (call .number)) book))
+            (writeAnswer-is book inside call)
             ∙ both (eqb (answerTo true) 0)
 
     bookAfter-inside : bookAfter book call .head < bookAfter book call .geometry .slots
     bookAfter-inside = by (call .isWrite && eqb (writeAnswer book call) 0)
       where
         by : (isDone : Bool) →
-            pick isDone (bookWritten book (call .number)) book .head < pick isDone (bookWritten book (call .number)) book .geometry .slots
+            pick isDone (bookWritten book (call .number)) book .head < pick isDone
+            (bookWritten book (call .number)) book .geometry .slots
         by true = mod-lt (lastSlot book + 1) (omega arith)
         by false = inside
 
@@ -113,11 +126,13 @@ module _ (book : Book) (inside : book .head < book .geometry .slots) where
 
 pub told-is :
     (book : Book) (calls : List Shape) → book .head < book .geometry .slots →
-    told book calls ≡ toldsOf (Model.Simulator.told (simulatorFor book) (Model.Simulator.lengthsOfAll (publicCallsOf calls)))
+    told book calls ≡ toldsOf (Model.Simulator.told (simulatorFor book)
+    (Model.Simulator.lengthsOfAll (publicCallsOf calls)))
 unfolding told toldsOf publicCallsOf Model.Simulator.told Model.Simulator.lengthsOfAll
 told-is book [] inside = refl
 told-is book (call ∷ calls) inside =
     ap₂ {C = List Told} (λ (here : Told) (later : List Told). here ∷ later) (toldBy-is book inside call)
     (told-is (bookAfter book call) calls (bookAfter-inside book inside call)
     ∙ ap (λ (after : Model.Simulator.Simulator).
-    toldsOf (Model.Simulator.told after (Model.Simulator.lengthsOfAll (publicCallsOf calls)))) (bookAfter-is book inside call))
+    toldsOf (Model.Simulator.told after (Model.Simulator.lengthsOfAll (publicCallsOf calls))))
+    (bookAfter-is book inside call))

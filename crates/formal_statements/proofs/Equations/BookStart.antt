@@ -1,5 +1,5 @@
--- The book of document 03, taken from a disk, is our simulator, taken from that disk's view: header, map and bitmap stand at
--- the view's front as they do on the disk. Assumes nothing.
+-- The book of document 03, taken from a disk, is our simulator, taken from that disk's view: header, map and
+-- bitmap stand at the view's front as they do on the disk. Assumes nothing.
 use mathlib.Core.Path.{_≡_, refl, sym, ap, ap₂, _∙_}
 use mathlib.Core.Bool.{Bool}
 use mathlib.Core.List.{List, _∷_, _++_}
@@ -31,24 +31,30 @@ part-front :
 part-front from size count xs ys h l =
     let t : length (take count xs) ≡ count = length-take-le count xs l in
     part-of-take from size (take count xs ++ ys)
-    ∙ ap (drop from) (take-append-le (from + size) (take count xs) ys (omega arith) ∙ take-take (from + size) count xs h)
+    ∙ ap (drop from) (take-append-le (from + size) (take count xs) ys (omega arith)
+    ∙ take-take (from + size) count xs h)
     ∙ sym (part-of-take from size xs)
 
-module _ (g : Geometry) (f : Model.Geometry.Fits (geometryOf g)) (disk rest : List ℕ) (roomy : rootBlock g * g .size ≤ length disk) where
+module _ (g : Geometry) (f : Model.Geometry.Fits (geometryOf g)) (disk rest : List ℕ)
+    (roomy : rootBlock g * g .size ≤ length disk) where
   abbrev front : List ℕ
   front = take (rootBlock g * g .size) disk ++ rest
 
-  entryAt-front : (index : ℕ) → 4 * index + 4 ≤ g .size → Model.Blocks.entryAt index front ≡ Model.Blocks.entryAt index disk
+  entryAt-front : (index : ℕ) → 4 * index + 4 ≤ g .size →
+      Model.Blocks.entryAt index front ≡ Model.Blocks.entryAt index disk
   unfolding Model.Blocks.entryAt
   entryAt-front index h =
       let one : 1 ≤ rootBlock g = omega arith in
       ap Laws.Numbers.numberOf
-      (part-front (4 * index) 4 (rootBlock g * g .size) disk rest (omega (arith, mul-le-mul-right (g .size) one)) roomy)
+      (part-front (4 * index) 4 (rootBlock g * g .size) disk rest
+      (omega (arith, mul-le-mul-right (g .size) one)) roomy)
 
-  blockAt-front : (address : ℕ) → address < rootBlock g → Model.Blocks.blockAt (g .size) front address ≡ Model.Blocks.blockAt (g .size) disk address
+  blockAt-front : (address : ℕ) → address < rootBlock g →
+      Model.Blocks.blockAt (g .size) front address ≡ Model.Blocks.blockAt (g .size) disk address
   unfolding Model.Blocks.blockAt
   blockAt-front address h =
-      part-front (address * g .size) (g .size) (rootBlock g * g .size) disk rest (omega (arith, mul-le-mul-right (g .size) h)) roomy
+      part-front (address * g .size) (g .size) (rootBlock g * g .size) disk rest
+      (omega (arith, mul-le-mul-right (g .size) h)) roomy
 
   entriesOf-is :
       (number count : ℕ) → number + count ≤ g .publics →
@@ -61,7 +67,8 @@ module _ (g : Geometry) (f : Model.Geometry.Fits (geometryOf g)) (disk rest : Li
       omega (arith, mapAddress-lt (geometryOf g) f number inside) in
       ap₂ {C = List ℕ} (λ (entry : ℕ) (later : List ℕ). entry ∷ later)
       (mapEntry-is g disk number f
-      ∙ mapEntry-block (geometryOf g) disk front number (sym (blockAt-front (Model.Layout.mapAddress (geometryOf g) number) low)))
+      ∙ mapEntry-block (geometryOf g) disk front number
+      (sym (blockAt-front (Model.Layout.mapAddress (geometryOf g) number) low)))
       (entriesOf-is (suc number) count (omega arith))
 
   marksOf-is :
@@ -74,15 +81,23 @@ module _ (g : Geometry) (f : Model.Geometry.Fits (geometryOf g)) (disk rest : Li
       ap₂ {C = List Bool} (λ (mark : Bool) (later : List Bool). mark ∷ later)
       (isMarked-is g f slot disk
       ∙ isAllocated-block (geometryOf g) disk front slot
-      (sym (blockAt-front (Model.Layout.bitAddress (geometryOf g) slot) (bitAddress-lt (geometryOf g) f slot inside))))
+      (sym (blockAt-front (Model.Layout.bitAddress (geometryOf g) slot)
+      (bitAddress-lt (geometryOf g) f slot inside))))
       (marksOf-is (suc slot) count (omega arith))
 
 -- the geometry is in the header's entries
 geometryIn-same :
-    (bytes other : List ℕ) → ((index : ℕ) → index < 6 → Model.Blocks.entryAt index bytes ≡ Model.Blocks.entryAt index other) →
+    (bytes other : List ℕ) → ((index : ℕ) → index < 6 →
+    Model.Blocks.entryAt index bytes ≡ Model.Blocks.entryAt index other) →
     Model.Layout.geometryIn bytes ≡ Model.Layout.geometryIn other
 geometryIn-same bytes other same =
-    rw (same 0 (omega arith), same 1 (omega arith), same 2 (omega arith), same 3 (omega arith), same 4 (omega arith))
+    rw (
+      same 0 (omega arith),
+      same 1 (omega arith),
+      same 2 (omega arith),
+      same 3 (omega arith),
+      same 4 (omega arith),
+    )
 
 module _ (disk : List ℕ) (accepted : Model.Refusals.driveRefusal disk ≡ 0) where
   abbrev g : Geometry
@@ -95,7 +110,8 @@ module _ (disk : List ℕ) (accepted : Model.Refusals.driveRefusal disk ≡ 0) w
   header-is :
       (index : ℕ) → index < 6 → Model.Blocks.entryAt index (viewOf disk) ≡ Model.Blocks.entryAt index disk
   header-is index h =
-      entryAt-front g fits disk (publicBlocks g disk 0 (g .slots)) (front-inside disk accepted) index (omega (arith, fits .size-low))
+      entryAt-front g fits disk (publicBlocks g disk 0 (g .slots)) (front-inside disk accepted) index
+      (omega (arith, fits .size-low))
 
   geometryIn-view : Model.Layout.geometryIn (viewOf disk) ≡ geometryOf g
   geometryIn-view = geometryIn-same (viewOf disk) disk header-is ∙ sym (geometryIn-is disk)
@@ -116,8 +132,15 @@ module _ (disk : List ℕ) (accepted : Model.Refusals.driveRefusal disk ≡ 0) w
       let rest : List ℕ = publicBlocks g disk 0 (g .slots) in
       let roomy = front-inside disk accepted in
       ap₂ {C = Model.Simulator.Simulator} (λ (head : ℕ) (entries : List ℕ).
-      record { geometry = geometryOf g; head = head; entries = entries; allocated = marksOf g disk 0 (g .slots) })
-      (entry-is 5 disk ∙ sym (header-is 5 (omega arith))) (entriesOf-is g fits disk rest roomy 0 (g .publics) (omega arith))
+      record {
+        geometry = geometryOf g;
+        head = head;
+        entries = entries;
+        allocated =
+            marksOf g disk 0 (g .slots);
+      })
+      (entry-is 5 disk ∙ sym (header-is 5 (omega arith)))
+      (entriesOf-is g fits disk rest roomy 0 (g .publics) (omega arith))
       ∙ ap {B = Model.Simulator.Simulator} (λ (marks : List Bool).
       record {
         geometry = geometryOf g;

@@ -1,5 +1,5 @@
--- The book of document 03 tells what our simulator does, call by call: its rounds are counted on from round to round,
--- ours looked for by their number. Assumes nothing.
+-- The book of document 03 tells what our simulator does, call by call: its rounds are counted on from round
+-- to round, ours looked for by their number. Assumes nothing.
 use mathlib.Core.Path.{_≡_, refl, sym, ap, ap₂, _∙_}
 use mathlib.Core.Logic.{_⊎_, inl, inr}
 use mathlib.Core.Bool.{Bool, true, false, cond, not, _||_}
@@ -13,8 +13,11 @@ use borrow.Author.Tests.{eq-eqb, ne-eqb}
 use Rattle.laws.specs as Laws
 use Rattle.laws.proofs.Cases.{true-is-not-false}
 use Rattle.model.specs as Model
-use Rattle.formal_statements.specs.Disk.{pick, Geometry, rootBlock, slotStart, mapBlock, bitBlock, slotOf}
-use Rattle.formal_statements.specs.Promise.{Shape, Book, markAt, entryAt, isGood, readAnswer, roundsIn, bookRounds, slotRun, slotStores, lastOnes, bookStores, writeAnswer, Told}
+use Rattle.formal_statements.specs.Disk.{pick, Geometry, rootBlock, slotStart, mapBlock, bitBlock}
+use Rattle.formal_statements.specs.Disk.{slotOf}
+use Rattle.formal_statements.specs.Promise.{Shape, Book, markAt, entryAt, isGood, readAnswer, roundsIn}
+use Rattle.formal_statements.specs.Promise.{bookRounds, slotRun, slotStores, lastOnes, bookStores}
+use Rattle.formal_statements.specs.Promise.{writeAnswer, Told}
 use Rattle.formal_statements.proofs.Translation.{geometryOf}
 use Rattle.formal_statements.proofs.Equations.Chains.{place-chain, write-chain}
 
@@ -22,12 +25,24 @@ use Rattle.formal_statements.proofs.Equations.Chains.{place-chain, writ
 
 abbrev pub simulatorFor : Book → Model.Simulator.Simulator
 simulatorFor book =
-    record { geometry = geometryOf (book .geometry); head = book .head; entries = book .entries; allocated = book .marks }
+    record {
+      geometry = geometryOf (book .geometry);
+      head = book .head;
+      entries = book .entries;
+      allocated =
+          book .marks;
+    }
 
 abbrev pub publicCallOf : Shape → Model.Runs.PublicCall
 publicCallOf call =
     record {
-      isWrite = call .isWrite; number = call .number; content = call .content; random = call .random; room = call .room;
+      isWrite =
+          call .isWrite;
+      number = call .number;
+      content = call .content;
+      random = call .random;
+      room =
+          call .room;
     }
 
 unfoldable pub publicCallsOf : List Shape → List Model.Runs.PublicCall
@@ -48,10 +63,12 @@ zero-cases zero = inl refl
 zero-cases (suc n) = inr (omega arith)
 
 -- no round is refused by 7 at the latest
-never : (answer : ℕ) (isFull : Bool) (later : ℕ) → isFull ≡ true → pick (not (eqb answer 0)) answer (pick isFull 7 later) ≡ 0 → ⊥
+never : (answer : ℕ) (isFull : Bool) (later : ℕ) → isFull ≡ true →
+    pick (not (eqb answer 0)) answer (pick isFull 7 later) ≡ 0 → ⊥
 never zero true later e z = omega arith
 never (suc answer) true later e z =
-    let p = sym (ap (λ (test : Bool). pick (not test) (suc answer) 7) (ne-eqb (suc answer) 0 (λ e. omega arith))) ∙ z in
+    let p = sym (ap (λ (test : Bool). pick (not test) (suc answer) 7)
+    (ne-eqb (suc answer) 0 (λ e. omega arith))) ∙ z in
     omega arith
 never answer false later e z = true-is-not-false e refl
 
@@ -71,26 +88,31 @@ module _ (book : Book) where
 
   roundsIn-is :
       (most round : ℕ) → 1 ≤ round →
-      roundsIn most book (Model.Simulator.slotOfRound sim round) round ≡ Model.Simulator.leastFrom most isFree round
+      roundsIn most book (Model.Simulator.slotOfRound sim round) round ≡
+      Model.Simulator.leastFrom most isFree round
   unfolding roundsIn Model.Simulator.leastFrom
   roundsIn-is zero round h = refl
   roundsIn-is (suc most) round h =
       let e : book .head + round - 1 + 1 ≡ book .head + suc round - 1 = omega arith in
-      let next : (Model.Simulator.slotOfRound sim round + 1) % g .slots ≡ Model.Simulator.slotOfRound sim (suc round) =
+      let next : (Model.Simulator.slotOfRound sim round + 1) % g .slots ≡
+      Model.Simulator.slotOfRound sim (suc round) =
       mod-add-mod (book .head + round - 1) (g .slots) 1 ∙ ap (λ (n : ℕ). n % g .slots) e in
       ap (λ (n : ℕ). pick (markAt book (Model.Simulator.slotOfRound sim round)) n round)
       (ap (λ (n : ℕ). roundsIn most book n (suc round)) next ∙ roundsIn-is most (suc round) (omega arith))
-      ∙ pick-not (markAt book (Model.Simulator.slotOfRound sim round)) (Model.Simulator.leastFrom most isFree (suc round)) round
+      ∙ pick-not (markAt book (Model.Simulator.slotOfRound sim round))
+      (Model.Simulator.leastFrom most isFree (suc round)) round
 
   -- ---- stores ----
 
   slotRun-is : (address count : ℕ) → slotRun g address count ≡ Model.Simulator.addressesFrom address count
   unfolding slotRun Model.Simulator.addressesFrom
   slotRun-is address zero = refl
-  slotRun-is address (suc count) = ap {B = List ℕ} (λ (rest : List ℕ). address ∷ rest) (slotRun-is (suc address) count)
+  slotRun-is address (suc count) =
+      ap {B = List ℕ} (λ (rest : List ℕ). address ∷ rest) (slotRun-is (suc address) count)
 
   slotStores-is : (slot : ℕ) → slotStores g slot ≡ Model.Simulator.slotAddresses (geometryOf g) slot
-  slotStores-is slot = ap (λ (rest : List ℕ). rest ++ (rootBlock g ∷ [])) (slotRun-is (slotStart g slot) (suc (g .height)))
+  slotStores-is slot =
+      ap (λ (rest : List ℕ). rest ++ (rootBlock g ∷ [])) (slotRun-is (slotStart g slot) (suc (g .height)))
 
   lastOnes-is :
       (number slot : ℕ) →
@@ -139,20 +161,24 @@ module _ (book : Book) where
     pub bookRounds-is : bookRounds book ≡ Model.Simulator.simulatedRounds sim
     bookRounds-is =
         let e : book .head + 1 - 1 ≡ book .head = omega arith in
-        let same : book .head ≡ Model.Simulator.slotOfRound sim 1 = sym (ap (λ (n : ℕ). n % g .slots) e ∙ mod-eq-of-lt inside) in
+        let same : book .head ≡ Model.Simulator.slotOfRound sim 1 =
+        sym (ap (λ (n : ℕ). n % g .slots) e ∙ mod-eq-of-lt inside) in
         ap (λ (n : ℕ). roundsIn (g .slots) book n 1) same ∙ roundsIn-is (g .slots) 1 (omega arith)
 
     abbrev rounds : ℕ
     rounds = Model.Simulator.simulatedRounds sim
 
     pub storesFor-is :
-        (number : ℕ) → 1 ≤ rounds → bookStores rounds book number (book .head) ≡ Model.Simulator.simulatedStores sim number
+        (number : ℕ) → 1 ≤ rounds → bookStores rounds book number (book .head) ≡
+        Model.Simulator.simulatedStores sim number
     unfolding Model.Simulator.simulatedStores
     storesFor-is number h =
         let more : rounds ≡ suc (rounds - 1) = omega arith in
         let at : book .head + (rounds - 1) ≡ book .head + rounds - 1 = omega arith in
-        ap (λ (n : ℕ). bookStores n book number (book .head)) more ∙ bookStores-is number (rounds - 1) (book .head) inside
-        ∙ ap (λ (n : ℕ). Model.Simulator.keptRounds (rounds - 1) (geometryOf g) (book .head) ++ last number (n % g .slots)) at
+        ap (λ (n : ℕ). bookStores n book number (book .head)) more
+        ∙ bookStores-is number (rounds - 1) (book .head) inside
+        ∙ ap (λ (n : ℕ). Model.Simulator.keptRounds (rounds - 1) (geometryOf g) (book .head) ++
+        last number (n % g .slots)) at
 
     -- ---- answers ----
 
@@ -167,16 +193,20 @@ module _ (book : Book) where
           readAnswer book (call .number) (call .content) ≡
           Laws.Checks.firstOf (Model.Simulator.simulatedPlaceChecks sim lengths ++ [])
       unfolding Laws.Checks.firstOf Model.Layout.isSlotBlock
-      readAnswer-is = place-chain (leb (g .publics) (call .number)) (not (eqb (length (call .content)) (g .size))) isFine
+      readAnswer-is =
+          place-chain (leb (g .publics) (call .number)) (not (eqb (length (call .content)) (g .size))) isFine
 
       pub writeAnswer-is :
           writeAnswer book call ≡
-          Laws.Checks.firstOf (Model.Simulator.simulatedPlaceChecks sim lengths ++ Model.Simulator.simulatedRoundChecks sim lengths)
+          Laws.Checks.firstOf (Model.Simulator.simulatedPlaceChecks sim lengths ++
+          Model.Simulator.simulatedRoundChecks sim lengths)
       unfolding Laws.Checks.firstOf Model.Layout.isSlotBlock
       writeAnswer-is =
-          ap (λ (n : ℕ). pick (not (eqb answer 0)) answer (later n (length (bookStores n book (call .number) (book .head))))) bookRounds-is
+          ap (λ (n : ℕ). pick (not (eqb answer 0)) answer
+          (later n (length (bookStores n book (call .number) (book .head))))) bookRounds-is
           ∙ ap (pick (not (eqb answer 0)) answer) (by (zero-cases rounds))
-          ∙ write-chain (leb (g .publics) (call .number)) (not (eqb (length (call .content)) (g .size))) isFine
+          ∙ write-chain (leb (g .publics) (call .number))
+          (not (eqb (length (call .content)) (g .size))) isFine
           (eqb rounds 0) (ltb (call .random) (rounds * g .height * g .size))
           (ltb (call .room) (length (Model.Simulator.simulatedStores sim (call .number))))
         where
@@ -191,7 +221,8 @@ module _ (book : Book) where
           full : rounds ≡ 0 → (stores : ℕ) → later rounds stores ≡ 7
           full e stores =
               ap (λ (test : Bool). pick test 7
-              (pick (ltb (call .random) (rounds * g .height * g .size)) 8 (pick (ltb (call .room) stores) 9 0)))
+              (pick (ltb (call .random) (rounds * g .height * g .size)) 8
+              (pick (ltb (call .room) stores) 9 0)))
               (eq-eqb rounds 0 e)
 
           by : (rounds ≡ 0) ⊎ (1 ≤ rounds) →

@@ -1,5 +1,5 @@
--- Lists of document 03's calls are ours on every disk: the disk that they leave, what is seen, and what was last placed
--- under a number. Assumes nothing.
+-- Lists of document 03's calls are ours on every disk: the disk that they leave, what is seen, and what was
+-- last placed under a number. Assumes nothing.
 use mathlib.Core.Path.{_≡_, refl, sym, ap, ap₂, _∙_}
 use mathlib.Core.Bool.{cond, _&&_}
 use mathlib.Core.List.{List, [], _∷_, _++_}
@@ -15,7 +15,9 @@ use Rattle.model.proofs.Laws.Stores.{length-addresses}
 use Rattle.formal_statements.specs.Disk.{pick}
 use Rattle.formal_statements.specs.Rounds.{Offer}
 use Rattle.formal_statements.specs.Calls.{Result, write, publicRead}
-use Rattle.formal_statements.specs.Promise.{Call, reads, hiddenReads, writesTo, afterOne, diskAfter, Seen, seenBy, seen, viewOf, publicBy, hiddenBy, offeredTo, lastPublic, lastHidden}
+use Rattle.formal_statements.specs.Promise.{Call, reads, hiddenReads, writesTo, afterOne, diskAfter}
+use Rattle.formal_statements.specs.Promise.{Seen, seenBy, seen, viewOf, publicBy, hiddenBy, offeredTo}
+use Rattle.formal_statements.specs.Promise.{lastPublic, lastHidden}
 use Rattle.formal_statements.proofs.Translation.{offerOf, callOf, callsOf, resultOf}
 use Rattle.formal_statements.proofs.Equations.Entries.{pick-is}
 use Rattle.formal_statements.proofs.Equations.CallRefusals.{publicFault-is}
@@ -28,7 +30,12 @@ use Rattle.formal_statements.proofs.Equations.Views.{viewOf-is}
 abbrev pub seenOf : Model.Runs.Seen → Seen
 seenOf here =
     record {
-      answer = here .answer; shown = here .shown; rounds = here .rounds; stores = here .entries; view = here .view;
+      answer =
+          here .answer;
+      shown = here .shown;
+      rounds = here .rounds;
+      stores = here .entries;
+      view = here .view;
     }
 
 unfoldable pub seensOf : List Model.Runs.Seen → List Seen
@@ -65,10 +72,12 @@ module _ (disk : List ℕ) where
 
     -- the entries that a write's list shows are its stores
     entries-is :
-        take (length (ours .trace)) (Model.Calls.writtenList ours (replicate room 0)) ≡ Model.Stores.addresses (ours .trace)
+        take (length (ours .trace)) (Model.Calls.writtenList ours (replicate room 0)) ≡
+        Model.Stores.addresses (ours .trace)
     entries-is =
         ap (take (length (ours .trace))) (over-is 0 (Model.Stores.addresses (ours .trace)) (replicate room 0))
-        ∙ take-at (Model.Stores.addresses (ours .trace)) _ (length (ours .trace)) (length-addresses (ours .trace))
+        ∙ take-at (Model.Stores.addresses (ours .trace)) _ (length (ours .trace))
+        (length-addresses (ours .trace))
 
   pub afterOne-is : (call : Call) → afterOne disk call ≡ Model.Runs.diskAfter disk (callOf call)
   afterOne-is (reads number blank) = refl
@@ -79,21 +88,35 @@ module _ (disk : List ℕ) where
   seenBy-is : (call : Call) → seenBy disk call ≡ seensOf (Model.Runs.seenOf disk (callOf call))
   unfolding seensOf
   seenBy-is (reads number blank) =
-      ap₂ {C = List Seen} (λ (n : ℕ) (bytes : List ℕ). record { answer = n; shown = bytes; rounds = 0; stores = []; view = viewOf disk } ∷ [])
+      ap₂ {C = List Seen} (λ (n : ℕ) (bytes : List ℕ). record
+      { answer = n; shown = bytes; rounds = 0; stores = []; view = viewOf disk } ∷ [])
       (publicFault-is disk number blank) (publicRead-is disk number blank)
       ∙ ap {B = List Seen} (λ (view : List ℕ).
       record {
-        answer = Model.Refusals.publicReadRefusal disk number blank; shown = Model.Calls.publicRead disk number blank;
-        rounds = 0; stores = []; view = view;
+        answer =
+            Model.Refusals.publicReadRefusal disk number blank;
+        shown =
+            Model.Calls.publicRead disk number blank;
+        rounds = 0;
+        stores = [];
+        view = view;
       } ∷ []) (viewOf-is disk)
   seenBy-is (hiddenReads number blank) = refl
   seenBy-is (writesTo number content random room offer) =
       let result : Model.Calls.Written = ours number content random room offer in
       ap {B = List Seen} (λ (given : Result).
-      record { answer = given .number; shown = []; rounds = given .rounds; stores = given .stores; view = viewOf (given .disk) } ∷ [])
+      record {
+        answer = given .number;
+        shown = [];
+        rounds = given .rounds;
+        stores = given .stores;
+        view =
+            viewOf (given .disk);
+      } ∷ [])
       (call-is number content random room offer)
       ∙ ap₂ {C = List Seen} (λ (stores view : List ℕ).
-      record { answer = result .answer; shown = []; rounds = result .rounds; stores = stores; view = view } ∷ [])
+      record { answer = result .answer; shown = []; rounds = result .rounds; stores = stores; view = view } ∷
+      [])
       (sym (entries-is number content random room offer)) (viewOf-is (Model.Calls.writtenDisk result disk))
 
   publicBy-is :
@@ -104,7 +127,8 @@ module _ (disk : List ℕ) where
   publicBy-is number before (writesTo other content random room offer) =
       ap (λ (result : Result). pick (eqb other number && eqb (result .number) 0) (some content) before)
       (call-is other content random room offer)
-      ∙ pick-is (eqb other number && eqb (ours other content random room offer .answer) 0) (some content) before
+      ∙ pick-is (eqb other number && eqb (ours other content random room offer .answer) 0)
+      (some content) before
 
   hiddenBy-is :
       (number : ℕ) (before : Option (List ℕ)) (call : Call) →
@@ -113,7 +137,8 @@ module _ (disk : List ℕ) where
   hiddenBy-is number before (hiddenReads other blank) = refl
   hiddenBy-is number before (writesTo other content random room offer) =
       let result : Model.Calls.Written = ours other content random room offer in
-      ap (λ (given : Result). pick (eqb (given .number) 0 && eqb (given .outcome) 1) (offeredTo number offer before) before)
+      ap (λ (given : Result). pick (eqb (given .number) 0 && eqb (given .outcome) 1)
+      (offeredTo number offer before) before)
       (call-is other content random room offer)
       ∙ pick-is (Ours.isPlaced result) (offeredTo number offer before) before
       ∙ ap (λ (after : Option (List ℕ)). cond (Ours.isPlaced result) after before)
@@ -121,21 +146,24 @@ module _ (disk : List ℕ) where
 
 -- ---- lists of calls ----
 
-pub diskAfter-is : (disk : List ℕ) (calls : List Call) → diskAfter disk calls ≡ Model.Runs.diskAfterAll disk (callsOf calls)
+pub diskAfter-is : (disk : List ℕ) (calls : List Call) →
+    diskAfter disk calls ≡ Model.Runs.diskAfterAll disk (callsOf calls)
 unfolding diskAfter callsOf Model.Runs.diskAfterAll
 diskAfter-is disk [] = refl
 diskAfter-is disk (call ∷ calls) =
     ap (λ (drive : List ℕ). diskAfter drive calls) (afterOne-is disk call)
     ∙ diskAfter-is (Model.Runs.diskAfter disk (callOf call)) calls
 
-pub seen-is : (disk : List ℕ) (calls : List Call) → seen disk calls ≡ seensOf (Model.Runs.seenOfAll disk (callsOf calls))
+pub seen-is : (disk : List ℕ) (calls : List Call) →
+    seen disk calls ≡ seensOf (Model.Runs.seenOfAll disk (callsOf calls))
 unfolding seen callsOf Model.Runs.seenOfAll
 seen-is disk [] = sym seensOf-nil
 seen-is disk (call ∷ calls) =
     let after = Model.Runs.diskAfter disk (callOf call) in
     ap₂ (λ (here : List Seen) (drive : List ℕ). here ++ seen drive calls) (seenBy-is disk call)
     (afterOne-is disk call)
-    ∙ ap (λ (later : List Seen). seensOf (Model.Runs.seenOf disk (callOf call)) ++ later) (seen-is after calls)
+    ∙ ap (λ (later : List Seen). seensOf (Model.Runs.seenOf disk (callOf call)) ++ later)
+    (seen-is after calls)
     ∙ sym (seensOf-append (Model.Runs.seenOf disk (callOf call)) (Model.Runs.seenOfAll after (callsOf calls)))
 
 pub lastPublic-is :
@@ -144,7 +172,8 @@ pub lastPublic-is :
 unfolding lastPublic callsOf Ours.lastPublic
 lastPublic-is number before disk [] = refl
 lastPublic-is number before disk (call ∷ calls) =
-    ap₂ (λ (drive : List ℕ) (last : Option (List ℕ)). lastPublic drive number last calls) (afterOne-is disk call)
+    ap₂ (λ (drive : List ℕ) (last : Option (List ℕ)). lastPublic drive number last calls)
+    (afterOne-is disk call)
     (publicBy-is disk number before call)
     ∙ lastPublic-is number (Ours.publicAfter number before disk (callOf call))
     (Model.Runs.diskAfter disk (callOf call)) calls
@@ -155,7 +184,8 @@ pub lastHidden-is :
 unfolding lastHidden callsOf Ours.lastHidden
 lastHidden-is number before disk [] = refl
 lastHidden-is number before disk (call ∷ calls) =
-    ap₂ (λ (drive : List ℕ) (last : Option (List ℕ)). lastHidden drive number last calls) (afterOne-is disk call)
+    ap₂ (λ (drive : List ℕ) (last : Option (List ℕ)). lastHidden drive number last calls)
+    (afterOne-is disk call)
     (hiddenBy-is disk number before call)
     ∙ lastHidden-is number (Ours.hiddenAfter number before disk (callOf call))
     (Model.Runs.diskAfter disk (callOf call)) calls

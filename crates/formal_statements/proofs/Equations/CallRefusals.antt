@@ -1,5 +1,5 @@
--- The calls' refusals of document 03, nested choices, are ours, chains of checks: on a drive that refusals 1 to 3 do not
--- meet, on one that is refused, and so on every disk. Assumes nothing.
+-- The calls' refusals of document 03, nested choices, are ours, chains of checks: on a drive that refusals 1
+-- to 3 do not meet, on one that is refused, and so on every disk. Assumes nothing.
 use mathlib.Core.Path.{_≡_, refl, sym, ap, ap₂, _∙_, subst}
 use mathlib.Core.Logic.{_≢_, ⊎-elim}
 use mathlib.Core.Bool.{Bool, cond, not, _&&_, _||_}
@@ -13,13 +13,16 @@ use Rattle.laws.specs as Laws
 use Rattle.laws.proofs.Cases.{eq-cases}
 use Rattle.model.specs as Model
 use Rattle.model.proofs.Laws.Refusals.{accepted-of-refusal, after-drive-pass, after-drive-stop}
-use Rattle.formal_statements.specs.Disk.{pick, Geometry, geometryIn, headIn, mapEntry, isMarked, isPublicBlock, slotOf, Walk, walk}
-use Rattle.formal_statements.specs.Calls.{diskFault, isPlaced, publicFault, roundsTo, writeFault, offerFault, endFault, hiddenFault}
+use Rattle.formal_statements.specs.Disk.{pick, Geometry, geometryIn, headIn, mapEntry, isMarked}
+use Rattle.formal_statements.specs.Disk.{isPublicBlock, slotOf, Walk, walk}
+use Rattle.formal_statements.specs.Calls.{diskFault, isPlaced, publicFault, roundsTo, writeFault}
+use Rattle.formal_statements.specs.Calls.{offerFault, endFault, hiddenFault}
 use Rattle.formal_statements.proofs.Translation.{geometryOf}
 use Rattle.formal_statements.proofs.Equations.Entries.{pick-is, entry-is, geometryIn-is, mapEntry-is}
 use Rattle.formal_statements.proofs.Equations.Marks.{isMarked-is}
 use Rattle.formal_statements.proofs.Equations.Walks.{walk-is}
-use Rattle.formal_statements.proofs.Equations.Chains.{place-chain, write-chain, offer-chain, hidden-chain}
+use Rattle.formal_statements.proofs.Equations.Chains.{place-chain, write-chain, offer-chain}
+use Rattle.formal_statements.proofs.Equations.Chains.{hidden-chain}
 use Rattle.formal_statements.proofs.Equations.Refusals.{diskFault-is}
 
 -- ---- 10 and 11 ----
@@ -35,11 +38,13 @@ offerFault-is g number content = offer-chain (leb (g .hidden) number) (eqb (leng
 module _ (g : Geometry) (f : Model.Geometry.Fits (geometryOf g)) (disk : List ℕ) where
   roundsTo-is :
       (most slot : ℕ) →
-      roundsTo most g disk slot ≡ Model.Refusals.roundsTo most (Model.Layout.isAllocated (geometryOf g) disk) (geometryOf g) slot
+      roundsTo most g disk slot ≡ Model.Refusals.roundsTo most (Model.Layout.isAllocated (geometryOf g) disk)
+      (geometryOf g) slot
   unfolding roundsTo Model.Refusals.roundsTo
   roundsTo-is zero slot = refl
   roundsTo-is (suc most) slot =
-      ap₂ (λ (test : Bool) (rounds : ℕ). pick test (pick (eqb rounds 0) 0 (suc rounds)) 1) (isMarked-is g f slot disk)
+      ap₂ (λ (test : Bool) (rounds : ℕ). pick test (pick (eqb rounds 0) 0 (suc rounds)) 1)
+      (isMarked-is g f slot disk)
       (roundsTo-is most ((slot + 1) % g .slots))
       ∙ ap (λ (n : ℕ). pick (Model.Layout.isAllocated (geometryOf g) disk slot) n 1) (more rest)
       ∙ pick-is (Model.Layout.isAllocated (geometryOf g) disk slot) (Model.Refusals.oneMore rest) 1
@@ -51,7 +56,8 @@ module _ (g : Geometry) (f : Model.Geometry.Fits (geometryOf g)) (disk : List �
 
       more : (rounds : ℕ) → pick (eqb rounds 0) 0 (suc rounds) ≡ Model.Refusals.oneMore rounds
       more zero = refl
-      more (suc rounds) = ap (λ (test : Bool). pick test 0 (suc (suc rounds))) (ne-eqb (suc rounds) 0 (λ z. omega arith))
+      more (suc rounds) =
+          ap (λ (test : Bool). pick test 0 (suc (suc rounds))) (ne-eqb (suc rounds) 0 (λ z. omega arith))
 
   -- ---- public calls ----
 
@@ -59,7 +65,8 @@ module _ (g : Geometry) (f : Model.Geometry.Fits (geometryOf g)) (disk : List �
   abbrev placeFault : (number size : ℕ) → ℕ
   placeFault number size =
       pick (leb (g .publics) number) 4
-      (pick (not (eqb size (g .size))) 5 (pick (eqb (mapEntry g disk number) 0 || isPlaced g disk number) 0 6))
+      (pick (not (eqb size (g .size))) 5 (pick (eqb (mapEntry g disk number) 0 ||
+      isPlaced g disk number) 0 6))
 
   isPlace-is :
       (number : ℕ) →
@@ -69,15 +76,19 @@ module _ (g : Geometry) (f : Model.Geometry.Fits (geometryOf g)) (disk : List �
   unfolding Model.Layout.isPlace Model.Layout.isSlotBlock
   isPlace-is number =
       let entry = Model.Layout.mapEntry (geometryOf g) disk number in
-      ap (λ (n : ℕ). eqb n 0 || isPublicBlock g n && isMarked g disk (slotOf g n)) (mapEntry-is g disk number f)
-      ∙ ap (λ (test : Bool). eqb entry 0 || isPublicBlock g entry && test) (isMarked-is g f (slotOf g entry) disk)
+      ap (λ (n : ℕ). eqb n 0 || isPublicBlock g n && isMarked g disk (slotOf g n))
+      (mapEntry-is g disk number f)
+      ∙ ap (λ (test : Bool). eqb entry 0 || isPublicBlock g entry && test)
+      (isMarked-is g f (slotOf g entry) disk)
 
   placeFault-is :
-      (number size : ℕ) → placeFault number size ≡ Laws.Checks.firstOf (Model.Refusals.placeChecks (geometryOf g) disk number size)
+      (number size : ℕ) → placeFault number size ≡ Laws.Checks.firstOf
+      (Model.Refusals.placeChecks (geometryOf g) disk number size)
   unfolding Model.Refusals.placeChecks Laws.Checks.firstOf
   placeFault-is number size =
       let entry = Model.Layout.mapEntry (geometryOf g) disk number in
-      ap (λ (test : Bool). pick (leb (g .publics) number) 4 (pick (not (eqb size (g .size))) 5 (pick test 0 6))) (isPlace-is number)
+      ap (λ (test : Bool). pick (leb (g .publics) number) 4
+      (pick (not (eqb size (g .size))) 5 (pick test 0 6))) (isPlace-is number)
       ∙ place-chain (leb (g .publics) number) (not (eqb size (g .size)))
       (eqb entry 0 || Model.Layout.isPlace (geometryOf g) disk entry)
 
@@ -107,7 +118,8 @@ module _ (g : Geometry) (f : Model.Geometry.Fits (geometryOf g)) (disk : List �
       pick (not (eqb (pick (leb (g .publics) number) 4 (pick unfit 5 (pick test 0 6))) 0))
       (pick (leb (g .publics) number) 4 (pick unfit 5 (pick test 0 6))) later)
       (isPlace-is number) (ap₂ (roundFault random room) count (mapEntry-is g disk number f))
-      ∙ write-chain (leb (g .publics) number) unfit good (eqb rounds 0) (ltb random (rounds * g .height * g .size))
+      ∙ write-chain (leb (g .publics) number) unfit good (eqb rounds 0)
+      (ltb random (rounds * g .height * g .size))
       (ltb room (rounds * (g .height + 3) + pick (eqb entry 0) 2 3))
       ∙ ap (λ (n : ℕ).
       cond (leb (g .publics) number) 4 (cond unfit 5 (cond (not good) 6
@@ -118,34 +130,42 @@ module _ (g : Geometry) (f : Model.Geometry.Fits (geometryOf g)) (disk : List �
 
   walkFault-is :
       (number : ℕ) (blank : List ℕ) →
-      pick (not (eqb (offerFault g number blank) 0)) (offerFault g number blank) (endFault (walk g disk number .ends)) ≡
+      pick (not (eqb (offerFault g number blank) 0)) (offerFault g number blank)
+      (endFault (walk g disk number .ends)) ≡
       Laws.Checks.firstOf
-      (Model.Refusals.hiddenChecks (geometryOf g) number (length blank) ++ Model.Refusals.walkChecks (geometryOf g) disk number)
+      (Model.Refusals.hiddenChecks (geometryOf g) number (length blank) ++
+      Model.Refusals.walkChecks (geometryOf g) disk number)
   unfolding Model.Refusals.hiddenChecks Model.Refusals.walkChecks Laws.Checks.firstOf
   walkFault-is number blank =
-      ap (λ (walked : Walk). pick (not (eqb (offerFault g number blank) 0)) (offerFault g number blank) (endFault (walked .ends)))
+      ap (λ (walked : Walk). pick (not (eqb (offerFault g number blank) 0)) (offerFault g number blank)
+      (endFault (walked .ends)))
       (walk-is g disk number f)
-      ∙ hidden-chain (leb (g .hidden) number) (eqb (length blank) (g .size)) (Model.HiddenTree.walk (geometryOf g) disk number .end)
+      ∙ hidden-chain (leb (g .hidden) number) (eqb (length blank) (g .size))
+      (Model.HiddenTree.walk (geometryOf g) disk number .end)
 
 -- ---- on an accepted drive ----
 
 module _ (disk : List ℕ) (accepted : Model.Refusals.driveRefusal disk ≡ 0) where
   pub fits-of-accepted : Model.Geometry.Fits (geometryOf (geometryIn disk))
-  fits-of-accepted = subst Model.Geometry.Fits (sym (geometryIn-is disk)) (accepted-of-refusal disk accepted .sized .fits)
+  fits-of-accepted =
+      subst Model.Geometry.Fits (sym (geometryIn-is disk)) (accepted-of-refusal disk accepted .sized .fits)
 
   -- a call's checks after the drive's
   after-drive : (later : ℕ) → pick (not (eqb (diskFault disk) 0)) (diskFault disk) later ≡ later
   after-drive later = ap (λ (n : ℕ). pick (not (eqb n 0)) n later) (diskFault-is disk ∙ accepted)
 
   publicFault-accepted :
-      (number : ℕ) (blank : List ℕ) → publicFault disk number blank ≡ Model.Refusals.publicReadRefusal disk number blank
+      (number : ℕ) (blank : List ℕ) → publicFault disk number blank ≡
+      Model.Refusals.publicReadRefusal disk number blank
   unfolding Model.Refusals.publicReadRefusal
   publicFault-accepted number blank =
       after-drive (placeFault (geometryIn disk) fits-of-accepted disk number (length blank))
       ∙ placeFault-is (geometryIn disk) fits-of-accepted disk number (length blank)
-      ∙ ap (λ (shape : Model.Geometry.Geometry). Laws.Checks.firstOf (Model.Refusals.placeChecks shape disk number (length blank)))
+      ∙ ap (λ (shape : Model.Geometry.Geometry). Laws.Checks.firstOf
+      (Model.Refusals.placeChecks shape disk number (length blank)))
       (geometryIn-is disk)
-      ∙ sym (after-drive-pass disk (Model.Refusals.placeChecks (Model.Layout.geometryIn disk) disk number (length blank)) accepted)
+      ∙ sym (after-drive-pass disk (Model.Refusals.placeChecks (Model.Layout.geometryIn disk) disk number
+      (length blank)) accepted)
 
   writeFault-accepted :
       (number : ℕ) (content : List ℕ) (random room : ℕ) →
@@ -159,39 +179,48 @@ module _ (disk : List ℕ) (accepted : Model.Refusals.driveRefusal disk ≡ 0) w
       (after-drive (placeFault g f disk number (length content)))
       ∙ roundFault-is g f disk number (length content) random room
       ∙ ap (λ (shape : Model.Geometry.Geometry). Laws.Checks.firstOf
-      (Model.Refusals.placeChecks shape disk number (length content) ++ Model.Refusals.roundChecks shape disk number random room))
+      (Model.Refusals.placeChecks shape disk number (length content) ++
+      Model.Refusals.roundChecks shape disk number random room))
       (geometryIn-is disk)
       ∙ sym (after-drive-pass disk _ accepted)
 
   hiddenFault-accepted :
-      (number : ℕ) (blank : List ℕ) → hiddenFault disk number blank ≡ Model.Refusals.hiddenReadRefusal disk number blank
+      (number : ℕ) (blank : List ℕ) → hiddenFault disk number blank ≡
+      Model.Refusals.hiddenReadRefusal disk number blank
   unfolding Model.Refusals.hiddenReadRefusal
   hiddenFault-accepted number blank =
       let g = geometryIn disk in
-      after-drive (pick (not (eqb (offerFault g number blank) 0)) (offerFault g number blank) (endFault (walk g disk number .ends)))
+      after-drive (pick (not (eqb (offerFault g number blank) 0)) (offerFault g number blank)
+      (endFault (walk g disk number .ends)))
       ∙ walkFault-is g fits-of-accepted disk number blank
       ∙ ap (λ (shape : Model.Geometry.Geometry). Laws.Checks.firstOf
-      (Model.Refusals.hiddenChecks shape number (length blank) ++ Model.Refusals.walkChecks shape disk number)) (geometryIn-is disk)
+      (Model.Refusals.hiddenChecks shape number (length blank) ++
+      Model.Refusals.walkChecks shape disk number)) (geometryIn-is disk)
       ∙ sym (after-drive-pass disk _ accepted)
 
 -- ---- on a drive that is refused ----
 
 module _ (disk : List ℕ) (refused : Model.Refusals.driveRefusal disk ≢ 0) where
-  stops : (answer later : ℕ) → answer ≡ Model.Refusals.driveRefusal disk → pick (not (eqb answer 0)) answer later ≡ Model.Refusals.driveRefusal disk
+  stops : (answer later : ℕ) → answer ≡ Model.Refusals.driveRefusal disk →
+      pick (not (eqb answer 0)) answer later ≡ Model.Refusals.driveRefusal disk
   stops answer later e =
       ap (λ (n : ℕ). pick (not (eqb n 0)) n later) e
-      ∙ ap (λ (test : Bool). pick (not test) (Model.Refusals.driveRefusal disk) later) (ne-eqb (Model.Refusals.driveRefusal disk) 0 refused)
+      ∙ ap (λ (test : Bool). pick (not test) (Model.Refusals.driveRefusal disk) later)
+      (ne-eqb (Model.Refusals.driveRefusal disk) 0 refused)
 
-  publicFault-refused : (number : ℕ) (blank : List ℕ) → publicFault disk number blank ≡ Model.Refusals.driveRefusal disk
+  publicFault-refused : (number : ℕ) (blank : List ℕ) →
+      publicFault disk number blank ≡ Model.Refusals.driveRefusal disk
   publicFault-refused number blank = stops (diskFault disk) _ (diskFault-is disk)
 
   pub publicReadRefusal-refused :
-      (number : ℕ) (blank : List ℕ) → Model.Refusals.publicReadRefusal disk number blank ≡ Model.Refusals.driveRefusal disk
+      (number : ℕ) (blank : List ℕ) → Model.Refusals.publicReadRefusal disk number blank ≡
+      Model.Refusals.driveRefusal disk
   unfolding Model.Refusals.publicReadRefusal
   publicReadRefusal-refused number blank = after-drive-stop disk _ refused
 
   pub hiddenReadRefusal-refused :
-      (number : ℕ) (blank : List ℕ) → Model.Refusals.hiddenReadRefusal disk number blank ≡ Model.Refusals.driveRefusal disk
+      (number : ℕ) (blank : List ℕ) → Model.Refusals.hiddenReadRefusal disk number blank ≡
+      Model.Refusals.driveRefusal disk
   unfolding Model.Refusals.hiddenReadRefusal
   hiddenReadRefusal-refused number blank = after-drive-stop disk _ refused
 
@@ -204,17 +233,21 @@ module _ (disk : List ℕ) (refused : Model.Refusals.driveRefusal disk ≢ 0) wh
 -- ---- on every disk ----
 
 pub publicFault-is :
-    (disk : List ℕ) (number : ℕ) (blank : List ℕ) → publicFault disk number blank ≡ Model.Refusals.publicReadRefusal disk number blank
+    (disk : List ℕ) (number : ℕ) (blank : List ℕ) →
+    publicFault disk number blank ≡ Model.Refusals.publicReadRefusal disk number blank
 publicFault-is disk number blank =
     ⊎-elim (λ accepted. publicFault-accepted disk accepted number blank)
-    (λ refused. publicFault-refused disk refused number blank ∙ sym (publicReadRefusal-refused disk refused number blank))
+    (λ refused. publicFault-refused disk refused number blank
+    ∙ sym (publicReadRefusal-refused disk refused number blank))
     (eq-cases (Model.Refusals.driveRefusal disk) 0)
 
 pub hiddenFault-is :
-    (disk : List ℕ) (number : ℕ) (blank : List ℕ) → hiddenFault disk number blank ≡ Model.Refusals.hiddenReadRefusal disk number blank
+    (disk : List ℕ) (number : ℕ) (blank : List ℕ) →
+    hiddenFault disk number blank ≡ Model.Refusals.hiddenReadRefusal disk number blank
 hiddenFault-is disk number blank =
     ⊎-elim (λ accepted. hiddenFault-accepted disk accepted number blank)
-    (λ refused. stops disk refused (diskFault disk) _ (diskFault-is disk) ∙ sym (hiddenReadRefusal-refused disk refused number blank))
+    (λ refused. stops disk refused (diskFault disk) _ (diskFault-is disk)
+    ∙ sym (hiddenReadRefusal-refused disk refused number blank))
     (eq-cases (Model.Refusals.driveRefusal disk) 0)
 
 pub writeFault-is :
@@ -222,6 +255,7 @@ pub writeFault-is :
     writeFault disk number content random room ≡ Model.Refusals.writeRefusal disk number content random room
 writeFault-is disk number content random room =
     ⊎-elim (λ accepted. writeFault-accepted disk accepted number content random room)
-    (λ refused. stops disk refused (publicFault disk number content) _ (publicFault-refused disk refused number content)
+    (λ refused. stops disk refused (publicFault disk number content) _
+    (publicFault-refused disk refused number content)
     ∙ sym (writeRefusal-refused disk refused number content random room))
     (eq-cases (Model.Refusals.driveRefusal disk) 0)

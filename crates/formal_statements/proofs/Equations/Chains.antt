@@ -23,7 +23,8 @@ pub drive-chain :
     (isShort isGood isWhole isInside : Bool) →
     _≡_ {A = ℕ}
     (pick isShort 1
-    (pick (not (eqb (pick (not isGood) 1 (pick isWhole 0 2)) 0)) (pick (not isGood) 1 (pick isWhole 0 2)) (pick isInside 0 3)))
+    (pick (not (eqb (pick (not isGood) 1 (pick isWhole 0 2)) 0)) (pick (not isGood) 1 (pick isWhole 0 2))
+    (pick isInside 0 3)))
     (cond (isShort || not isGood) 1 (cond (not isWhole) 2 (cond (not isInside) 3 0)))
 drive-chain true isGood isWhole isInside = refl
 drive-chain false false isWhole isInside = refl
@@ -35,7 +36,8 @@ drive-chain false true true false = refl
 
 pub place-chain :
     (isPast isUnfit isGood : Bool) →
-    _≡_ {A = ℕ} (pick isPast 4 (pick isUnfit 5 (pick isGood 0 6))) (cond isPast 4 (cond isUnfit 5 (cond (not isGood) 6 0)))
+    _≡_ {A = ℕ} (pick isPast 4 (pick isUnfit 5 (pick isGood 0 6)))
+    (cond isPast 4 (cond isUnfit 5 (cond (not isGood) 6 0)))
 place-chain true isUnfit isGood = refl
 place-chain false true isGood = refl
 place-chain false false true = refl
@@ -44,7 +46,8 @@ place-chain false false false = refl
 pub write-chain :
     (isPast isUnfit isGood isFull isShort isSmall : Bool) →
     _≡_ {A = ℕ}
-    (pick (not (eqb (pick isPast 4 (pick isUnfit 5 (pick isGood 0 6))) 0)) (pick isPast 4 (pick isUnfit 5 (pick isGood 0 6)))
+    (pick (not (eqb (pick isPast 4 (pick isUnfit 5 (pick isGood 0 6))) 0))
+    (pick isPast 4 (pick isUnfit 5 (pick isGood 0 6)))
     (pick isFull 7 (pick isShort 8 (pick isSmall 9 0))))
     (cond isPast 4 (cond isUnfit 5 (cond (not isGood) 6 (cond isFull 7 (cond isShort 8 (cond isSmall 9 0))))))
 write-chain true isUnfit isGood isFull isShort isSmall = refl
@@ -58,7 +61,8 @@ write-chain false false true false false false = refl
 -- ---- 10 to 12 ----
 
 pub offer-chain :
-    (isPast isFit : Bool) → _≡_ {A = ℕ} (pick isPast 10 (pick isFit 0 11)) (cond isPast 10 (cond (not isFit) 11 0))
+    (isPast isFit : Bool) → _≡_ {A = ℕ} (pick isPast 10 (pick isFit 0 11))
+    (cond isPast 10 (cond (not isFit) 11 0))
 offer-chain true isFit = refl
 offer-chain false true = refl
 offer-chain false false = refl
@@ -66,7 +70,8 @@ offer-chain false false = refl
 pub hidden-chain :
     (isPast isFit : Bool) (end : Model.HiddenTree.End) →
     _≡_ {A = ℕ}
-    (pick (not (eqb (pick isPast 10 (pick isFit 0 11)) 0)) (pick isPast 10 (pick isFit 0 11)) (endFault (endOf end)))
+    (pick (not (eqb (pick isPast 10 (pick isFit 0 11)) 0)) (pick isPast 10 (pick isFit 0 11))
+    (endFault (endOf end)))
     (cond isPast 10 (cond (not isFit) 11 (cond (Model.HiddenTree.isDamaged end) 12 0)))
 hidden-chain true isFit end = refl
 hidden-chain false false end = refl

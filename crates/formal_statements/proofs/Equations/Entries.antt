@@ -9,7 +9,8 @@ use lib.Seq.{drop-drop}
 use Rattle.laws.specs as Laws
 use Rattle.model.specs as Model
 use Rattle.model.proofs.Laws.PublicMap.{mapEntry-bytes}
-use Rattle.formal_statements.specs.Disk.{pick, numberOf, little, entry, withEntry, Geometry, block, stored, mapEntry, geometryIn}
+use Rattle.formal_statements.specs.Disk.{pick, numberOf, little, entry, withEntry, Geometry, block}
+use Rattle.formal_statements.specs.Disk.{stored, mapEntry, geometryIn}
 use Rattle.formal_statements.proofs.Translation.{geometryOf}
 
 -- ---- choices ----
@@ -28,7 +29,8 @@ numberOf-is (byte ∷ bytes) = ap (λ (n : ℕ). byte + 256 * n) (numberOf-is by
 pub little-is : (size value : ℕ) → little size value ≡ Laws.Numbers.littleEndian size value
 unfolding little Laws.Numbers.littleEndian
 little-is zero value = refl
-little-is (suc size) value = ap {B = List ℕ} (λ (bytes : List ℕ). value % 256 ∷ bytes) (little-is size (value / 256))
+little-is (suc size) value =
+    ap {B = List ℕ} (λ (bytes : List ℕ). value % 256 ∷ bytes) (little-is size (value / 256))
 
 -- ---- entries and blocks ----
 
@@ -36,12 +38,14 @@ pub entry-is : (index : ℕ) (bytes : List ℕ) → entry index bytes ≡ Model.
 unfolding Model.Blocks.entryAt Laws.Lists.part
 entry-is index bytes = numberOf-is (take 4 (drop (4 * index) bytes))
 
-pub withEntry-is : (index value : ℕ) (bytes : List ℕ) → withEntry index value bytes ≡ Model.Blocks.setEntry index value bytes
+pub withEntry-is : (index value : ℕ) (bytes : List ℕ) →
+    withEntry index value bytes ≡ Model.Blocks.setEntry index value bytes
 unfolding Model.Blocks.setEntry Laws.Lists.over
 withEntry-is index value bytes =
     ap (λ (new : List ℕ). Laws.Lists.over (4 * index) new bytes) (little-is 4 value)
 
-pub block-is : (g : Geometry) (disk : List ℕ) (address : ℕ) → block g disk address ≡ Model.Blocks.blockAt (g .size) disk address
+pub block-is : (g : Geometry) (disk : List ℕ) (address : ℕ) →
+    block g disk address ≡ Model.Blocks.blockAt (g .size) disk address
 unfolding Model.Blocks.blockAt Laws.Lists.part
 block-is g disk address = refl
 
@@ -54,7 +58,8 @@ stored-is g address content disk = refl
 -- an entry of a block
 pub entry-block-is :
     (g : Geometry) (disk : List ℕ) (index address : ℕ) →
-    entry index (block g disk address) ≡ Model.Blocks.entryAt index (Model.Blocks.blockAt (g .size) disk address)
+    entry index (block g disk address) ≡ Model.Blocks.entryAt index
+    (Model.Blocks.blockAt (g .size) disk address)
 entry-block-is g disk index address =
     entry-is index (block g disk address) ∙ ap (Model.Blocks.entryAt index) (block-is g disk address)
 

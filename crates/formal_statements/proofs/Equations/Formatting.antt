@@ -22,7 +22,8 @@ module _ (g : Geometry) (f : Model.Geometry.Fits (geometryOf g)) where
   header-is =
       let e : 4 + (g .size - 24) ≡ g .size - 20 = omega arith in
       ap (λ (zeros : List ℕ).
-      little 4 (g .size) ++ little 4 (g .height) ++ little 4 (g .publics) ++ little 4 (g .hidden) ++ little 4 (g .slots) ++ zeros)
+      little 4 (g .size) ++ little 4 (g .height) ++ little 4 (g .publics) ++ little 4 (g .hidden) ++
+      little 4 (g .slots) ++ zeros)
       (ap (λ (n : ℕ). replicate n 0) (sym e) ∙ sym (replicate-append-replicate 4 (g .size - 24) 0))
 
   length-front : length (Model.Calls.freshFront (geometryOf g)) ≡ areaStart g * g .size
@@ -39,12 +40,15 @@ module _ (g : Geometry) (f : Model.Geometry.Fits (geometryOf g)) where
       Laws.Lists.over 0 (Model.Calls.freshFront (geometryOf g)) disk
   unfolding Model.Calls.freshFront
   front-is disk =
-      ap₂ (λ (header : List ℕ) (n : ℕ). header ++ replicate ((areaStart g - 1) * g .size) 0 ++ drop n disk) header-is
+      ap₂ (λ (header : List ℕ) (n : ℕ). header ++ replicate ((areaStart g - 1) * g .size) 0 ++
+      drop n disk) header-is
       (sym (zero-add _ ∙ length-front))
       ∙ sym (over-is 0 (Model.Calls.freshFront (geometryOf g)) disk)
 
-pub formatted-is : (disk : List ℕ) (g : Geometry) → formatted disk g ≡ Model.Calls.formatted disk (geometryOf g)
+pub formatted-is : (disk : List ℕ) (g : Geometry) →
+    formatted disk g ≡ Model.Calls.formatted disk (geometryOf g)
 unfolding Model.Calls.formatted
 formatted-is disk g =
-    answer-is (formatFault disk g) (Model.Refusals.formatRefusal disk (geometryOf g)) _ _ disk (formatFault-is disk g)
+    answer-is (formatFault disk g) (Model.Refusals.formatRefusal disk (geometryOf g)) _ _ disk
+    (formatFault-is disk g)
     (λ e. front-is g (sized-of-refusal (length disk) (geometryOf g) e .fits) disk)

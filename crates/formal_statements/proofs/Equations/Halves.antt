@@ -1,5 +1,5 @@
--- The hidden half of a round of document 03 is ours, while at most one hidden write waits; and none comes to wait by it.
--- Assumes nothing.
+-- The hidden half of a round of document 03 is ours, while at most one hidden write waits; and none comes to
+-- wait by it. Assumes nothing.
 use mathlib.Core.Path.{_≡_, refl, sym, ap, ap₂, _∙_, subst}
 use mathlib.Core.Bool.{Bool, true, false, cond, not, _&&_, _||_}
 use mathlib.Core.List.{List, [], _∷_}
@@ -12,7 +12,9 @@ use Rattle.laws.proofs.Cases.{cond-cases}
 use Rattle.model.specs as Model
 use Rattle.model.proofs.Laws.Table.{rowAt-ruled}
 use Rattle.formal_statements.specs.Disk.{pick, Geometry, fan, block, slotStart, End, Walk, walk}
-use Rattle.formal_statements.specs.Rounds.{Offer, Fate, Store, ownerOf, isFoundAt, isDamaged, isLive, ownerDamaged, Half, half, keepsFate, placedFate, offerHalf, hiddenHalf, keptStores, pathStores}
+use Rattle.formal_statements.specs.Rounds.{Offer, Fate, Store, ownerOf, isFoundAt, isDamaged, isLive}
+use Rattle.formal_statements.specs.Rounds.{ownerDamaged, Half, half, keepsFate, placedFate, offerHalf}
+use Rattle.formal_statements.specs.Rounds.{hiddenHalf, keptStores, pathStores}
 use Rattle.formal_statements.proofs.Translation.{geometryOf, endOf, fateOf, waitingOf, halfOf}
 use Rattle.formal_statements.proofs.Equations.Entries.{entry-block-is, block-is}
 use Rattle.formal_statements.proofs.Equations.Walks.{walk-is}
@@ -27,7 +29,8 @@ fate waiting isPlaced wasKept = record { waiting = waiting; isPlaced = isPlaced;
 
 -- ---- ends ----
 
-isFoundAt-is : (address : ℕ) (end : Model.HiddenTree.End) → isFoundAt address (endOf end) ≡ Model.HiddenTree.isFoundAt address end
+isFoundAt-is : (address : ℕ) (end : Model.HiddenTree.End) →
+    isFoundAt address (endOf end) ≡ Model.HiddenTree.isFoundAt address end
 isFoundAt-is address (Model.HiddenTree.found reached) = refl
 isFoundAt-is address Model.HiddenTree.unmapped = refl
 isFoundAt-is address Model.HiddenTree.damaged = refl
@@ -41,7 +44,8 @@ module _ (g : Geometry) (f : Model.Geometry.Fits (geometryOf g)) (disk : List �
   -- ---- whose slot ----
 
   walk-damaged-is :
-      (number : ℕ) → isDamaged (walk g disk number .ends) ≡ Model.HiddenTree.isDamaged (Model.HiddenTree.walk (geometryOf g) disk number .end)
+      (number : ℕ) → isDamaged (walk g disk number .ends) ≡
+      Model.HiddenTree.isDamaged (Model.HiddenTree.walk (geometryOf g) disk number .end)
   walk-damaged-is number =
       ap (λ (walked : Walk). isDamaged (walked .ends)) (walk-is g disk number f)
       ∙ isDamaged-is (Model.HiddenTree.walk (geometryOf g) disk number .end)
@@ -57,9 +61,11 @@ module _ (g : Geometry) (f : Model.Geometry.Fits (geometryOf g)) (disk : List �
     isLive-is : isLive g disk slot ≡ Model.HiddenHalf.isLive (geometryOf g) disk slot
     unfolding Model.HiddenHalf.isLive
     isLive-is =
-        ap (λ (n : ℕ). ltb n (g .hidden) && isFoundAt (slotStart g slot + g .height) (walk g disk n .ends)) ownerOf-is
+        ap (λ (n : ℕ). ltb n (g .hidden) && isFoundAt (slotStart g slot + g .height)
+        (walk g disk n .ends)) ownerOf-is
         ∙ ap (λ (test : Bool). ltb owner (g .hidden) && test)
-        (ap (λ (walked : Walk). isFoundAt (slotStart g slot + g .height) (walked .ends)) (walk-is g disk owner f)
+        (ap (λ (walked : Walk). isFoundAt (slotStart g slot + g .height) (walked .ends))
+        (walk-is g disk owner f)
         ∙ isFoundAt-is (slotStart g slot + g .height) (Model.HiddenTree.walk (geometryOf g) disk owner .end))
 
     ownerDamaged-is : ownerDamaged g disk slot ≡ Model.HiddenHalf.isOwnerDamaged (geometryOf g) disk slot
@@ -73,8 +79,10 @@ module _ (g : Geometry) (f : Model.Geometry.Fits (geometryOf g)) (disk : List �
     module _ (random : List ℕ) (state : Model.HiddenHalf.HiddenState) where
       kept-half-is :
           half (keptStores g disk slot) (keepsFate (fateOf state)) ≡
-          halfOf (Model.HiddenHalf.half (Model.Paths.writtenBack (geometryOf g) disk slot) (Model.HiddenHalf.blockedState state))
-      kept-half-is = ap (λ (stores : List Store). half stores (keepsFate (fateOf state))) (keptStores-is g disk slot)
+          halfOf (Model.HiddenHalf.half (Model.Paths.writtenBack (geometryOf g) disk slot)
+          (Model.HiddenHalf.blockedState state))
+      kept-half-is =
+          ap (λ (stores : List Store). half stores (keepsFate (fateOf state))) (keptStores-is g disk slot)
 
       abbrev livingHalf : Half
       livingHalf =
@@ -84,70 +92,85 @@ module _ (g : Geometry) (f : Model.Geometry.Fits (geometryOf g)) (disk : List �
 
       live-half-is :
           livingHalf ≡
-          halfOf (Model.HiddenHalf.hiddenBy Model.Table.keepHidden (geometryOf g) disk slot random state (state .waiting))
+          halfOf (Model.HiddenHalf.hiddenBy Model.Table.keepHidden (geometryOf g) disk slot random state
+          (state .waiting))
       unfolding Model.HiddenHalf.hiddenBy
       live-half-is =
           ap (λ (stores : List Store). half stores (fateOf state))
           (ap₂ (λ (n : ℕ) (content : List ℕ). pathStores g n slot content (walk g disk n .nodes)) ownerOf-is
           (block-is g disk (slotStart g slot + g .height))
-          ∙ currentPath-is g owner slot disk (Model.Blocks.blockAt (g .size) disk (slotStart g slot + g .height)) f)
+          ∙ currentPath-is g owner slot disk (Model.Blocks.blockAt (g .size) disk
+          (slotStart g slot + g .height)) f)
 
       placedFate-is :
           (later : List Model.HiddenHalf.HiddenWrite) → later ≡ [] →
           placedFate (fateOf state) ≡ fateOf (Model.HiddenHalf.placedState state later)
       placedFate-is later e =
-          ap₂ (λ (waiting : Option Offer) (isPlaced : Bool). fate waiting isPlaced (state .metDamage)) (sym (ap waitingOf e))
+          ap₂ (λ (waiting : Option Offer) (isPlaced : Bool). fate waiting isPlaced (state .metDamage))
+          (sym (ap waitingOf e))
           (sym (ap not (ne-eqb (suc (state .placed)) 0 (λ z. omega arith))))
 
       -- our half by the table's rule
-      abbrev ruledHalf : (isOwnerDamaged isLive : Bool) → List Model.HiddenHalf.HiddenWrite → Model.HiddenHalf.HiddenHalf
+      abbrev ruledHalf : (isOwnerDamaged isLive : Bool) → List Model.HiddenHalf.HiddenWrite →
+          Model.HiddenHalf.HiddenHalf
       ruledHalf isOwnerDamaged isLive waiting =
           cond (isOwnerDamaged || not isLive && Model.HiddenHalf.isNextDamaged (geometryOf g) disk waiting)
-          (Model.HiddenHalf.half (Model.Paths.writtenBack (geometryOf g) disk slot) (Model.HiddenHalf.blockedState state))
+          (Model.HiddenHalf.half (Model.Paths.writtenBack (geometryOf g) disk slot)
+          (Model.HiddenHalf.blockedState state))
           (Model.HiddenHalf.hiddenBy
-          (cond isLive Model.Table.keepHidden (cond (Model.HiddenHalf.isWaiting waiting) Model.Table.placeHidden Model.Table.fillHidden))
+          (cond isLive Model.Table.keepHidden
+          (cond (Model.HiddenHalf.isWaiting waiting) Model.Table.placeHidden Model.Table.fillHidden))
           (geometryOf g) disk slot random state waiting)
 
       ruled :
           Model.HiddenHalf.hiddenHalf (geometryOf g) disk slot random state ≡
-          ruledHalf (Model.HiddenHalf.isOwnerDamaged (geometryOf g) disk slot) (Model.HiddenHalf.isLive (geometryOf g) disk slot) (state .waiting)
+          ruledHalf (Model.HiddenHalf.isOwnerDamaged (geometryOf g) disk slot)
+          (Model.HiddenHalf.isLive (geometryOf g) disk slot) (state .waiting)
       unfolding Model.HiddenHalf.hiddenHalf
       ruled =
           ap (λ (row : Model.Table.Row).
           cond (Model.HiddenHalf.isBlocked (geometryOf g) disk slot (state .waiting))
-          (Model.HiddenHalf.half (Model.Paths.writtenBack (geometryOf g) disk slot) (Model.HiddenHalf.blockedState state))
+          (Model.HiddenHalf.half (Model.Paths.writtenBack (geometryOf g) disk slot)
+          (Model.HiddenHalf.blockedState state))
           (Model.HiddenHalf.hiddenBy (row .hidden) (geometryOf g) disk slot random state (state .waiting)))
-          (rowAt-ruled (Model.HiddenHalf.isWaiting (state .waiting)) (Model.Layout.isAllocated (geometryOf g) disk slot)
+          (rowAt-ruled (Model.HiddenHalf.isWaiting (state .waiting))
+          (Model.Layout.isAllocated (geometryOf g) disk slot)
           (Model.HiddenHalf.isLive (geometryOf g) disk slot))
 
       offer-half-is :
           (waiting : List Model.HiddenHalf.HiddenWrite) → AtMostOne waiting →
-          offerHalf g disk slot random (fateOf state) (waitingOf waiting) ≡ halfOf (ruledHalf false false waiting)
+          offerHalf g disk slot random (fateOf state) (waitingOf waiting) ≡
+          halfOf (ruledHalf false false waiting)
       unfolding Model.HiddenHalf.hiddenBy Model.HiddenHalf.isNextDamaged
-      offer-half-is [] one = ap (λ (stores : List Store). half stores (fateOf state)) (dummyStores-is g disk slot random)
+      offer-half-is [] one =
+          ap (λ (stores : List Store). half stores (fateOf state)) (dummyStores-is g disk slot random)
       offer-half-is (next ∷ later) one =
-          ap₂ (λ (test : Bool) (placed : Half). pick test (half (keptStores g disk slot) (keepsFate (fateOf state))) placed)
+          ap₂ (λ (test : Bool) (placed : Half). pick test
+          (half (keptStores g disk slot) (keepsFate (fateOf state))) placed)
           (walk-damaged-is (next .number))
           (ap₂ half (currentPath-is g (next .number) slot disk (next .content) f) (placedFate-is later one))
           ∙ by (Model.HiddenTree.isDamaged (Model.HiddenTree.walk (geometryOf g) disk (next .number) .end))
         where
           placing : Model.HiddenHalf.HiddenHalf
           placing =
-              Model.HiddenHalf.half (Model.Paths.currentPath (geometryOf g) disk (next .number) slot (next .content))
+              Model.HiddenHalf.half (Model.Paths.currentPath (geometryOf g) disk (next .number) slot
+              (next .content))
               (Model.HiddenHalf.placedState state later)
 
           by : (isNextDamaged : Bool) →
               pick isNextDamaged (half (keptStores g disk slot) (keepsFate (fateOf state))) (halfOf placing) ≡
               halfOf
               (cond isNextDamaged
-              (Model.HiddenHalf.half (Model.Paths.writtenBack (geometryOf g) disk slot) (Model.HiddenHalf.blockedState state)) placing)
+              (Model.HiddenHalf.half (Model.Paths.writtenBack (geometryOf g) disk slot)
+              (Model.HiddenHalf.blockedState state)) placing)
           by true = kept-half-is
           by false = refl
 
       -- document 03's half by its two tests
       abbrev pickedHalf : (isOwnerDamaged isLive : Bool) → Half
       pickedHalf isOwnerDamaged isLive =
-          pick isOwnerDamaged (half (keptStores g disk slot) (keepsFate (fateOf state))) (pick isLive livingHalf
+          pick isOwnerDamaged (half (keptStores g disk slot) (keepsFate (fateOf state)))
+          (pick isLive livingHalf
           (offerHalf g disk slot random (fateOf state) (waitingOf (state .waiting))))
 
       picked-is :
@@ -159,10 +182,12 @@ module _ (g : Geometry) (f : Model.Geometry.Fits (geometryOf g)) (disk : List �
 
       pub hiddenHalf-is :
           AtMostOne (state .waiting) →
-          hiddenHalf g disk slot random (fateOf state) ≡ halfOf (Model.HiddenHalf.hiddenHalf (geometryOf g) disk slot random state)
+          hiddenHalf g disk slot random (fateOf state) ≡
+          halfOf (Model.HiddenHalf.hiddenHalf (geometryOf g) disk slot random state)
       hiddenHalf-is one =
           ap₂ pickedHalf ownerDamaged-is isLive-is
-          ∙ picked-is (Model.HiddenHalf.isOwnerDamaged (geometryOf g) disk slot) (Model.HiddenHalf.isLive (geometryOf g) disk slot) one
+          ∙ picked-is (Model.HiddenHalf.isOwnerDamaged (geometryOf g) disk slot)
+          (Model.HiddenHalf.isLive (geometryOf g) disk slot) one
           ∙ ap halfOf (sym ruled)
 
       -- at most one still waits
@@ -172,15 +197,18 @@ module _ (g : Geometry) (f : Model.Geometry.Fits (geometryOf g)) (disk : List �
       unfolding Model.HiddenHalf.hiddenBy Model.HiddenHalf.isNextDamaged
       hiddenHalf-one one =
           subst (λ (hidden : Model.HiddenHalf.HiddenHalf). AtMostOne (hidden .state .waiting)) (sym ruled)
-          (by (Model.HiddenHalf.isOwnerDamaged (geometryOf g) disk slot) (Model.HiddenHalf.isLive (geometryOf g) disk slot)
+          (by (Model.HiddenHalf.isOwnerDamaged (geometryOf g) disk slot)
+          (Model.HiddenHalf.isLive (geometryOf g) disk slot)
           (state .waiting) one)
         where
-          by : (isOwnerDamaged isLive : Bool) (waiting : List Model.HiddenHalf.HiddenWrite) → AtMostOne waiting →
+          by : (isOwnerDamaged isLive : Bool) (waiting : List Model.HiddenHalf.HiddenWrite) →
+              AtMostOne waiting →
               AtMostOne (ruledHalf isOwnerDamaged isLive waiting .state .waiting)
           by true isLive waiting k = one
           by false true waiting k = one
           by false false [] k = one
           by false false (next ∷ later) k =
               cond-cases (λ (hidden : Model.HiddenHalf.HiddenHalf). AtMostOne (hidden .state .waiting))
-              (Model.HiddenTree.isDamaged (Model.HiddenTree.walk (geometryOf g) disk (next .number) .end)) (λ e. one)
+              (Model.HiddenTree.isDamaged (Model.HiddenTree.walk (geometryOf g) disk (next .number) .end))
+              (λ e. one)
               (λ e. subst AtMostOne (sym k) tt)

@@ -22,24 +22,29 @@ module _ (g : Geometry) where
   -- the hidden writes that come to the rounds
   pub fresh-is :
       (offer : Option Offer) →
-      fresh (goodOffer g offer) ≡ fateOf (Model.Calls.startState (Model.Calls.offeredWrites (geometryOf g) (offerOf offer)))
+      fresh (goodOffer g offer) ≡ fateOf (Model.Calls.startState
+      (Model.Calls.offeredWrites (geometryOf g) (offerOf offer)))
   unfolding Model.Calls.offeredWrites
   fresh-is none = refl
   fresh-is (some offer) =
-      ap (λ (n : ℕ). fresh (pick (eqb n 0) (some offer) none)) (offerFault-is g (offer .number) (offer .content))
+      ap (λ (n : ℕ). fresh (pick (eqb n 0) (some offer) none))
+      (offerFault-is g (offer .number) (offer .content))
       ∙ by (eqb (Model.Refusals.hiddenWriteRefusal (geometryOf g) (offer .number) (offer .content)) 0)
     where
       by : (isGood : Bool) →
           fresh (pick isGood (some offer) none) ≡
-          fateOf (Model.Calls.startState (cond isGood (record { number = offer .number; content = offer .content } ∷ []) []))
+          fateOf (Model.Calls.startState (cond isGood (record
+          { number = offer .number; content = offer .content } ∷ []) []))
       by true = refl
       by false = refl
 
-  pub offered-one : (offer : Option Offer) → AtMostOne (Model.Calls.offeredWrites (geometryOf g) (offerOf offer))
+  pub offered-one : (offer : Option Offer) → AtMostOne
+      (Model.Calls.offeredWrites (geometryOf g) (offerOf offer))
   unfolding Model.Calls.offeredWrites
   offered-one none = tt
   offered-one (some offer) =
-      cond-cases AtMostOne (eqb (Model.Refusals.hiddenWriteRefusal (geometryOf g) (offer .number) (offer .content)) 0)
+      cond-cases AtMostOne (eqb (Model.Refusals.hiddenWriteRefusal (geometryOf g) (offer .number)
+      (offer .content)) 0)
       (λ e. refl) (λ e. tt)
 
 -- ---- the hidden outcome ----
@@ -73,7 +78,9 @@ outcome-chain false true state = outcome-zero state
 pub outcome-is :
     (g : Geometry) (offer : Option Offer) (state : Model.HiddenHalf.HiddenState) →
     outcomeBy (badOffer g offer) (fateOf state) ≡
-    Model.Calls.outcomeNumber (Model.Calls.outcomeOf (Model.Calls.offerRefusal (geometryOf g) (offerOf offer)) state)
+    Model.Calls.outcomeNumber (Model.Calls.outcomeOf
+    (Model.Calls.offerRefusal (geometryOf g) (offerOf offer)) state)
 unfolding Model.Calls.offerRefusal Model.Refusals.hiddenWriteRefusal Model.Refusals.hiddenChecks Laws.Checks.firstOf
 outcome-is g none state = outcome-zero state
-outcome-is g (some offer) state = outcome-chain (leb (g .hidden) (offer .number)) (eqb (length (offer .content)) (g .size)) state
+outcome-is g (some offer) state =
+    outcome-chain (leb (g .hidden) (offer .number)) (eqb (length (offer .content)) (g .size)) state

@@ -10,7 +10,10 @@ use Rattle.formal_statements.specs.Calls.{publicFault, publicRead, shown
 use Rattle.formal_statements.proofs.Translation.{geometryOf, endOf}
 use Rattle.formal_statements.proofs.Equations.Entries.{pick-is, block-is, geometryIn-is, mapEntry-is}
 use Rattle.formal_statements.proofs.Equations.Walks.{walk-is}
-use Rattle.formal_statements.proofs.Equations.CallRefusals.{fits-of-accepted, publicReadRefusal-refused, hiddenReadRefusal-refused, publicFault-is, hiddenFault-is}
+use Rattle.formal_statements.proofs.Equations.CallRefusals.{fits-of-accepted}
+use Rattle.formal_statements.proofs.Equations.CallRefusals.{publicReadRefusal-refused}
+use Rattle.formal_statements.proofs.Equations.CallRefusals.{hiddenReadRefusal-refused, publicFault-is}
+use Rattle.formal_statements.proofs.Equations.CallRefusals.{hiddenFault-is}
 use Rattle.formal_statements.proofs.Equations.Answers.{answer-is, accepted-of}
 
 module _ (disk : List ℕ) (number : ℕ) (blank : List ℕ) where
@@ -26,16 +29,19 @@ module _ (disk : List ℕ) (number : ℕ) (blank : List ℕ) where
   placed-is f =
       let entry = Model.Layout.mapEntry (geometryOf g) disk number in
       ap (λ (n : ℕ). pick (eqb n 0) blank (block g disk n)) (mapEntry-is g disk number f)
-      ∙ pick-is (eqb entry 0) blank (block g disk entry) ∙ ap (cond (eqb entry 0) blank) (block-is g disk entry)
+      ∙ pick-is (eqb entry 0) blank (block g disk entry)
+      ∙ ap (cond (eqb entry 0) blank) (block-is g disk entry)
       ∙ ap (λ (shape : Model.Geometry.Geometry). cond (eqb (Model.Layout.mapEntry shape disk number) 0) blank
-      (Model.Blocks.blockAt (shape .blockSize) disk (Model.Layout.mapEntry shape disk number))) (geometryIn-is disk)
+      (Model.Blocks.blockAt (shape .blockSize) disk (Model.Layout.mapEntry shape disk number)))
+      (geometryIn-is disk)
 
   pub publicRead-is : publicRead disk number blank ≡ Model.Calls.publicRead disk number blank
   unfolding Model.Calls.publicRead
   publicRead-is =
       answer-is (publicFault disk number blank) (Model.Refusals.publicReadRefusal disk number blank) _ _ []
       (publicFault-is disk number blank)
-      (λ e. placed-is (fits-of-accepted disk (accepted-of disk _ (λ refused. publicReadRefusal-refused disk refused number blank) e)))
+      (λ e. placed-is (fits-of-accepted disk (accepted-of disk _
+      (λ refused. publicReadRefusal-refused disk refused number blank) e)))
 
   shownBy-is :
       (end : Model.HiddenTree.End) →
@@ -52,7 +58,8 @@ module _ (disk : List ℕ) (number : ℕ) (blank : List ℕ) where
   shown-is f =
       ap (λ (walked : Walk). shownBy disk blank (walked .ends)) (walk-is g disk number f)
       ∙ shownBy-is (Model.HiddenTree.walk (geometryOf g) disk number .end)
-      ∙ ap (λ (shape : Model.Geometry.Geometry). Model.Calls.shownAt shape disk blank (Model.HiddenTree.walk shape disk number .end))
+      ∙ ap (λ (shape : Model.Geometry.Geometry). Model.Calls.shownAt shape disk blank
+      (Model.HiddenTree.walk shape disk number .end))
       (geometryIn-is disk)
 
   pub hiddenRead-is : hiddenRead disk number blank ≡ Model.Calls.hiddenRead disk number blank
@@ -60,4 +67,5 @@ module _ (disk : List ℕ) (number : ℕ) (blank : List ℕ) where
   hiddenRead-is =
       answer-is (hiddenFault disk number blank) (Model.Refusals.hiddenReadRefusal disk number blank) _ _ []
       (hiddenFault-is disk number blank)
-      (λ e. shown-is (fits-of-accepted disk (accepted-of disk _ (λ refused. hiddenReadRefusal-refused disk refused number blank) e)))
+      (λ e. shown-is (fits-of-accepted disk (accepted-of disk _
+      (λ refused. hiddenReadRefusal-refused disk refused number blank) e)))

@@ -17,7 +17,8 @@ use Rattle.formal_statements.specs.Calls as Theirs
 use Rattle.formal_statements.proofs.Translation.{geometryOf, offerOf, writtenOf, resultOf}
 use Rattle.formal_statements.proofs.Equations.Entries.{entry-is, geometryIn-is}
 use Rattle.formal_statements.proofs.Equations.Rounds.{roundsFrom-is}
-use Rattle.formal_statements.proofs.Equations.CallRefusals.{fits-of-accepted, writeRefusal-refused, writeFault-is}
+use Rattle.formal_statements.proofs.Equations.CallRefusals.{fits-of-accepted, writeRefusal-refused}
+use Rattle.formal_statements.proofs.Equations.CallRefusals.{writeFault-is}
 use Rattle.formal_statements.proofs.Equations.Outcomes.{fresh-is, offered-one, outcome-is}
 use Rattle.formal_statements.proofs.Equations.Answers.{answer-is, accepted-of}
 
@@ -29,14 +30,17 @@ module _ (disk : List ℕ) (accepted : Model.Refusals.driveRefusal disk ≡ 0) w
 
   pub head-inside : Model.Layout.headIn disk < g .slots
   head-inside =
-      subst (λ (shape : Model.Geometry.Geometry). Model.Layout.headIn disk < shape .slots) (sym (geometryIn-is disk))
+      subst (λ (shape : Model.Geometry.Geometry). Model.Layout.headIn disk < shape .slots)
+      (sym (geometryIn-is disk))
       (accepted-of-refusal disk accepted .head-inside)
 
   pub front-inside : rootBlock g * g .size ≤ length disk
   front-inside =
       let whole : length disk ≡ Model.Geometry.driveSize (geometryOf g) =
-      accepted-of-refusal disk accepted .sized .whole ∙ ap Model.Geometry.driveSize (sym (geometryIn-is disk)) in
-      let root : Model.Geometry.rootAddress (geometryOf g) ≤ Model.Geometry.blockCount (geometryOf g) = omega arith in
+      accepted-of-refusal disk accepted .sized .whole
+      ∙ ap Model.Geometry.driveSize (sym (geometryIn-is disk)) in
+      let root : Model.Geometry.rootAddress (geometryOf g) ≤ Model.Geometry.blockCount (geometryOf g) =
+      omega arith in
       omega (arith, mul-le-mul-right (g .size) root)
 
 module _ (disk : List ℕ) (number : ℕ) (content random : List ℕ) (offer : Option Offer) where
@@ -50,10 +54,13 @@ module _ (disk : List ℕ) (number : ℕ) (content random : List ℕ) (offer : O
   unfolding Model.Calls.writeRun
   writes-is accepted =
       let g : Geometry = geometryIn disk in
-      ap₂ (λ (head : ℕ) (fate : Fate). roundsFrom (g .slots) g number head content random disk fate) (entry-is 5 disk)
+      ap₂ (λ (head : ℕ) (fate : Fate). roundsFrom (g .slots) g number head content random disk fate)
+      (entry-is 5 disk)
       (fresh-is g offer)
-      ∙ roundsFrom-is g (fits-of-accepted disk accepted) number content (g .slots) (Model.Layout.headIn disk) random disk
-      (Model.Calls.startState (Model.Calls.offeredWrites (geometryOf g) (offerOf offer))) (head-inside disk accepted)
+      ∙ roundsFrom-is g (fits-of-accepted disk accepted) number content (g .slots)
+      (Model.Layout.headIn disk) random disk
+      (Model.Calls.startState (Model.Calls.offeredWrites (geometryOf g) (offerOf offer)))
+      (head-inside disk accepted)
       (front-inside disk accepted) (offered-one g offer)
 
   -- our result that is not refused, at a geometry
@@ -63,7 +70,8 @@ module _ (disk : List ℕ) (number : ℕ) (content random : List ℕ) (offer : O
         number = 0;
         rounds = runAt shape .rounds;
         outcome =
-          Model.Calls.outcomeNumber (Model.Calls.outcomeOf (Model.Calls.offerRefusal shape (offerOf offer)) (runAt shape .state));
+            Model.Calls.outcomeNumber (Model.Calls.outcomeOf (Model.Calls.offerRefusal shape (offerOf offer))
+            (runAt shape .state));
         stores = Model.Stores.addresses (runAt shape .trace);
         disk = Model.Stores.apply (shape .blockSize) (runAt shape .trace) disk;
       }
@@ -96,9 +104,11 @@ module _ (disk : List ℕ) (number : ℕ) (content random : List ℕ) (offer : O
       resultOf disk (Model.Calls.written disk number content random room (offerOf offer))
   unfolding Model.Calls.written Model.Stores.apply Model.Stores.addresses
   write-is room =
-      ap (λ (n : ℕ). pick (eqb n 0) done (refusal n disk)) (writeFault-is disk number content (length random) room)
+      ap (λ (n : ℕ). pick (eqb n 0) done (refusal n disk))
+      (writeFault-is disk number content (length random) room)
       ∙ answer-is answer answer done (doneAt (Model.Layout.geometryIn disk)) (refusal answer disk) refl
-      (λ e. done-is (accepted-of disk answer (λ refused. writeRefusal-refused disk refused number content (length random) room) e))
+      (λ e. done-is (accepted-of disk answer (λ refused. writeRefusal-refused disk refused number content
+      (length random) room) e))
       ∙ by (eqb answer 0)
     where
       answer : ℕ

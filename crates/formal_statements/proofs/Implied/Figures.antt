@@ -1,5 +1,5 @@
--- Our starred figures imply document 03's: its drives and writes are ours, and a geometry is allowed or not as formatting
--- answers. Assumes nothing.
+-- Our starred figures imply document 03's: its drives and writes are ours, and a geometry is allowed or not
+-- as formatting answers. Assumes nothing.
 use mathlib.Core.Path.{_≡_, refl, ap, _∙_}
 use mathlib.Core.Bool.{Bool, true, false, cond, not, _||_}
 use mathlib.Core.List.{List}
@@ -27,7 +27,8 @@ use Rattle.formal_statements.proofs.Equations.Formatting.{formatted-is}
 -- ---- geometries ----
 
 allowed : (bytes : ℕ) (g : Geometry) → Ours.formatAnswer bytes (geometryOf g) ≡ 0 → geometryFits g ≡ true
-allowed bytes g e = geometryFits-is g ∙ sized-of-refusal (length {A = ℕ} (replicate bytes 0)) (geometryOf g) e .accepted
+allowed bytes g e =
+    geometryFits-is g ∙ sized-of-refusal (length {A = ℕ} (replicate bytes 0)) (geometryOf g) e .accepted
 
 -- an answer of 1 to a disk that is long enough
 one-chain :
@@ -39,7 +40,8 @@ one-chain false true true short e = absurd (omega arith)
 one-chain false true false short e = absurd (omega arith)
 
 not-allowed :
-    (bytes : ℕ) (g : Geometry) → 24 ≤ bytes → Ours.formatAnswer bytes (geometryOf g) ≡ 1 → geometryFits g ≡ false
+    (bytes : ℕ) (g : Geometry) → 24 ≤ bytes → Ours.formatAnswer bytes (geometryOf g) ≡ 1 →
+    geometryFits g ≡ false
 unfolding Model.Refusals.sizeRefusal Model.Refusals.sizeChecks Laws.Checks.firstOf
 not-allowed bytes g h e =
     let size : length {A = ℕ} (replicate bytes 0) ≡ bytes = length-replicate bytes 0 in
@@ -60,7 +62,8 @@ wrote-is disk number random room offer = write-is disk number (filled 7) (replic
 
 next-is : (disk other : List ℕ) (number : ℕ) → disk ≡ other → next disk number ≡ Ours.diskOf other number
 next-is disk other number e =
-    ap (λ (drive : List ℕ). next drive number) e ∙ ap (λ (result : Result). result .disk) (wrote-is other number 256 23 none)
+    ap (λ (drive : List ℕ). next drive number) e ∙ ap (λ (result : Result). result .disk)
+    (wrote-is other number 256 23 none)
 
 four-is : fourWritten ≡ Ours.fourWritten
 four-is = next-is _ _ 2 (next-is _ _ 2 (next-is _ _ 1 (next-is _ _ 0 fresh-is)))
@@ -68,7 +71,8 @@ four-is = next-is _ _ 2 (next-is _ _ 2 (next-is _ _ 1 (next-is _ _ 0 fresh-is)))
 -- a write on a drive that is ours
 on :
     (disk other : List ℕ) (number random room : ℕ) (offer : Option Offer) → disk ≡ other →
-    wrote disk number random room offer ≡ resultOf other (Ours.writeOf other number random room (offerOf offer))
+    wrote disk number random room offer ≡ resultOf other
+    (Ours.writeOf other number random room (offerOf offer))
 on disk other number random room offer e =
     ap (λ (drive : List ℕ). wrote drive number random room offer) e ∙ wrote-is other number random room offer
 
@@ -80,8 +84,7 @@ figures-implied ours =
     let offered = on fresh Ours.fresh 0 256 23 offerTwo fresh-is in
     let fifth = on fourWritten Ours.fourWritten 2 192 18 none four-is in
     let fewer = on fourWritten Ours.fourWritten 2 191 18 none four-is in
-    let shorter = on fourWritten Ours.fourWritten 2 192 17 none four-is in
-    (
+    let shorter = on fourWritten Ours.fourWritten 2 192 17 none four-is in (
       ours .area-start,
       ours .block-count,
       allowed 5600 _ (ours .hidden-fifty-six),
@@ -97,5 +100,5 @@ figures-implied ours =
       ap (λ (result : Result). result .number) fewer ∙ ours .random-short,
       ap (λ (result : Result). result .number) shorter ∙ ours .list-short,
       ap (λ (disk : List ℕ). publicRead disk 1 (filled 5)) fresh-is ∙ publicRead-is Ours.fresh 1 (filled 5)
-      ∙ ours .blank-shown,
+          ∙ ours .blank-shown,
     )

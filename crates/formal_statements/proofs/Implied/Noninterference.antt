@@ -7,7 +7,8 @@ use lib.ListN.{length, length-replicate}
 use Rattle.model.specs as Model
 use Rattle.model.specs.Promises.Noninterference as Ours
 use Rattle.formal_statements.specs.Disk.{geometryIn, headIn}
-use Rattle.formal_statements.specs.Promise.{Alike, Call, reads, hiddenReads, writesTo, Shape, shapeOf, shapes, Seen, bookOf, Told, told, allToldOf, NothingShows}
+use Rattle.formal_statements.specs.Promise.{Alike, Call, reads, hiddenReads, writesTo, Shape, shapeOf}
+use Rattle.formal_statements.specs.Promise.{shapes, Seen, bookOf, Told, told, allToldOf, NothingShows}
 use Rattle.formal_statements.proofs.Translation.{callOf, callsOf}
 use Rattle.formal_statements.proofs.Equations.Entries.{entry-is}
 use Rattle.formal_statements.proofs.Equations.Refusals.{diskFault-is}
@@ -28,7 +29,8 @@ publicCallsOf-append : (xs ys : List Shape) → publicCallsOf (xs ++ ys) ≡ pub
 unfolding publicCallsOf
 publicCallsOf-append [] ys = refl
 publicCallsOf-append (x ∷ xs) ys =
-    ap {B = List Model.Runs.PublicCall} (λ (rest : List Model.Runs.PublicCall). publicCallOf x ∷ rest) (publicCallsOf-append xs ys)
+    ap {B = List Model.Runs.PublicCall} (λ (rest : List Model.Runs.PublicCall). publicCallOf x ∷ rest)
+    (publicCallsOf-append xs ys)
 
 shapeOf-is : (call : Call) → publicCallsOf (shapeOf call) ≡ Model.Runs.publicPart (callOf call)
 unfolding publicCallsOf
@@ -48,11 +50,13 @@ shapes-is (call ∷ calls) =
 
 -- ---- what is told of what is seen ----
 
-allToldOf-is : (all : List Model.Runs.Seen) → allToldOf (seensOf all) ≡ toldsOf (Model.Simulator.reportsOf all)
+allToldOf-is : (all : List Model.Runs.Seen) → allToldOf (seensOf all) ≡
+    toldsOf (Model.Simulator.reportsOf all)
 unfolding seensOf allToldOf toldsOf Model.Simulator.reportsOf
 allToldOf-is [] = refl
 allToldOf-is (here ∷ later) =
-    ap {B = List Told} (λ (rest : List Told). toldOf (Model.Simulator.reportOf here) ∷ rest) (allToldOf-is later)
+    ap {B = List Told} (λ (rest : List Told). toldOf (Model.Simulator.reportOf here) ∷ rest)
+    (allToldOf-is later)
 
 -- ---- drives that are alike ----
 
@@ -66,13 +70,12 @@ alike-of disk other alike =
     }
 
 alike-from : (disk other : List ℕ) → Model.View.Alike disk other → Alike disk other
-alike-from disk other alike =
-    (
-      alike .same-length,
-      diskFault-is disk ∙ alike .accepted,
-      diskFault-is other ∙ alike .other-accepted,
-      viewOf-is disk ∙ alike .same-view ∙ sym (viewOf-is other),
-    )
+alike-from disk other alike = (
+  alike .same-length,
+  diskFault-is disk ∙ alike .accepted,
+  diskFault-is other ∙ alike .other-accepted,
+  viewOf-is disk ∙ alike .same-view ∙ sym (viewOf-is other),
+)
 
 -- document 03's NothingShows
 pub noninterference-implied : Ours.Noninterference → NothingShows
@@ -82,15 +85,16 @@ noninterference-implied promise disk other calls others bytes otherBytes alike f
     sym (shapes-is calls) ∙ ap publicCallsOf same ∙ shapes-is others in
     let ours = promise disk other (callsOf calls) (callsOf others) (alike-of disk other alike) parts in
     let inside : headIn disk < geometryIn disk .slots =
-    subst (λ (n : ℕ). n < geometryIn disk .slots) (sym (entry-is 5 disk)) (head-inside disk good) in
-    (
+    subst (λ (n : ℕ). n < geometryIn disk .slots) (sym (entry-is 5 disk)) (head-inside disk good) in (
       seen-is disk calls ∙ ap seensOf (ours .same-seen) ∙ sym (seen-is other others),
       ap allToldOf (seen-is disk calls) ∙ allToldOf-is (Model.Runs.seenOfAll disk (callsOf calls))
-      ∙ ap toldsOf (ours .here .by-simulator)
-      ∙ ap₂ (λ (sim : Model.Simulator.Simulator) (public : List Model.Runs.PublicCall).
-      toldsOf (Model.Simulator.told sim (Model.Simulator.lengthsOfAll public))) (sym (bookOf-is disk good)) (sym (shapes-is calls))
-      ∙ sym (told-is (bookOf disk) (shapes calls) inside),
+          ∙ ap toldsOf (ours .here .by-simulator)
+          ∙ ap₂ (λ (sim : Model.Simulator.Simulator) (public : List Model.Runs.PublicCall).
+          toldsOf (Model.Simulator.told sim (Model.Simulator.lengthsOfAll public))) (sym (bookOf-is disk good))
+          (sym (shapes-is calls))
+          ∙ sym (told-is (bookOf disk) (shapes calls) inside),
       rw (diskAfter-is disk calls, diskAfter-is other others) (
-        alike-from (Model.Runs.diskAfterAll disk (callsOf calls)) (Model.Runs.diskAfterAll other (callsOf others)) (ours .alike-after)
-      ),
+          alike-from (Model.Runs.diskAfterAll disk (callsOf calls))
+          (Model.Runs.diskAfterAll other (callsOf others)) (ours .alike-after)
+          ),
     )

@@ -7,7 +7,8 @@ use lib.ListN.{length}
 use Rattle.model.specs as Model
 use Rattle.model.specs.Promises.ReadAfterWrite as Ours
 use Rattle.formal_statements.specs.Disk.{Geometry}
-use Rattle.formal_statements.specs.Calls.{diskFault, formatted, formatFault, publicFault, publicRead, hiddenFault, hiddenRead}
+use Rattle.formal_statements.specs.Calls.{diskFault, formatted, formatFault, publicFault, publicRead}
+use Rattle.formal_statements.specs.Calls.{hiddenFault, hiddenRead}
 use Rattle.formal_statements.specs.Promise.{Call, diskAfter, lastPublic, lastHidden, orBlank, ReadsBack}
 use Rattle.formal_statements.proofs.Translation.{geometryOf, callsOf}
 use Rattle.formal_statements.proofs.Equations.Refusals.{diskFault-is, formatFault-is}
@@ -63,41 +64,44 @@ module _ (promise : Ours.ReadAfterWrite) where
       public-back :
           number < g .publics →
           (publicFault (diskAfter (formatted disk g) calls) number blank ≡ 0) ×
-          (publicRead (diskAfter (formatted disk g) calls) number blank ≡ orBlank (lastPublic (formatted disk g) number none calls) blank)
+          (publicRead (diskAfter (formatted disk g) calls) number blank ≡
+          orBlank (lastPublic (formatted disk g) number none calls) blank)
       public-back h =
-          let last = Ours.lastPublic number none fresh (callsOf calls) in
-          (
-            ap (λ (drive : List ℕ). publicFault drive number blank) after-is ∙ publicFault-is after number blank
-            ∙ back .readable .public-answer number blank h sized,
+          let last = Ours.lastPublic number none fresh (callsOf calls) in (
+            ap (λ (drive : List ℕ). publicFault drive number blank) after-is
+                ∙ publicFault-is after number blank
+                ∙ back .readable .public-answer number blank h sized,
             ap (λ (drive : List ℕ). publicRead drive number blank) after-is ∙ publicRead-is after number blank
-            ∙ back .public-shown number blank h sized
-            ∙ ap (Ours.orElse last)
-            (promise .fresh-public disk (geometryOf g) number blank accepted-format h sized)
-            ∙ orElse-is last blank ∙ ap (λ (content : Option (List ℕ)). orBlank content blank) (sym (public-last-is number)),
+                ∙ back .public-shown number blank h sized
+                ∙ ap (Ours.orElse last)
+                (promise .fresh-public disk (geometryOf g) number blank accepted-format h sized)
+                ∙ orElse-is last blank ∙ ap (λ (content : Option (List ℕ)). orBlank content blank)
+                (sym (public-last-is number)),
           )
 
       hidden-back :
           number < g .hidden →
           (hiddenFault (diskAfter (formatted disk g) calls) number blank ≡ 0) ×
-          (hiddenRead (diskAfter (formatted disk g) calls) number blank ≡ orBlank (lastHidden (formatted disk g) number none calls) blank)
+          (hiddenRead (diskAfter (formatted disk g) calls) number blank ≡
+          orBlank (lastHidden (formatted disk g) number none calls) blank)
       hidden-back h =
-          let last = Ours.lastHidden number none fresh (callsOf calls) in
-          (
-            ap (λ (drive : List ℕ). hiddenFault drive number blank) after-is ∙ hiddenFault-is after number blank
-            ∙ back .readable .hidden-answer number blank h sized,
+          let last = Ours.lastHidden number none fresh (callsOf calls) in (
+            ap (λ (drive : List ℕ). hiddenFault drive number blank) after-is
+                ∙ hiddenFault-is after number blank
+                ∙ back .readable .hidden-answer number blank h sized,
             ap (λ (drive : List ℕ). hiddenRead drive number blank) after-is ∙ hiddenRead-is after number blank
-            ∙ back .hidden-shown number blank h sized
-            ∙ ap (Ours.orElse last)
-            (promise .fresh-hidden disk (geometryOf g) number blank accepted-format h sized)
-            ∙ orElse-is last blank ∙ ap (λ (content : Option (List ℕ)). orBlank content blank) (sym (hidden-last-is number)),
+                ∙ back .hidden-shown number blank h sized
+                ∙ ap (Ours.orElse last)
+                (promise .fresh-hidden disk (geometryOf g) number blank accepted-format h sized)
+                ∙ orElse-is last blank ∙ ap (λ (content : Option (List ℕ)). orBlank content blank)
+                (sym (hidden-last-is number)),
           )
 
 -- document 03's ReadsBack
 pub read-after-write-implied : Ours.ReadAfterWrite → ReadsBack
-read-after-write-implied promise disk blank g calls number bytes blankBytes good fit =
-    (
-      ap diskFault (after-is promise disk g calls good) ∙ diskFault-is (after promise disk g calls good)
+read-after-write-implied promise disk blank g calls number bytes blankBytes good fit = (
+  ap diskFault (after-is promise disk g calls good) ∙ diskFault-is (after promise disk g calls good)
       ∙ accepted-after promise disk g calls good,
-      (λ h sized. public-back promise disk g calls good number blank sized h),
-      (λ h sized. hidden-back promise disk g calls good number blank sized h),
-    )
+  (λ h sized. public-back promise disk g calls good number blank sized h),
+  (λ h sized. hidden-back promise disk g calls good number blank sized h),
+)

@@ -15,7 +15,7 @@ use Rattle.formal_statements.specs.Promise.{Shape, Book, entryAt, readAn
 use Rattle.formal_statements.specs.Promise.{bookStores, writeAnswer, lastSlot, bookWritten, Told}
 use Rattle.formal_statements.specs.Promise.{toldBy, bookAfter, told}
 use Rattle.formal_statements.proofs.Translation.{geometryOf}
-use Rattle.formal_statements.proofs.Equations.Entries.{pick-is}
+use Rattle.formal_statements.proofs.Equations.Congruence.{pick-is, cons-same}
 use Rattle.formal_statements.proofs.Equations.Books.{simulatorFor, publicCallsOf, toldOf, toldsOf}
 use Rattle.formal_statements.proofs.Equations.Books.{lengths, bookRounds-is, storesFor-is}
 use Rattle.formal_statements.proofs.Equations.Books.{readAnswer-is, writeAnswer-is, rounds-positive}
@@ -131,7 +131,7 @@ pub told-is :
 unfolding told toldsOf publicCallsOf Model.Simulator.told Model.Simulator.lengthsOfAll
 told-is book [] inside = refl
 told-is book (call ∷ calls) inside =
-    ap₂ {C = List Told} (λ (here : Told) (later : List Told). here ∷ later) (toldBy-is book inside call)
+    cons-same (toldBy-is book inside call)
     (told-is (bookAfter book call) calls (bookAfter-inside book inside call)
     ∙ ap (λ (after : Model.Simulator.Simulator).
     toldsOf (Model.Simulator.told after (Model.Simulator.lengthsOfAll (publicCallsOf calls))))

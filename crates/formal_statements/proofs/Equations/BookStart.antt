@@ -2,7 +2,7 @@
 -- bitmap stand at the view's front as they do on the disk. Assumes nothing.
 use mathlib.Core.Path.{_≡_, refl, sym, ap, ap₂, _∙_}
 use mathlib.Core.Bool.{Bool}
-use mathlib.Core.List.{List, _∷_, _++_}
+use mathlib.Core.List.{List, _++_}
 use Prim.Native.Nat.{ℕ, zero, suc, _+_, _*_, _≤_, _<_}
 use native.Mathlib.Nat.{mul-le-mul-right}
 use native.Mathlib.Omega.{arith}
@@ -17,6 +17,7 @@ use Rattle.model.proofs.Laws.PublicMap.{mapEntry-block}
 use Rattle.formal_statements.specs.Disk.{Geometry, geometryIn, headIn, rootBlock}
 use Rattle.formal_statements.specs.Promise.{entriesOf, marksOf, bookOf, publicBlocks, viewOf}
 use Rattle.formal_statements.proofs.Translation.{geometryOf}
+use Rattle.formal_statements.proofs.Equations.Congruence.{cons-same}
 use Rattle.formal_statements.proofs.Equations.Entries.{entry-is, geometryIn-is, mapEntry-is}
 use Rattle.formal_statements.proofs.Equations.Marks.{isMarked-is}
 use Rattle.formal_statements.proofs.Equations.CallRefusals.{fits-of-accepted}
@@ -65,7 +66,7 @@ module _ (g : Geometry) (f : Model.Geometry.Fits (geometryOf g)) (disk rest : Li
       let inside : number < g .publics = omega arith in
       let low : Model.Layout.mapAddress (geometryOf g) number < rootBlock g =
       omega (arith, mapAddress-lt (geometryOf g) f number inside) in
-      ap₂ {C = List ℕ} (λ (entry : ℕ) (later : List ℕ). entry ∷ later)
+      cons-same
       (mapEntry-is g disk number f
       ∙ mapEntry-block (geometryOf g) disk front number
       (sym (blockAt-front (Model.Layout.mapAddress (geometryOf g) number) low)))
@@ -78,7 +79,7 @@ module _ (g : Geometry) (f : Model.Geometry.Fits (geometryOf g)) (disk rest : Li
   marksOf-is slot zero h = refl
   marksOf-is slot (suc count) h =
       let inside : slot < g .slots = omega arith in
-      ap₂ {C = List Bool} (λ (mark : Bool) (later : List Bool). mark ∷ later)
+      cons-same
       (isMarked-is g f slot disk
       ∙ isAllocated-block (geometryOf g) disk front slot
       (sym (blockAt-front (Model.Layout.bitAddress (geometryOf g) slot)

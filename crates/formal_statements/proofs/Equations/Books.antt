@@ -19,6 +19,7 @@ use Rattle.formal_statements.specs.Promise.{Shape, Book, markAt, entryAt
 use Rattle.formal_statements.specs.Promise.{bookRounds, slotRun, slotStores, lastOnes, bookStores}
 use Rattle.formal_statements.specs.Promise.{writeAnswer, Told}
 use Rattle.formal_statements.proofs.Translation.{geometryOf}
+use Rattle.formal_statements.proofs.Equations.Congruence.{cons-same}
 use Rattle.formal_statements.proofs.Equations.Chains.{place-chain, write-chain}
 
 -- ---- translation ----
@@ -108,7 +109,7 @@ module _ (book : Book) where
   unfolding slotRun Model.Simulator.addressesFrom
   slotRun-is address zero = refl
   slotRun-is address (suc count) =
-      ap {B = List ℕ} (λ (rest : List ℕ). address ∷ rest) (slotRun-is (suc address) count)
+      cons-same refl (slotRun-is (suc address) count)
 
   slotStores-is : (slot : ℕ) → slotStores g slot ≡ Model.Simulator.slotAddresses (geometryOf g) slot
   slotStores-is slot =

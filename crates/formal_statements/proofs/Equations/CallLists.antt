@@ -19,7 +19,7 @@ use Rattle.formal_statements.specs.Promise.{Call, reads, hiddenReads, wr
 use Rattle.formal_statements.specs.Promise.{Seen, seenBy, seen, viewOf, publicBy, hiddenBy, offeredTo}
 use Rattle.formal_statements.specs.Promise.{lastPublic, lastHidden}
 use Rattle.formal_statements.proofs.Translation.{offerOf, callOf, callsOf, resultOf}
-use Rattle.formal_statements.proofs.Equations.Entries.{pick-is}
+use Rattle.formal_statements.proofs.Equations.Congruence.{pick-is, cons-same}
 use Rattle.formal_statements.proofs.Equations.CallRefusals.{publicFault-is}
 use Rattle.formal_statements.proofs.Equations.ReadCalls.{publicRead-is}
 use Rattle.formal_statements.proofs.Equations.WriteCalls.{write-is}
@@ -49,7 +49,7 @@ seensOf-nil = refl
 seensOf-append : (xs ys : List Model.Runs.Seen) → seensOf (xs ++ ys) ≡ seensOf xs ++ seensOf ys
 unfolding seensOf
 seensOf-append [] ys = refl
-seensOf-append (x ∷ xs) ys = ap {B = List Seen} (λ (rest : List Seen). seenOf x ∷ rest) (seensOf-append xs ys)
+seensOf-append (x ∷ xs) ys = cons-same refl (seensOf-append xs ys)
 
 -- ---- one call ----
 

@@ -1,11 +1,10 @@
 -- The calls' refusals of document 03, nested choices, are ours, chains of checks: on a drive that refusals 1
 -- to 3 do not meet, on one that is refused, and so on every disk. Assumes nothing.
-use mathlib.Core.Path.{_≡_, refl, sym, ap, ap₂, _∙_, subst}
+use mathlib.Core.Path.{_≡_, sym, ap, ap₂, _∙_, subst}
 use mathlib.Core.Logic.{_≢_, ⊎-elim}
 use mathlib.Core.Bool.{Bool, cond, not, _&&_, _||_}
 use mathlib.Core.List.{List, _++_}
-use Prim.Native.Nat.{ℕ, zero, suc, _+_, _*_, _%_}
-use native.Mathlib.Omega.{arith}
+use Prim.Native.Nat.{ℕ, _+_, _*_}
 use lib.Dec.{ltb, leb, eqb}
 use lib.ListN.{length}
 use borrow.Author.Tests.{ne-eqb}
@@ -18,12 +17,14 @@ use Rattle.formal_statements.specs.Disk.{isPublicBlock, slotOf, Walk, wa
 use Rattle.formal_statements.specs.Calls.{diskFault, isPlaced, publicFault, roundsTo, writeFault}
 use Rattle.formal_statements.specs.Calls.{offerFault, endFault, hiddenFault}
 use Rattle.formal_statements.proofs.Translation.{geometryOf}
-use Rattle.formal_statements.proofs.Equations.Entries.{pick-is, entry-is, geometryIn-is, mapEntry-is}
+use Rattle.formal_statements.proofs.Equations.Congruence.{pick-is}
+use Rattle.formal_statements.proofs.Equations.Entries.{entry-is, geometryIn-is, mapEntry-is}
 use Rattle.formal_statements.proofs.Equations.Marks.{isMarked-is}
 use Rattle.formal_statements.proofs.Equations.Walks.{walk-is}
 use Rattle.formal_statements.proofs.Equations.Chains.{place-chain, write-chain, offer-chain}
 use Rattle.formal_statements.proofs.Equations.Chains.{hidden-chain}
 use Rattle.formal_statements.proofs.Equations.Refusals.{diskFault-is}
+use Rattle.formal_statements.proofs.Equations.RoundCount.{roundsTo-is}
 
 -- ---- 10 and 11 ----
 
@@ -33,34 +34,9 @@ pub offerFault-is :
 unfolding Model.Refusals.hiddenWriteRefusal Model.Refusals.hiddenChecks Laws.Checks.firstOf
 offerFault-is g number content = offer-chain (leb (g .hidden) number) (eqb (length content) (g .size))
 
--- ---- rounds ----
+-- ---- public calls ----
 
 module _ (g : Geometry) (f : Model.Geometry.Fits (geometryOf g)) (disk : List ℕ) where
-  roundsTo-is :
-      (most slot : ℕ) →
-      roundsTo most g disk slot ≡ Model.Refusals.roundsTo most (Model.Layout.isAllocated (geometryOf g) disk)
-      (geometryOf g) slot
-  unfolding roundsTo Model.Refusals.roundsTo
-  roundsTo-is zero slot = refl
-  roundsTo-is (suc most) slot =
-      ap₂ (λ (test : Bool) (rounds : ℕ). pick test (pick (eqb rounds 0) 0 (suc rounds)) 1)
-      (isMarked-is g f slot disk)
-      (roundsTo-is most ((slot + 1) % g .slots))
-      ∙ ap (λ (n : ℕ). pick (Model.Layout.isAllocated (geometryOf g) disk slot) n 1) (more rest)
-      ∙ pick-is (Model.Layout.isAllocated (geometryOf g) disk slot) (Model.Refusals.oneMore rest) 1
-    where
-      rest : ℕ
-      rest =
-          Model.Refusals.roundsTo most (Model.Layout.isAllocated (geometryOf g) disk) (geometryOf g)
-          (Model.Layout.nextSlot (geometryOf g) slot)
-
-      more : (rounds : ℕ) → pick (eqb rounds 0) 0 (suc rounds) ≡ Model.Refusals.oneMore rounds
-      more zero = refl
-      more (suc rounds) =
-          ap (λ (test : Bool). pick test 0 (suc (suc rounds))) (ne-eqb (suc rounds) 0 (λ z. omega arith))
-
-  -- ---- public calls ----
-
   -- 4 to 6, once the drive is accepted
   abbrev placeFault : (number size : ℕ) → ℕ
   placeFault number size =
@@ -113,7 +89,7 @@ module _ (g : Geometry) (f : Model.Geometry.Fits (geometryOf g)) (disk : List �
       let unfit = not (eqb size (g .size)) in
       let good = eqb entry 0 || Model.Layout.isPlace (geometryOf g) disk entry in
       let count : roundsTo (g .slots) g disk (headIn disk) ≡ rounds =
-      ap (roundsTo (g .slots) g disk) (entry-is 5 disk) ∙ roundsTo-is (g .slots) (Model.Layout.headIn disk) in
+      ap (roundsTo (g .slots) g disk) (entry-is 5 disk) ∙ roundsTo-is g f disk (g .slots) (Model.Layout.headIn disk) in
       ap₂ (λ (test : Bool) (later : ℕ).
       pick (not (eqb (pick (leb (g .publics) number) 4 (pick unfit 5 (pick test 0 6))) 0))
       (pick (leb (g .publics) number) 4 (pick unfit 5 (pick test 0 6))) later)

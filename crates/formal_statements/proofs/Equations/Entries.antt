@@ -1,23 +1,17 @@
 -- Bytes, entries, blocks and map entries of document 03 are ours. Assumes nothing.
 use mathlib.Core.Path.{_≡_, refl, sym, ap, _∙_}
-use mathlib.Core.Bool.{Bool, true, false, cond}
 use mathlib.Core.List.{List, [], _∷_}
-use Prim.Native.Nat.{ℕ, zero, suc, _+_, _*_, _/_, _%_}
+use Prim.Native.Nat.{ℕ, zero, suc, _+_, _*_, _/_}
 use native.Mathlib.Omega.{arith}
 use lib.ListN.{drop, take}
 use lib.Seq.{drop-drop}
 use Rattle.laws.specs as Laws
 use Rattle.model.specs as Model
 use Rattle.model.proofs.Laws.PublicMap.{mapEntry-bytes}
-use Rattle.formal_statements.specs.Disk.{pick, numberOf, little, entry, withEntry, Geometry, block}
+use Rattle.formal_statements.specs.Disk.{numberOf, little, entry, withEntry, Geometry, block}
 use Rattle.formal_statements.specs.Disk.{stored, mapEntry, geometryIn}
 use Rattle.formal_statements.proofs.Translation.{geometryOf}
-
--- ---- choices ----
-
-pub pick-is : {A : Type 0} (test : Bool) (here there : A) → pick test here there ≡ cond test here there
-pick-is true here there = refl
-pick-is false here there = refl
+use Rattle.formal_statements.proofs.Equations.Congruence.{cons-same}
 
 -- ---- bytes ----
 
@@ -30,7 +24,7 @@ pub little-is : (size value : ℕ) → little size value ≡ Laws.Numbers.little
 unfolding little Laws.Numbers.littleEndian
 little-is zero value = refl
 little-is (suc size) value =
-    ap {B = List ℕ} (λ (bytes : List ℕ). value % 256 ∷ bytes) (little-is size (value / 256))
+    cons-same refl (little-is size (value / 256))
 
 -- ---- entries and blocks ----
 

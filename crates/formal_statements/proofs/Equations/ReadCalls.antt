@@ -8,7 +8,8 @@ use Rattle.model.specs as Model
 use Rattle.formal_statements.specs.Disk.{pick, Geometry, geometryIn, block, mapEntry, Walk, walk}
 use Rattle.formal_statements.specs.Calls.{publicFault, publicRead, shownBy, hiddenFault, hiddenRead}
 use Rattle.formal_statements.proofs.Translation.{geometryOf, endOf}
-use Rattle.formal_statements.proofs.Equations.Entries.{pick-is, block-is, geometryIn-is, mapEntry-is}
+use Rattle.formal_statements.proofs.Equations.Congruence.{pick-is}
+use Rattle.formal_statements.proofs.Equations.Entries.{block-is, geometryIn-is, mapEntry-is}
 use Rattle.formal_statements.proofs.Equations.Walks.{walk-is}
 use Rattle.formal_statements.proofs.Equations.CallRefusals.{fits-of-accepted}
 use Rattle.formal_statements.proofs.Equations.CallRefusals.{publicReadRefusal-refused}

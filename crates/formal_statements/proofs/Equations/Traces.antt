@@ -5,7 +5,7 @@ use mathlib.Core.Bool.{Bool}
 use mathlib.Core.List.{List, [], _∷_, _++_}
 use Prim.Native.Nat.{ℕ, zero, suc, _+_, _-_, _<_}
 use native.Mathlib.Omega.{arith}
-use lib.ListN.{length, take, drop}
+use lib.ListN.{length, drop}
 use borrow.Author.Tests.{ne-eqb}
 use Rattle.model.specs as Model
 use Rattle.formal_statements.specs.Disk.{pick, withEntry, Geometry, fan, rootBlock, block, stored}
@@ -13,6 +13,7 @@ use Rattle.formal_statements.specs.Disk.{slotStart, branchAt, walk}
 use Rattle.formal_statements.specs.Rounds.{Store, store, apply, addresses, nodeWith, nodeStores}
 use Rattle.formal_statements.specs.Rounds.{pathStores, copied, keptStores, randomStores, dummyStores}
 use Rattle.formal_statements.proofs.Translation.{geometryOf, storesOf}
+use Rattle.formal_statements.proofs.Equations.Congruence.{cons-same}
 use Rattle.formal_statements.proofs.Equations.Entries.{withEntry-is, block-is, stored-is}
 use Rattle.formal_statements.proofs.Equations.Walks.{branchAt-is, walk-is, length-walk}
 
@@ -22,13 +23,12 @@ pub storesOf-append : (xs ys : Model.Stores.Trace) → storesOf (xs ++ ys) ≡ s
 unfolding storesOf
 storesOf-append [] ys = refl
 storesOf-append (x ∷ xs) ys =
-    ap {B = List Store} (λ (rest : List Store). store (x .address) (x .content) ∷ rest)
-    (storesOf-append xs ys)
+    cons-same refl (storesOf-append xs ys)
 
 pub addresses-is : (xs : Model.Stores.Trace) → addresses (storesOf xs) ≡ Model.Stores.addresses xs
 unfolding storesOf addresses Model.Stores.addresses
 addresses-is [] = refl
-addresses-is (x ∷ xs) = ap {B = List ℕ} (λ (rest : List ℕ). x .address ∷ rest) (addresses-is xs)
+addresses-is (x ∷ xs) = cons-same refl (addresses-is xs)
 
 module _ (g : Geometry) where
   pub apply-is : (xs : Model.Stores.Trace) (disk : List ℕ) →
@@ -47,9 +47,7 @@ module _ (g : Geometry) where
   unfolding copied storesOf Model.Paths.keptBlocks
   copied-is disk address zero = refl
   copied-is disk address (suc count) =
-      ap₂ {C = List Store} (λ (content : List ℕ) (rest : List Store). store address content ∷ rest)
-      (block-is g disk address)
-      (copied-is disk (suc address) count)
+      cons-same (ap (store address) (block-is g disk address)) (copied-is disk (suc address) count)
 
   randomStores-is :
       (address count : ℕ) (random : List ℕ) →
@@ -58,8 +56,7 @@ module _ (g : Geometry) where
   unfolding randomStores storesOf Model.Paths.randomBlocks
   randomStores-is address zero random = refl
   randomStores-is address (suc count) random =
-      ap {B = List Store} (λ (rest : List Store). store address (take (g .size) random) ∷ rest)
-      (randomStores-is (suc address) count (drop (g .size) random))
+      cons-same refl (randomStores-is (suc address) count (drop (g .size) random))
 
   -- hidden blocks, then the root written back
   with-root :

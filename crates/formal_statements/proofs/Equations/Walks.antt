@@ -15,6 +15,7 @@ use Rattle.formal_statements.specs.Disk.{zeros, levelPlace, isWellFormed
 use Rattle.formal_statements.specs.Disk.{unmapped, damaged, Walk, passing, emptyNodes, endsWalk}
 use Rattle.formal_statements.specs.Disk.{walkFrom, walk}
 use Rattle.formal_statements.proofs.Translation.{geometryOf, walkOf}
+use Rattle.formal_statements.proofs.Equations.Congruence.{cons-same}
 use Rattle.formal_statements.proofs.Equations.Entries.{entry-is, block-is}
 
 module _ (g : Geometry) where
@@ -50,7 +51,7 @@ module _ (g : Geometry) where
   unfolding emptyNodes
   emptyNodes-is zero = refl
   emptyNodes-is (suc level) =
-      ap {B = List (List ℕ)} (λ (nodes : List (List ℕ)). zeros g ∷ nodes) (emptyNodes-is level)
+      cons-same refl (emptyNodes-is level)
 
   step-zero :
       (node : List ℕ) (reached : ℕ) (isZero isGood : Bool) (rest : Walk) →

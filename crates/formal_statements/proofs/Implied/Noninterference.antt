@@ -8,14 +8,15 @@ use Rattle.model.specs as Model
 use Rattle.model.specs.Promises.Noninterference as Ours
 use Rattle.formal_statements.specs.Disk.{geometryIn, headIn}
 use Rattle.formal_statements.specs.Promise.{Alike, Call, reads, hiddenReads, writesTo, Shape, shapeOf}
-use Rattle.formal_statements.specs.Promise.{shapes, Seen, bookOf, Told, told, allToldOf, NothingShows}
+use Rattle.formal_statements.specs.Promise.{shapes, Seen, bookOf, told, allToldOf, NothingShows}
 use Rattle.formal_statements.proofs.Translation.{callOf, callsOf}
+use Rattle.formal_statements.proofs.Equations.Congruence.{cons-same}
 use Rattle.formal_statements.proofs.Equations.Entries.{entry-is}
 use Rattle.formal_statements.proofs.Equations.Refusals.{diskFault-is}
 use Rattle.formal_statements.proofs.Equations.WriteCalls.{head-inside}
 use Rattle.formal_statements.proofs.Equations.Views.{viewOf-is}
 use Rattle.formal_statements.proofs.Equations.CallLists.{seensOf, diskAfter-is, seen-is}
-use Rattle.formal_statements.proofs.Equations.Books.{publicCallOf, publicCallsOf, toldOf, toldsOf}
+use Rattle.formal_statements.proofs.Equations.Books.{publicCallsOf, toldsOf}
 use Rattle.formal_statements.proofs.Equations.BookCalls.{told-is}
 use Rattle.formal_statements.proofs.Equations.BookStart.{bookOf-is}
 
@@ -29,8 +30,7 @@ publicCallsOf-append : (xs ys : List Shape) → publicCallsOf (xs ++ ys) ≡ pub
 unfolding publicCallsOf
 publicCallsOf-append [] ys = refl
 publicCallsOf-append (x ∷ xs) ys =
-    ap {B = List Model.Runs.PublicCall} (λ (rest : List Model.Runs.PublicCall). publicCallOf x ∷ rest)
-    (publicCallsOf-append xs ys)
+    cons-same refl (publicCallsOf-append xs ys)
 
 shapeOf-is : (call : Call) → publicCallsOf (shapeOf call) ≡ Model.Runs.publicPart (callOf call)
 unfolding publicCallsOf
@@ -55,8 +55,7 @@ allToldOf-is : (all : List Model.Runs.Seen) → allToldOf (seensOf all) ≡
 unfolding seensOf allToldOf toldsOf Model.Simulator.reportsOf
 allToldOf-is [] = refl
 allToldOf-is (here ∷ later) =
-    ap {B = List Told} (λ (rest : List Told). toldOf (Model.Simulator.reportOf here) ∷ rest)
-    (allToldOf-is later)
+    cons-same refl (allToldOf-is later)
 
 -- ---- drives that are alike ----
 

@@ -1,5 +1,6 @@
--- Document 03's data in our terms: geometries, hidden writes and calls; and what our write gives in its
--- terms. A call with room for so many entries becomes one with a lent list of so many zeros. Assumes nothing.
+-- Document 03's data in our terms: geometries, hidden writes, calls and books; and our results in its terms:
+-- walks, stores, runs, writes, and what is seen and told. A call with room for so many entries becomes one
+-- with a lent list of so many zeros. Assumes nothing.
 use mathlib.Core.Bool.{not}
 use mathlib.Core.List.{List, [], _∷_}
 use mathlib.Core.Option.{Option, none, some}
@@ -10,7 +11,7 @@ use Rattle.model.specs as Model
 use Rattle.formal_statements.specs.Disk.{Geometry, End, found, unmapped, damaged, Walk}
 use Rattle.formal_statements.specs.Rounds.{Offer, Fate, Store, store, Half, half, Written, written}
 use Rattle.formal_statements.specs.Calls.{Result}
-use Rattle.formal_statements.specs.Promise.{Call, reads, hiddenReads, writesTo}
+use Rattle.formal_statements.specs.Promise.{Call, reads, hiddenReads, writesTo, Shape, Book, Seen, Told}
 
 -- ---- document 03's data in our terms ----
 
@@ -21,8 +22,7 @@ geometryOf g =
       height = g .height;
       publics = g .publics;
       hidden = g .hidden;
-      slots =
-          g .slots;
+      slots = g .slots;
     }
 
 abbrev pub hiddenWriteOf : Offer → Model.HiddenHalf.HiddenWrite
@@ -41,6 +41,31 @@ callOf (writesTo number content random room offer) =
 unfoldable pub callsOf : List Call → List Model.Runs.Call
 callsOf [] = []
 callsOf (call ∷ calls) = callOf call ∷ callsOf calls
+
+-- the public part of a call
+abbrev pub publicCallOf : Shape → Model.Runs.PublicCall
+publicCallOf call =
+    record {
+      isWrite = call .isWrite;
+      number = call .number;
+      content = call .content;
+      random = call .random;
+      room = call .room;
+    }
+
+unfoldable pub publicCallsOf : List Shape → List Model.Runs.PublicCall
+publicCallsOf [] = []
+publicCallsOf (call ∷ calls) = publicCallOf call ∷ publicCallsOf calls
+
+-- a book, but for the disk's length
+abbrev pub simulatorFor : Book → Model.Simulator.Simulator
+simulatorFor book =
+    record {
+      geometry = geometryOf (book .geometry);
+      head = book .head;
+      entries = book .entries;
+      allocated = book .marks;
+    }
 
 -- ---- our results in document 03's terms ----
 
@@ -66,8 +91,7 @@ fateOf state =
     record {
       waiting = waitingOf (state .waiting);
       isPlaced = not (eqb (state .placed) 0);
-      wasKept =
-          state .metDamage;
+      wasKept = state .metDamage;
     }
 
 abbrev pub halfOf : Model.HiddenHalf.HiddenHalf → Half
@@ -89,3 +113,26 @@ resultOf disk result =
       stores = Model.Stores.addresses (result .trace);
       disk = Model.Calls.writtenDisk result disk;
     }
+
+-- ---- what is seen and told, in document 03's terms ----
+
+abbrev pub seenOf : Model.Runs.Seen → Seen
+seenOf here =
+    record {
+      answer = here .answer;
+      shown = here .shown;
+      rounds = here .rounds;
+      stores = here .entries;
+      view = here .view;
+    }
+
+unfoldable pub seensOf : List Model.Runs.Seen → List Seen
+seensOf [] = []
+seensOf (here ∷ later) = seenOf here ∷ seensOf later
+
+abbrev pub toldOf : Model.Simulator.Told → Told
+toldOf here = record { answer = here .answer; rounds = here .rounds; stores = here .entries }
+
+unfoldable pub toldsOf : List Model.Simulator.Told → List Told
+toldsOf [] = []
+toldsOf (here ∷ later) = toldOf here ∷ toldsOf later

@@ -14,9 +14,9 @@ use Rattle.formal_statements.specs.Disk.{pick, slotStart, slotOf}
 use Rattle.formal_statements.specs.Promise.{Shape, Book, entryAt, readAnswer, bookRounds, storesFor}
 use Rattle.formal_statements.specs.Promise.{bookStores, writeAnswer, lastSlot, bookWritten, Told}
 use Rattle.formal_statements.specs.Promise.{toldBy, bookAfter, told}
-use Rattle.formal_statements.proofs.Translation.{geometryOf}
+use Rattle.formal_statements.proofs.Translation.{geometryOf, simulatorFor, publicCallsOf, toldOf}
+use Rattle.formal_statements.proofs.Translation.{toldsOf}
 use Rattle.formal_statements.proofs.Equations.Congruence.{pick-is, cons-same}
-use Rattle.formal_statements.proofs.Equations.Books.{simulatorFor, publicCallsOf, toldOf, toldsOf}
 use Rattle.formal_statements.proofs.Equations.Books.{lengths, bookRounds-is, storesFor-is}
 use Rattle.formal_statements.proofs.Equations.Books.{readAnswer-is, writeAnswer-is, rounds-positive}
 

@@ -16,14 +16,13 @@ use Rattle.model.proofs.Laws.Bitmap.{isAllocated-block}
 use Rattle.model.proofs.Laws.PublicMap.{mapEntry-block}
 use Rattle.formal_statements.specs.Disk.{Geometry, geometryIn, headIn, rootBlock}
 use Rattle.formal_statements.specs.Promise.{entriesOf, marksOf, bookOf, publicBlocks, viewOf}
-use Rattle.formal_statements.proofs.Translation.{geometryOf}
+use Rattle.formal_statements.proofs.Translation.{geometryOf, simulatorFor}
 use Rattle.formal_statements.proofs.Equations.Congruence.{cons-same}
 use Rattle.formal_statements.proofs.Equations.Entries.{entry-is, geometryIn-is, mapEntry-is}
 use Rattle.formal_statements.proofs.Equations.Marks.{isMarked-is}
 use Rattle.formal_statements.proofs.Equations.CallRefusals.{fits-of-accepted}
 use Rattle.formal_statements.proofs.Equations.WriteCalls.{front-inside}
 use Rattle.formal_statements.proofs.Equations.Views.{viewOf-is}
-use Rattle.formal_statements.proofs.Equations.Books.{simulatorFor}
 
 -- a part of a list's front
 part-front :
@@ -137,8 +136,7 @@ module _ (disk : List ℕ) (accepted : Model.Refusals.driveRefusal disk ≡ 0) w
         geometry = geometryOf g;
         head = head;
         entries = entries;
-        allocated =
-            marksOf g disk 0 (g .slots);
+        allocated = marksOf g disk 0 (g .slots);
       })
       (entry-is 5 disk ∙ sym (header-is 5 (omega arith)))
       (entriesOf-is g fits disk rest roomy 0 (g .publics) (omega arith))

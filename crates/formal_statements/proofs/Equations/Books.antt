@@ -17,45 +17,10 @@ use Rattle.formal_statements.specs.Disk.{pick, Geometry, rootBlock, slot
 use Rattle.formal_statements.specs.Disk.{slotOf}
 use Rattle.formal_statements.specs.Promise.{Shape, Book, markAt, entryAt, isGood, readAnswer, roundsIn}
 use Rattle.formal_statements.specs.Promise.{bookRounds, slotRun, slotStores, lastOnes, bookStores}
-use Rattle.formal_statements.specs.Promise.{writeAnswer, Told}
-use Rattle.formal_statements.proofs.Translation.{geometryOf}
+use Rattle.formal_statements.specs.Promise.{writeAnswer}
+use Rattle.formal_statements.proofs.Translation.{geometryOf, simulatorFor, publicCallOf}
 use Rattle.formal_statements.proofs.Equations.Congruence.{cons-same}
 use Rattle.formal_statements.proofs.Equations.Chains.{place-chain, write-chain}
-
--- ---- translation ----
-
-abbrev pub simulatorFor : Book → Model.Simulator.Simulator
-simulatorFor book =
-    record {
-      geometry = geometryOf (book .geometry);
-      head = book .head;
-      entries = book .entries;
-      allocated =
-          book .marks;
-    }
-
-abbrev pub publicCallOf : Shape → Model.Runs.PublicCall
-publicCallOf call =
-    record {
-      isWrite =
-          call .isWrite;
-      number = call .number;
-      content = call .content;
-      random = call .random;
-      room =
-          call .room;
-    }
-
-unfoldable pub publicCallsOf : List Shape → List Model.Runs.PublicCall
-publicCallsOf [] = []
-publicCallsOf (call ∷ calls) = publicCallOf call ∷ publicCallsOf calls
-
-abbrev pub toldOf : Model.Simulator.Told → Told
-toldOf here = record { answer = here .answer; rounds = here .rounds; stores = here .entries }
-
-unfoldable pub toldsOf : List Model.Simulator.Told → List Told
-toldsOf [] = []
-toldsOf (here ∷ later) = toldOf here ∷ toldsOf later
 
 -- ---- rounds ----
 

@@ -18,7 +18,7 @@ use Rattle.formal_statements.specs.Calls.{Result, write, publicRead}
 use Rattle.formal_statements.specs.Promise.{Call, reads, hiddenReads, writesTo, afterOne, diskAfter}
 use Rattle.formal_statements.specs.Promise.{Seen, seenBy, seen, viewOf, publicBy, hiddenBy, offeredTo}
 use Rattle.formal_statements.specs.Promise.{lastPublic, lastHidden}
-use Rattle.formal_statements.proofs.Translation.{offerOf, callOf, callsOf, resultOf}
+use Rattle.formal_statements.proofs.Translation.{offerOf, callOf, callsOf, resultOf, seenOf, seensOf}
 use Rattle.formal_statements.proofs.Equations.Congruence.{pick-is, cons-same}
 use Rattle.formal_statements.proofs.Equations.CallRefusals.{publicFault-is}
 use Rattle.formal_statements.proofs.Equations.ReadCalls.{publicRead-is}
@@ -26,21 +26,6 @@ use Rattle.formal_statements.proofs.Equations.WriteCalls.{write-is}
 use Rattle.formal_statements.proofs.Equations.Views.{viewOf-is}
 
 -- ---- what is seen ----
-
-abbrev pub seenOf : Model.Runs.Seen → Seen
-seenOf here =
-    record {
-      answer =
-          here .answer;
-      shown = here .shown;
-      rounds = here .rounds;
-      stores = here .entries;
-      view = here .view;
-    }
-
-unfoldable pub seensOf : List Model.Runs.Seen → List Seen
-seensOf [] = []
-seensOf (here ∷ later) = seenOf here ∷ seensOf later
 
 seensOf-nil : seensOf [] ≡ []
 unfolding seensOf
@@ -93,10 +78,8 @@ module _ (disk : List ℕ) where
       (publicFault-is disk number blank) (publicRead-is disk number blank)
       ∙ ap {B = List Seen} (λ (view : List ℕ).
       record {
-        answer =
-            Model.Refusals.publicReadRefusal disk number blank;
-        shown =
-            Model.Calls.publicRead disk number blank;
+        answer = Model.Refusals.publicReadRefusal disk number blank;
+        shown = Model.Calls.publicRead disk number blank;
         rounds = 0;
         stores = [];
         view = view;
@@ -110,8 +93,7 @@ module _ (disk : List ℕ) where
         shown = [];
         rounds = given .rounds;
         stores = given .stores;
-        view =
-            viewOf (given .disk);
+        view = viewOf (given .disk);
       } ∷ [])
       (call-is number content random room offer)
       ∙ ap₂ {C = List Seen} (λ (stores view : List ℕ).

@@ -89,7 +89,8 @@ module _ (g : Geometry) (f : Model.Geometry.Fits (geometryOf g)) (disk : List �
       let unfit = not (eqb size (g .size)) in
       let good = eqb entry 0 || Model.Layout.isPlace (geometryOf g) disk entry in
       let count : roundsTo (g .slots) g disk (headIn disk) ≡ rounds =
-      ap (roundsTo (g .slots) g disk) (entry-is 5 disk) ∙ roundsTo-is g f disk (g .slots) (Model.Layout.headIn disk) in
+      ap (roundsTo (g .slots) g disk) (entry-is 5 disk)
+      ∙ roundsTo-is g f disk (g .slots) (Model.Layout.headIn disk) in
       ap₂ (λ (test : Bool) (later : ℕ).
       pick (not (eqb (pick (leb (g .publics) number) 4 (pick unfit 5 (pick test 0 6))) 0))
       (pick (leb (g .publics) number) 4 (pick unfit 5 (pick test 0 6))) later)

@@ -8,8 +8,8 @@ use lib.Seq.{drop-drop}
 use Rattle.laws.specs as Laws
 use Rattle.model.specs as Model
 use Rattle.model.proofs.Laws.PublicMap.{mapEntry-bytes}
-use Rattle.formal_statements.specs.Disk.{numberOf, little, entry, withEntry, Geometry, block}
-use Rattle.formal_statements.specs.Disk.{stored, mapEntry, geometryIn}
+use Rattle.formal_statements.specs.Disk.{numberOf, little, entry, withEntry, Geometry, block, stored}
+use Rattle.formal_statements.specs.Disk.{mapEntry, geometryIn}
 use Rattle.formal_statements.proofs.Translation.{geometryOf}
 use Rattle.formal_statements.proofs.Equations.Congruence.{cons-same}
 

@@ -1,7 +1,7 @@
 -- Formatting of document 03 is ours on every disk. Assumes nothing.
 use mathlib.Core.Path.{_≡_, sym, ap, ap₂, _∙_}
-use mathlib.Core.List.{List, [], _∷_, _++_}
-use Prim.Native.Nat.{ℕ, suc, _+_, _*_, _-_}
+use mathlib.Core.List.{List, _++_}
+use Prim.Native.Nat.{ℕ, suc, _+_, _*_, _-_, _≤_}
 use native.Mathlib.Nat.{suc-mul, zero-add}
 use native.Mathlib.Omega.{arith}
 use lib.ListN.{length, drop, replicate, length-append, length-replicate, replicate-append-replicate}
@@ -16,20 +16,25 @@ use Rattle.formal_statements.proofs.Translation.{geometryOf}
 use Rattle.formal_statements.proofs.Equations.Refusals.{formatFault-is}
 use Rattle.formal_statements.proofs.Equations.Answers.{answer-is}
 
+-- the rest of the header, from its sixth entry on
+padding :
+    (size : ℕ) → 32 ≤ size →
+    _≡_ {A = List ℕ} (replicate (size - 20) 0) (replicate 4 0 ++ replicate (size - 24) 0)
+padding size h =
+    let e : 4 + (size - 24) ≡ size - 20 = omega arith in
+    sym (replicate-append-replicate 4 (size - 24) 0 ∙ ap (λ (n : ℕ). replicate n 0) e)
+
 module _ (g : Geometry) (f : Model.Geometry.Fits (geometryOf g)) where
   header-is : headerFor g ≡ Model.Calls.headerBlock (geometryOf g)
   unfolding little Model.Calls.headerBlock Model.Blocks.packed Laws.Numbers.littleEndian
   header-is =
-      let e : 4 + (g .size - 24) ≡ g .size - 20 = omega arith in
       ap (λ (zeros : List ℕ).
       little 4 (g .size) ++ little 4 (g .height) ++ little 4 (g .publics) ++ little 4 (g .hidden) ++
-      little 4 (g .slots) ++ zeros)
-      (ap (λ (n : ℕ). replicate n 0) (sym e) ∙ sym (replicate-append-replicate 4 (g .size - 24) 0))
+      little 4 (g .slots) ++ zeros) (padding (g .size) (f .size-low))
 
   length-front : length (Model.Calls.freshFront (geometryOf g)) ≡ areaStart g * g .size
   unfolding Model.Calls.freshFront Model.Calls.headerBlock
   length-front =
-      let header = g .size ∷ g .height ∷ g .publics ∷ g .hidden ∷ g .slots ∷ 0 ∷ [] in
       let e : areaStart g ≡ suc (areaStart g - 1) = omega arith in
       let total = ap (λ (n : ℕ). n * g .size) e ∙ suc-mul (areaStart g - 1) (g .size) in
       simp (length-append, length-packed, length-replicate) (omega arith)

@@ -6,9 +6,10 @@ use mathlib.Core.Option.{Option, none, some}
 use Prim.Native.Nat.{ℕ}
 use lib.Dec.{leb, eqb}
 use lib.ListN.{length}
-use Rattle.laws.specs as Laws
+use Rattle.laws.specs.Checks.{firstOf}
 use Rattle.laws.proofs.Cases.{cond-cases}
 use Rattle.model.specs as Model
+use Rattle.model.specs.Refusals.{hiddenWriteRefusal, hiddenChecks}
 use Rattle.formal_statements.specs.Disk.{pick, Geometry}
 use Rattle.formal_statements.specs.Rounds.{Offer, fresh}
 use Rattle.formal_statements.specs.Calls.{isSome, outcomeBy, badOffer, goodOffer}
@@ -29,7 +30,7 @@ module _ (g : Geometry) where
   fresh-is (some offer) =
       ap (λ (n : ℕ). fresh (pick (eqb n 0) (some offer) none))
       (offerFault-is g (offer .number) (offer .content))
-      ∙ by (eqb (Model.Refusals.hiddenWriteRefusal (geometryOf g) (offer .number) (offer .content)) 0)
+      ∙ by (eqb (hiddenWriteRefusal (geometryOf g) (offer .number) (offer .content)) 0)
     where
       by : (isGood : Bool) →
           fresh (pick isGood (some offer) none) ≡
@@ -43,7 +44,7 @@ module _ (g : Geometry) where
   unfolding Model.Calls.offeredWrites
   offered-one none = tt
   offered-one (some offer) =
-      cond-cases AtMostOne (eqb (Model.Refusals.hiddenWriteRefusal (geometryOf g) (offer .number)
+      cond-cases AtMostOne (eqb (hiddenWriteRefusal (geometryOf g) (offer .number)
       (offer .content)) 0)
       (λ e. refl) (λ e. tt)
 
@@ -80,7 +81,7 @@ pub outcome-is :
     outcomeBy (badOffer g offer) (fateOf state) ≡
     Model.Calls.outcomeNumber (Model.Calls.outcomeOf
     (Model.Calls.offerRefusal (geometryOf g) (offerOf offer)) state)
-unfolding Model.Calls.offerRefusal Model.Refusals.hiddenWriteRefusal Model.Refusals.hiddenChecks Laws.Checks.firstOf
+unfolding Model.Calls.offerRefusal hiddenWriteRefusal hiddenChecks firstOf
 outcome-is g none state = outcome-zero state
 outcome-is g (some offer) state =
     outcome-chain (leb (g .hidden) (offer .number)) (eqb (length (offer .content)) (g .size)) state

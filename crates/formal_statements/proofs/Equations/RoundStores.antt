@@ -1,5 +1,5 @@
--- The stores of a round of document 03 are ours, around any hidden half, on a disk that holds header, map and bitmap whole.
--- Assumes nothing.
+-- The stores of a round of document 03 are ours, around any hidden half, on a disk that holds header, map and
+-- bitmap whole. Assumes nothing.
 use mathlib.Core.Path.{_≡_, refl, sym, ap, ap₂, _∙_}
 use mathlib.Core.Bool.{Bool, true, false, cond}
 use mathlib.Core.List.{List, [], _∷_, _++_, append-assoc}
@@ -14,13 +14,12 @@ use Rattle.model.proofs.Laws.Geometry.{bitAddress-lt}
 use Rattle.model.proofs.Laws.Stores.{apply-one}
 use Rattle.formal_statements.specs.Disk.{pick, withEntry, Geometry, fan, rootBlock, block, slotStart}
 use Rattle.formal_statements.specs.Disk.{mapBlock, mapEntry, bitBlock, isMarked, marked, slotOf}
-use Rattle.formal_statements.specs.Rounds.{Store, store, apply}
-use Rattle.formal_statements.specs.Rounds.{publicStore, headerStore, newBit, lastStores, roundStores}
+use Rattle.formal_statements.specs.Rounds.{Store, store, apply, publicStore, headerStore, newBit}
+use Rattle.formal_statements.specs.Rounds.{lastStores, roundStores}
 use Rattle.formal_statements.proofs.Translation.{geometryOf, storesOf}
 use Rattle.formal_statements.proofs.Equations.Congruence.{cons-same}
 use Rattle.formal_statements.proofs.Equations.Entries.{withEntry-is, block-is, mapEntry-is}
-use Rattle.formal_statements.proofs.Equations.Marks.{bitByte-lt, block-marked-is}
-use Rattle.formal_statements.proofs.Equations.Marks.{marked-true-is}
+use Rattle.formal_statements.proofs.Equations.Marks.{bitByte-lt, block-marked-is, marked-true-is}
 use Rattle.formal_statements.proofs.Equations.Traces.{storesOf-append}
 
 -- what the table chooses for a slot that is marked or not
@@ -133,7 +132,8 @@ module _ (g : Geometry) (f : Model.Geometry.Fits (geometryOf g)) (number : ℕ) 
               storesOf (Model.Rounds.roundTrace (choiceOf isOn)
               (geometryOf g) disk number slot content hidden)
           by true =
-              cons-same (ap (store (slotStart g slot)) (block-is g disk (slotStart g slot))) (joined [] [] refl)
+              cons-same (ap (store (slotStart g slot)) (block-is g disk (slotStart g slot)))
+              (joined [] [] refl)
           by false =
               cons-same refl
               (joined (lastStores g disk number slot)

@@ -1,4 +1,5 @@
--- The rounds of document 03's writes are ours, on a disk that holds header, map and bitmap whole. Assumes nothing.
+-- The rounds of document 03's writes are ours, on a disk that holds header, map and bitmap whole. Assumes
+-- nothing.
 use mathlib.Core.Path.{_≡_, refl, sym, ap, ap₂, _∙_}
 use mathlib.Core.Bool.{Bool, true, false, cond}
 use mathlib.Core.List.{List, [], _∷_}
@@ -11,10 +12,9 @@ use Rattle.model.specs as Model
 use Rattle.model.proofs.Laws.Slots.{nextSlot-lt}
 use Rattle.model.proofs.Laws.Stores.{apply-append, addresses-append}
 use Rattle.model.proofs.Laws.Table.{rowAt-ruled}
-use Rattle.formal_statements.specs.Disk.{pick, Geometry, rootBlock}
-use Rattle.formal_statements.specs.Disk.{isMarked}
-use Rattle.formal_statements.specs.Rounds.{Fate, Store, apply, addresses, Half, hiddenHalf}
-use Rattle.formal_statements.specs.Rounds.{Written, written, before, roundBy, roundsFrom}
+use Rattle.formal_statements.specs.Disk.{pick, Geometry, rootBlock, isMarked}
+use Rattle.formal_statements.specs.Rounds.{Fate, Store, apply, addresses, Half, hiddenHalf, Written}
+use Rattle.formal_statements.specs.Rounds.{written, before, roundBy, roundsFrom}
 use Rattle.formal_statements.proofs.Translation.{geometryOf, fateOf, halfOf, writtenOf}
 use Rattle.formal_statements.proofs.Equations.Marks.{isMarked-is}
 use Rattle.formal_statements.proofs.Equations.Traces.{addresses-is, apply-is}

@@ -9,14 +9,13 @@ use Rattle.model.specs.Promises.Noninterference as Ours
 use Rattle.formal_statements.specs.Disk.{geometryIn, headIn}
 use Rattle.formal_statements.specs.Promise.{Alike, Call, reads, hiddenReads, writesTo, Shape, shapeOf}
 use Rattle.formal_statements.specs.Promise.{shapes, Seen, bookOf, told, allToldOf, NothingShows}
-use Rattle.formal_statements.proofs.Translation.{callOf, callsOf}
+use Rattle.formal_statements.proofs.Translation.{callOf, callsOf, seensOf, publicCallsOf, toldsOf}
 use Rattle.formal_statements.proofs.Equations.Congruence.{cons-same}
 use Rattle.formal_statements.proofs.Equations.Entries.{entry-is}
 use Rattle.formal_statements.proofs.Equations.Refusals.{diskFault-is}
 use Rattle.formal_statements.proofs.Equations.WriteCalls.{head-inside}
 use Rattle.formal_statements.proofs.Equations.Views.{viewOf-is}
-use Rattle.formal_statements.proofs.Equations.CallLists.{seensOf, diskAfter-is, seen-is}
-use Rattle.formal_statements.proofs.Equations.Books.{publicCallsOf, toldsOf}
+use Rattle.formal_statements.proofs.Equations.CallLists.{diskAfter-is, seen-is}
 use Rattle.formal_statements.proofs.Equations.BookCalls.{told-is}
 use Rattle.formal_statements.proofs.Equations.BookStart.{bookOf-is}
 
@@ -89,7 +88,8 @@ noninterference-implied promise disk other calls others bytes otherBytes alike f
       ap allToldOf (seen-is disk calls) ∙ allToldOf-is (Model.Runs.seenOfAll disk (callsOf calls))
           ∙ ap toldsOf (ours .here .by-simulator)
           ∙ ap₂ (λ (sim : Model.Simulator.Simulator) (public : List Model.Runs.PublicCall).
-          toldsOf (Model.Simulator.told sim (Model.Simulator.lengthsOfAll public))) (sym (bookOf-is disk good))
+          toldsOf (Model.Simulator.told sim (Model.Simulator.lengthsOfAll public)))
+          (sym (bookOf-is disk good))
           (sym (shapes-is calls))
           ∙ sym (told-is (bookOf disk) (shapes calls) inside),
       rw (diskAfter-is disk calls, diskAfter-is other others) (

@@ -21,81 +21,81 @@ orElse-is : (last : Option (List ℕ)) (blank : List ℕ) → Ours.orElse last b
 orElse-is none blank = refl
 orElse-is (some content) blank = refl
 
-module _ (promise : Ours.ReadAfterWrite) where
-  module _ (disk : List ℕ) (g : Geometry) (calls : List Call) (good : formatFault disk g ≡ 0) where
-    accepted-format : Model.Refusals.formatRefusal disk (geometryOf g) ≡ 0
-    accepted-format = sym (formatFault-is disk g) ∙ good
+module _ (promise : Ours.ReadAfterWrite) (disk : List ℕ) (g : Geometry) (calls : List Call)
+    (good : formatFault disk g ≡ 0) where
+  accepted-format : Model.Refusals.formatRefusal disk (geometryOf g) ≡ 0
+  accepted-format = sym (formatFault-is disk g) ∙ good
 
-    abbrev fresh : List ℕ
-    fresh = Model.Calls.formatted disk (geometryOf g)
+  abbrev fresh : List ℕ
+  fresh = Model.Calls.formatted disk (geometryOf g)
 
-    abbrev after : List ℕ
-    after = Model.Runs.diskAfterAll fresh (callsOf calls)
+  abbrev after : List ℕ
+  after = Model.Runs.diskAfterAll fresh (callsOf calls)
 
-    sound : Ours.Sound (geometryOf g) fresh
-    sound = promise .fresh-sound disk (geometryOf g) accepted-format
+  sound : Ours.Sound (geometryOf g) fresh
+  sound = promise .fresh-sound disk (geometryOf g) accepted-format
 
-    back : Ours.ReadsBack (geometryOf g) fresh (callsOf calls)
-    back = promise .reads-back (geometryOf g) fresh (callsOf calls) sound
+  back : Ours.ReadsBack (geometryOf g) fresh (callsOf calls)
+  back = promise .reads-back (geometryOf g) fresh (callsOf calls) sound
 
-    after-is : diskAfter (formatted disk g) calls ≡ after
-    after-is =
-        ap (λ (drive : List ℕ). diskAfter drive calls) (formatted-is disk g)
-        ∙ diskAfter-is fresh calls
+  after-is : diskAfter (formatted disk g) calls ≡ after
+  after-is =
+      ap (λ (drive : List ℕ). diskAfter drive calls) (formatted-is disk g)
+      ∙ diskAfter-is fresh calls
 
-    accepted-after : Model.Refusals.driveRefusal after ≡ 0
-    accepted-after = back .sound .accepted
+  accepted-after : Model.Refusals.driveRefusal after ≡ 0
+  accepted-after = back .sound .accepted
 
-    public-last-is :
-        (number : ℕ) → lastPublic (formatted disk g) number none calls ≡
-        Ours.lastPublic number none fresh (callsOf calls)
-    public-last-is number =
-        ap (λ (drive : List ℕ). lastPublic drive number none calls) (formatted-is disk g)
-        ∙ lastPublic-is number none fresh calls
+  public-last-is :
+      (number : ℕ) → lastPublic (formatted disk g) number none calls ≡
+      Ours.lastPublic number none fresh (callsOf calls)
+  public-last-is number =
+      ap (λ (drive : List ℕ). lastPublic drive number none calls) (formatted-is disk g)
+      ∙ lastPublic-is number none fresh calls
 
-    hidden-last-is :
-        (number : ℕ) → lastHidden (formatted disk g) number none calls ≡
-        Ours.lastHidden number none fresh (callsOf calls)
-    hidden-last-is number =
-        ap (λ (drive : List ℕ). lastHidden drive number none calls) (formatted-is disk g)
-        ∙ lastHidden-is number none fresh calls
+  hidden-last-is :
+      (number : ℕ) → lastHidden (formatted disk g) number none calls ≡
+      Ours.lastHidden number none fresh (callsOf calls)
+  hidden-last-is number =
+      ap (λ (drive : List ℕ). lastHidden drive number none calls) (formatted-is disk g)
+      ∙ lastHidden-is number none fresh calls
 
-    module _ (number : ℕ) (blank : List ℕ) (sized : length blank ≡ g .size) where
-      public-back :
-          number < g .publics →
-          (publicFault (diskAfter (formatted disk g) calls) number blank ≡ 0) ×
-          (publicRead (diskAfter (formatted disk g) calls) number blank ≡
-          orBlank (lastPublic (formatted disk g) number none calls) blank)
-      public-back h =
-          let last = Ours.lastPublic number none fresh (callsOf calls) in (
-            ap (λ (drive : List ℕ). publicFault drive number blank) after-is
-                ∙ publicFault-is after number blank
-                ∙ back .readable .public-answer number blank h sized,
-            ap (λ (drive : List ℕ). publicRead drive number blank) after-is ∙ publicRead-is after number blank
-                ∙ back .public-shown number blank h sized
-                ∙ ap (Ours.orElse last)
-                (promise .fresh-public disk (geometryOf g) number blank accepted-format h sized)
-                ∙ orElse-is last blank ∙ ap (λ (content : Option (List ℕ)). orBlank content blank)
-                (sym (public-last-is number)),
-          )
+  module _ (number : ℕ) (blank : List ℕ) (sized : length blank ≡ g .size) where
+    public-back :
+        number < g .publics →
+        (publicFault (diskAfter (formatted disk g) calls) number blank ≡ 0) ×
+        (publicRead (diskAfter (formatted disk g) calls) number blank ≡
+        orBlank (lastPublic (formatted disk g) number none calls) blank)
+    public-back h =
+        let last = Ours.lastPublic number none fresh (callsOf calls) in (
+          ap (λ (drive : List ℕ). publicFault drive number blank) after-is
+              ∙ publicFault-is after number blank
+              ∙ back .readable .public-answer number blank h sized,
+          ap (λ (drive : List ℕ). publicRead drive number blank) after-is ∙ publicRead-is after number blank
+              ∙ back .public-shown number blank h sized
+              ∙ ap (Ours.orElse last)
+              (promise .fresh-public disk (geometryOf g) number blank accepted-format h sized)
+              ∙ orElse-is last blank ∙ ap (λ (content : Option (List ℕ)). orBlank content blank)
+              (sym (public-last-is number)),
+        )
 
-      hidden-back :
-          number < g .hidden →
-          (hiddenFault (diskAfter (formatted disk g) calls) number blank ≡ 0) ×
-          (hiddenRead (diskAfter (formatted disk g) calls) number blank ≡
-          orBlank (lastHidden (formatted disk g) number none calls) blank)
-      hidden-back h =
-          let last = Ours.lastHidden number none fresh (callsOf calls) in (
-            ap (λ (drive : List ℕ). hiddenFault drive number blank) after-is
-                ∙ hiddenFault-is after number blank
-                ∙ back .readable .hidden-answer number blank h sized,
-            ap (λ (drive : List ℕ). hiddenRead drive number blank) after-is ∙ hiddenRead-is after number blank
-                ∙ back .hidden-shown number blank h sized
-                ∙ ap (Ours.orElse last)
-                (promise .fresh-hidden disk (geometryOf g) number blank accepted-format h sized)
-                ∙ orElse-is last blank ∙ ap (λ (content : Option (List ℕ)). orBlank content blank)
-                (sym (hidden-last-is number)),
-          )
+    hidden-back :
+        number < g .hidden →
+        (hiddenFault (diskAfter (formatted disk g) calls) number blank ≡ 0) ×
+        (hiddenRead (diskAfter (formatted disk g) calls) number blank ≡
+        orBlank (lastHidden (formatted disk g) number none calls) blank)
+    hidden-back h =
+        let last = Ours.lastHidden number none fresh (callsOf calls) in (
+          ap (λ (drive : List ℕ). hiddenFault drive number blank) after-is
+              ∙ hiddenFault-is after number blank
+              ∙ back .readable .hidden-answer number blank h sized,
+          ap (λ (drive : List ℕ). hiddenRead drive number blank) after-is ∙ hiddenRead-is after number blank
+              ∙ back .hidden-shown number blank h sized
+              ∙ ap (Ours.orElse last)
+              (promise .fresh-hidden disk (geometryOf g) number blank accepted-format h sized)
+              ∙ orElse-is last blank ∙ ap (λ (content : Option (List ℕ)). orBlank content blank)
+              (sym (hidden-last-is number)),
+        )
 
 -- document 03's ReadsBack
 pub read-after-write-implied : Ours.ReadAfterWrite → ReadsBack

@@ -45,7 +45,8 @@ returns-6 c =
     let s = e .before .before .before .before in
     ap (λ (n : ℕ). leb n 2147483647) (c .block-count .ensures)
     ∙ left-to-blocks (geometryOf (s .args .g)) (s .pre .0) (s .pre .1 .0) (s .pre .1 .1)
-    (e .before .before .before .if1 .left) (e .before .before .if2 .left) (e .before .if3 .left) (e .if4 .left)
+    (e .before .before .before .if1 .left) (e .before .before .if2 .left) (e .before .if3 .left)
+    (e .if4 .left)
     (omega (arith, c .before .before .tree-capacity .ensures, c .before .if5 .left))
 
 pub has-room-spec : {M : Type 1} → statement M

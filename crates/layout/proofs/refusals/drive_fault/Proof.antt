@@ -18,7 +18,9 @@ abbrev diskOf : tie.After-size-fault → Bytes
 diskOf c = c .before .before .before .before .args .disk .now
 
 -- the number that was asked for is that of the header's geometry
-told : (c : tie.After-size-fault) → c .size-fault .result ≡ sizeRefusal (length (diskOf c)) (geometryIn (diskOf c))
+told :
+    (c : tie.After-size-fault) →
+    c .size-fault .result ≡ sizeRefusal (length (diskOf c)) (geometryIn (diskOf c))
 told c = c .size-fault .ensures ∙ ap (sizeRefusal (length (diskOf c))) (c .before .geometry-in .ensures)
 
 -- what holds where the head is tested

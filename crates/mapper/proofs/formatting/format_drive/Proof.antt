@@ -23,24 +23,26 @@ after-zeros c = c .before .before .before .before .before .before
 abbrev after-start : tie.After-clear-front → tie.After-area-start
 after-start c = c .before .before .before .before
 
+abbrev start : tie.Else1 → tie.Start
+start c = c .before .before .before
+
 -- a length and a geometry that are not refused
 accepted :
-    (c : tie.Else1) →
-    formatRefusal (c .before .before .before .args .disk .now) (geometryOf (c .before .before .before .args .geometry)) ≡ 0
+    (c : tie.Else1) → formatRefusal (start c .args .disk .now) (geometryOf (start c .args .geometry)) ≡ 0
 accepted c = sym (c .before .size-fault .ensures) ∙ c .if1 .left
 
-sized : (c : tie.Else1) → Sized (length (c .before .before .before .args .disk .now)) (geometryOf (c .before .before .before .args .geometry))
+sized : (c : tie.Else1) → Sized (length (start c .args .disk .now)) (geometryOf (start c .args .geometry))
 sized c =
-    let s = c .before .before .before .args in
+    let s = start c .args in
     sized-of-refusal (length (s .disk .now)) (geometryOf (s .geometry)) (accepted c)
 
 -- the bytes before the data area are the disk's
 front :
     (c : tie.After-area-start) →
-    c .area-start .result .0 * c .before .before .before .before .args .geometry .«block_size» ≤
-    length (c .before .before .before .before .args .disk .now)
+    c .area-start .result .0 * start (c .before) .args .geometry .«block_size» ≤
+    length (start (c .before) .args .disk .now)
 front c =
-    let s = c .before .before .before .before .args in
+    let s = start (c .before) .args in
     let z = sized (c .before) in
     rw (c .area-start .ensures)
     (front-inside (geometryOf (s .geometry)) (z .fits) (s .disk .now)
@@ -82,14 +84,16 @@ returns-2 : tie.Need-returns-2
 returns-2 c =
     let z = after-zeros c in
     let a = after-start z in
-    let s = a .before .before .before .before .args in
+    let s = start (a .before) .args in
     let g = geometryOf (s .geometry) in
     let e = accepted (a .before) in
-    let zeros = ap (λ (n : ℕ). over 0 (replicate (n * g .blockSize) 0) (s .disk .now)) (a .area-start .ensures) in (
+    let zeros =
+    ap (λ (n : ℕ). over 0 (replicate (n * g .blockSize) 0) (s .disk .now)) (a .area-start .ensures) in (
       sym e,
       c .before .before .put-header .ensures
           ∙ ap (over 0 (packed (headerEntries g))) (z .clear-front .ensures ∙ zeros)
-          ∙ header-over-zeros g (sized (a .before) .fits) (s .disk .now) ∙ formatted-accepted (s .disk .now) g e,
+          ∙ header-over-zeros g (sized (a .before) .fits) (s .disk .now)
+          ∙ formatted-accepted (s .disk .now) g e,
     )
 
 pub format-drive-spec : {M : Type 1} → statement M

@@ -1,4 +1,4 @@
--- Where things lie on a drive: its slots, bits and map entries stand inside it. Assumes nothing.
+-- Where an entry of the public map lies: inside its drive. Assumes nothing.
 use mathlib.Core.Path.{_≡_, ap}
 use Prim.Native.Nat.{ℕ, _+_, _*_, _≤_, _<_}
 use native.Mathlib.Nat.{mul-le-mul-right, add-mul, mul-left-comm}

@@ -1,0 +1,93 @@
+// The bitmap: one bit for each block of the data area, low bit first.
+use crate::blocks::block_at;
+use crate::geometry::{Geometry, map_blocks};
+use crate::numbers::DiskAddress;
+ghost use mathlib.Core.Path.{_≡_};
+ghost use Prim.Native.Nat.{_/_, _<_};
+ghost use lib.ListN.{length};
+ghost use Rattle.laws.specs.Bits.{bitOf, withBit, bitAt, setBit};
+ghost use Rattle.model.specs.Geometry.{Fits};
+ghost use Rattle.model.specs.Layout.{Drive, areaPlace, bitAddress, bitPlace, isAllocated};
+ghost use Rattle.layout.specs.Geometries.{geometryOf};
+
+// ---- bits of a byte ----
+
+// Whether a byte's bit is 1.
+fn bit_of(byte: u8, place: usize) -> bool
+    requires { ⌜ place < 8 ⌝ }
+    ensures { λ r. ⌜ r ≡ bitOf place byte ⌝ }
+{
+    (byte >> place) % 2 == 1
+}
+
+// The byte with that bit 1 or 0 as asked.
+fn with_bit(byte: u8, place: usize, is_set: bool) -> u8
+    requires { ⌜ place < 8 ⌝ }
+    ensures { λ r. ⌜ r ≡ withBit place is_set byte ⌝ }
+{
+    let weight = 1u8 << place;
+    if bit_of(byte, place) {
+        if is_set { byte } else { byte - weight }
+    } else {
+        if is_set { byte + weight } else { byte }
+    }
+}
+
+// ---- bits of a block ----
+
+// Whether the bit at a place of a block is 1.
+pub fn bit_at(block: &[u8], place: usize) -> bool
+    requires { ⌜ place / 8 < length (now block) ⌝ }
+    ensures { λ r. ⌜ r ≡ bitAt place (now (block .entry)) ⌝ }
+{
+    bit_of(block[place / 8], place % 8)
+}
+
+// Sets the bit at a place of a block to 1 or 0 as asked; the other bits stay.
+pub fn set_bit(block: &mut [u8], place: usize, is_set: bool)
+    requires { ⌜ place / 8 < length (now block) ⌝ }
+    ensures { λ _. ⌜ now (block .exit) ≡ setBit place is_set (now (block .entry)) ⌝ }
+{
+    let at = place / 8;
+    block[at] = with_bit(block[at], place % 8, is_set);
+}
+
+// ---- bits of slots ----
+
+// The bit of a slot's public block, counted over the whole data area.
+fn area_place(g: Geometry, slot: u32) -> usize
+    requires { ⌜ Fits (geometryOf g) ⌝ }
+    requires { ⌜ slot < g .slots ⌝ }
+    ensures { λ r. ⌜ r ≡ areaPlace (geometryOf g) slot ⌝ }
+{
+    (slot as usize) * (g.height as usize + 1)
+}
+
+// That bit's place within its bitmap block.
+pub fn bit_place(g: Geometry, slot: u32) -> usize
+    requires { ⌜ Fits (geometryOf g) ⌝ }
+    requires { ⌜ slot < g .slots ⌝ }
+    ensures { λ r. ⌜ r ≡ bitPlace (geometryOf g) slot ⌝ }
+{
+    area_place(g, slot) % (8 * (g.block_size as usize))
+}
+
+// Address of the bitmap block that holds that bit.
+pub fn bit_address(g: Geometry, slot: u32) -> DiskAddress
+    requires { ⌜ Fits (geometryOf g) ⌝ }
+    requires { ⌜ slot < g .slots ⌝ }
+    ensures { λ r. ⌜ r .0 ≡ bitAddress (geometryOf g) slot ⌝ }
+{
+    let before = area_place(g, slot) / (8 * (g.block_size as usize));
+    DiskAddress((1 + map_blocks(g) + before as u64) as u32)
+}
+
+// Whether a slot holds a public block.
+pub fn is_allocated(disk: &[u8], g: Geometry, slot: u32) -> bool
+    requires { ⌜ Drive (geometryOf g) (now disk) ⌝ }
+    requires { ⌜ slot < g .slots ⌝ }
+    ensures { λ r. ⌜ r ≡ isAllocated (geometryOf g) (now (disk .entry)) slot ⌝ }
+{
+    let block = block_at(disk, g, bit_address(g, slot));
+    bit_at(block, bit_place(g, slot))
+}

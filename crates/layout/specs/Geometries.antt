@@ -7,7 +7,7 @@ use Rattle.layout.specs.declared.geometry.Geometry as declared
 abbrev pub geometryOf : declared.Geometry → model.Geometry
 geometryOf g =
     record {
-      blockSize = g .block_size;
+      blockSize = g .«block_size»;
       height = g .height;
       publics = g .publics;
       hidden = g .hidden;

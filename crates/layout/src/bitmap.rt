@@ -23,7 +23,7 @@ fn bit_of(byte: u8, place: usize) -> bool
 // The byte with that bit 1 or 0 as asked.
 fn with_bit(byte: u8, place: usize, is_set: bool) -> u8
     requires { ⌜ place < 8 ⌝ }
-    ensures { λ r. ⌜ r ≡ withBit place is_set byte ⌝ }
+    ensures { λ r. ⌜ r ≡ withBit place «is_set» byte ⌝ }
 {
     let weight = 1u8 << place;
     if bit_of(byte, place) {
@@ -46,7 +46,7 @@ pub fn bit_at(block: &[u8], place: usize) -> bool
 // Sets the bit at a place of a block to 1 or 0 as asked; the other bits stay.
 pub fn set_bit(block: &mut [u8], place: usize, is_set: bool)
     requires { ⌜ place / 8 < length (now block) ⌝ }
-    ensures { λ _. ⌜ now (block .exit) ≡ setBit place is_set (now (block .entry)) ⌝ }
+    ensures { λ _. ⌜ now (block .exit) ≡ setBit place «is_set» (now (block .entry)) ⌝ }
 {
     let at = place / 8;
     block[at] = with_bit(block[at], place % 8, is_set);

@@ -12,7 +12,7 @@ ghost use Rattle.layout.specs.Geometries.{geometryOf};
 pub fn block_at<'a>(disk: &'a [u8], g: Geometry, address: DiskAddress) -> &'a [u8]
     requires { ⌜ Drive (geometryOf g) (now disk) ⌝ }
     requires { ⌜ address .0 < blockCount (geometryOf g) ⌝ }
-    ensures { λ r. ⌜ now r ≡ blockAt (g .block_size) (now (disk .entry)) (address .0) ⌝ }
+    ensures { λ r. ⌜ now r ≡ blockAt (geometryOf g .blockSize) (now (disk .entry)) (address .0) ⌝ }
 {
     let width = g.block_size as usize;
     let from = (address.0 as usize) * width;

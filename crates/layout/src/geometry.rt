@@ -2,6 +2,7 @@
 use crate::entries::entry_at;
 use crate::numbers::DiskAddress;
 ghost use mathlib.Core.Path.{_≡_};
+ghost use mathlib.Core.Bool.{true};
 ghost use Prim.Native.Nat.{_+_, _*_, _-_, _/_, _≤_, _<_, _^_};
 ghost use lib.ListN.{length};
 ghost use Rattle.laws.specs.Division.{ceilDiv};
@@ -70,23 +71,26 @@ fn tree_capacity(g: Geometry) -> u64
 
 // Whether a geometry with a good block size and height is inside the other limits.
 fn has_room(g: Geometry) -> bool
-    requires { ⌜ isOneOf (g .block_size) blockSizes ≡ true ⌝ }
+    requires { ⌜ isOneOf (g .«block_size») blockSizes ≡ true ⌝ }
     requires { ⌜ (2 ≤ g .height) × (g .height ≤ 4) ⌝ }
     ensures { λ r. ⌜ r ≡ isGeometry (geometryOf g) ⌝ }
 {
-    if g.publics < 1 {
+    let publics = g.publics;
+    let hidden = g.hidden;
+    let slots = g.slots;
+    if publics < 1 {
         return false;
     }
-    if g.hidden < 1 {
+    if hidden < 1 {
         return false;
     }
-    if g.slots <= g.publics {
+    if slots <= publics {
         return false;
     }
-    if g.slots <= g.hidden {
+    if slots <= hidden {
         return false;
     }
-    if tree_capacity(g) < g.hidden as u64 {
+    if tree_capacity(g) < hidden as u64 {
         return false;
     }
     block_count(g) <= 2147483647
@@ -96,13 +100,14 @@ fn has_room(g: Geometry) -> bool
 pub fn is_geometry(g: Geometry) -> bool
     ensures { λ r. ⌜ r ≡ isGeometry (geometryOf g) ⌝ }
 {
+    let height = g.height;
     if !is_block_size(g.block_size) {
         return false;
     }
-    if g.height < 2 {
+    if height < 2 {
         return false;
     }
-    if 4 < g.height {
+    if 4 < height {
         return false;
     }
     has_room(g)

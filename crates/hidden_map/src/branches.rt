@@ -9,12 +9,12 @@ ghost use Rattle.model.specs.HiddenTree.{branchAt};
 ghost use Rattle.hidden_map.specs.Trees.{AreaOf};
 
 // The index of a number's entry of a level in its node: its place in the leaf, above it a digit of the leaf in base F.
-pub fn branch_at(block_size: u32, number: HiddenNumber, level: u32) -> usize
-    requires { ⌜ (32 ≤ «block_size») × («block_size» ≤ 4096) ⌝ }
+pub fn branch_at(size: u32, number: HiddenNumber, level: u32) -> usize
+    requires { ⌜ (32 ≤ size) × (size ≤ 4096) ⌝ }
     requires { ⌜ level ≤ 3 ⌝ }
-    ensures { λ r. ⌜ ((g : Geometry) → «block_size» ≡ g .blockSize → r ≡ branchAt g (number .0) level) ⌝ }
+    ensures { λ r. ⌜ ((g : Geometry) → size ≡ g .blockSize → r ≡ branchAt g (number .0) level) ⌝ }
 {
-    let fanout = block_size as usize / 4;
+    let fanout = size as usize / 4;
     let whole = number.0 as usize;
     if level == 0 {
         return whole % (fanout - 1);

@@ -21,13 +21,13 @@ pub enum Reached {
 }
 
 // Where a number's entry of a level leads that stands in the node at an address.
-pub fn step(disk: &[u8], block_size: u32, height: u32, start: DiskAddress, count: u32, number: HiddenNumber, level: u32, address: DiskAddress) -> Reached
-    requires { ⌜ Walkable (now disk) «block_size» height (start .0) count ⌝ }
+pub fn step(disk: &[u8], size: u32, height: u32, start: DiskAddress, count: u32, number: HiddenNumber, level: u32, address: DiskAddress) -> Reached
+    requires { ⌜ Walkable (now disk) size height (start .0) count ⌝ }
     requires { ⌜ (level < height) × (address .0 < count) ⌝ }
-    ensures { λ r. ⌜ ((g : model.Geometry) → TreeOf g (now (disk .entry)) «block_size» height (start .0) count → endOf r ≡ stepOf g (number .0) level (blockAt (g .blockSize) (now (disk .entry)) (address .0))) ⌝ }
+    ensures { λ r. ⌜ ((g : model.Geometry) → TreeOf g (now (disk .entry)) size height (start .0) count → endOf r ≡ stepOf g (number .0) level (blockAt (g .blockSize) (now (disk .entry)) (address .0))) ⌝ }
 {
-    let before = (address.0 as usize) * (block_size as usize / 4);
-    let entry = entry_at(disk, before + branch_at(block_size, number, level));
+    let before = (address.0 as usize) * (size as usize / 4);
+    let entry = entry_at(disk, before + branch_at(size, number, level));
     if entry == 0 {
         return Reached::Unmapped;
     }
@@ -38,19 +38,19 @@ pub fn step(disk: &[u8], block_size: u32, height: u32, start: DiskAddress, count
 }
 
 // Where the walk for a number ends, from the node at an address down, by the level of the entry that it takes there.
-fn walk_from(disk: &[u8], block_size: u32, height: u32, start: DiskAddress, count: u32, number: HiddenNumber, level: u32, address: DiskAddress) -> Reached
-    requires { ⌜ Walkable (now disk) «block_size» height (start .0) count ⌝ }
+fn walk_from(disk: &[u8], size: u32, height: u32, start: DiskAddress, count: u32, number: HiddenNumber, level: u32, address: DiskAddress) -> Reached
+    requires { ⌜ Walkable (now disk) size height (start .0) count ⌝ }
     requires { ⌜ (level < height) × (address .0 < count) ⌝ }
-    ensures { λ r. ⌜ ((g : model.Geometry) → TreeOf g (now (disk .entry)) «block_size» height (start .0) count → endOf r ≡ tree.walkFrom g (now (disk .entry)) (number .0) level (blockAt (g .blockSize) (now (disk .entry)) (address .0)) .end) ⌝ }
+    ensures { λ r. ⌜ ((g : model.Geometry) → TreeOf g (now (disk .entry)) size height (start .0) count → endOf r ≡ tree.walkFrom g (now (disk .entry)) (number .0) level (blockAt (g .blockSize) (now (disk .entry)) (address .0)) .end) ⌝ }
 {
-    let next = step(disk, block_size, height, start, count, number, level, address);
+    let next = step(disk, size, height, start, count, number, level, address);
     if level == 0 {
         return next;
     }
     let Reached::Found(node) = next else {
         return next;
     };
-    walk_from(disk, block_size, height, start, count, number, level - 1, node)
+    walk_from(disk, size, height, start, count, number, level - 1, node)
 }
 
 // Where the walk for a number ends, from the root.

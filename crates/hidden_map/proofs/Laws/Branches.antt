@@ -4,7 +4,7 @@ use mathlib.Core.Path.{_≡_, refl, sym, ap, _∙_}
 use mathlib.Core.Logic.{_≢_}
 use mathlib.Core.Bool.{Bool, true, false}
 use Prim.Native.Nat.{ℕ, zero, suc, _+_, _*_, _-_, _/_, _%_, _^_, _≤_, _<_}
-use native.Mathlib.Nat.{mod-lt, div-one, mul-le-mul-right, mul-left-comm, pow-zero}
+use native.Mathlib.Nat.{mod-lt, div-one, mul-le-mul, mul-le-mul-right, mul-left-comm, pow-zero}
 use native.Mathlib.Omega.{arith}
 use lib.Dec.{eqb}
 use lib.ListN.{length}
@@ -13,12 +13,12 @@ use Rattle.laws.specs.Numbers.{numberOf}
 use Rattle.laws.proofs.Division.{pow-one, pow-two}
 use Rattle.model.specs.Geometry.{Geometry, Fits, fanout, areaStart, blockCount}
 use Rattle.model.specs.Blocks.{Bytes, DiskAddress, blockAt, entryAt}
-use Rattle.model.specs.Layout.{Drive, isWellFormed, levelPlace}
+use Rattle.model.specs.Layout.{isWellFormed, levelPlace}
 use Rattle.model.specs.HiddenTree.{branchAt, leafOf}
 use Rattle.model.proofs.Laws.Geometry.{fanout-low}
 use Rattle.model.proofs.Laws.Entries.{entryAt-blockAt}
 use Rattle.model.proofs.Laws.Slots.{isSlotBlock-below, isSlotBlock-past, isSlotBlock-inside}
-use Rattle.hidden_map.specs.Trees.{AreaOf}
+use Rattle.hidden_map.specs.Trees.{AreaOf, TreeOf}
 
 -- ---- branches ----
 
@@ -40,6 +40,12 @@ module _ (g : Geometry) (size : ℕ) (e : size ≡ g .blockSize) (number level :
   unfolding branchAt
   branchAt-third z = rw (z, e, pow-two (fanout g))
 
+pub square-le : (size : ℕ) → 32 ≤ size → size ≤ 4096 → (1 ≤ size / 4 * (size / 4)) × (size / 4 * (size / 4) ≤ 1048576)
+square-le size low high =
+    let l : 1 ≤ size / 4 = omega arith in
+    let h : size / 4 ≤ 1024 = omega arith in
+    (omega (arith, mul-le-mul l l), omega (arith, mul-le-mul h h))
+
 pub branchAt-lt : (g : Geometry) → Fits g → (number level : ℕ) → branchAt g number level < fanout g
 unfolding branchAt
 branchAt-lt g f number zero =
@@ -51,23 +57,32 @@ branchAt-lt g f number (suc level) =
 
 -- ---- the entry of a branch ----
 
-module _ (g : Geometry) (f : Fits g) (address index : ℕ) (inside : index < fanout g) where
-  -- a node's entry, counted over the whole disk
-  pub entryAt-node :
-      (disk : Bytes) → entryAt (address * fanout g + index) disk ≡ entryAt index (blockAt (g .blockSize) disk address)
-  unfolding entryAt
-  entryAt-node disk =
-      let sized : address * g .blockSize ≡ address * (4 * fanout g) = ap (λ (n : ℕ). address * n) (f .size-entries) in
-      let e : address * g .blockSize + 4 * index ≡ 4 * (address * fanout g + index) =
-      omega (arith, mul-left-comm address 4 (fanout g)) in
-      sym (entryAt-blockAt (g .blockSize) disk address index (omega (arith, f .size-entries))
-      ∙ ap (λ (n : ℕ). numberOf (part n 4 disk)) e)
+-- a node's entry, counted over the whole disk, by the numbers that a walk is given
+module _ (g : Geometry) (disk : Bytes) (size height start count : ℕ) (t : TreeOf g disk size height start count)
+    (number level address branch : ℕ) (e : branch ≡ branchAt g number level) where
+  branch-inside : branch < fanout g
+  branch-inside = rw e (branchAt-lt g (t .drive .fits) number level)
 
-  pub node-entry-inside :
-      (disk : Bytes) → Drive g disk → address < blockCount g → 4 * (address * fanout g + index) + 4 ≤ length disk
-  node-entry-inside disk d h =
-      let sized : address * g .blockSize ≡ address * (4 * fanout g) = ap (λ (n : ℕ). address * n) (f .size-entries) in
-      omega (arith, d .whole, mul-le-mul-right (g .blockSize) h, mul-left-comm address 4 (fanout g))
+  node-start : address * g .blockSize ≡ 4 * (address * fanout g)
+  node-start = ap (λ (n : ℕ). address * n) (t .drive .fits .size-entries) ∙ mul-left-comm address 4 (fanout g)
+
+  pub branch-entry-inside : address < count → 4 * (address * (size / 4) + branch) + 4 ≤ length disk
+  branch-entry-inside h =
+      let inside : address < blockCount g = omega (arith, t .area .count-is) in
+      rw (t .size-is)
+      (omega (arith, branch-inside, node-start, t .drive .whole, mul-le-mul-right (g .blockSize) inside))
+
+  pub branch-entry-is :
+      (entry : ℕ) → entry ≡ entryAt (address * (size / 4) + branch) disk →
+      entry ≡ entryAt (branchAt g number level) (blockAt (g .blockSize) disk address)
+  unfolding entryAt
+  branch-entry-is entry p =
+      let sized = t .drive .fits .size-entries in
+      let at : 4 * (address * fanout g + branch) ≡ address * g .blockSize + 4 * branch = omega (arith, node-start) in
+      p ∙ ap (λ (n : ℕ). entryAt (address * (n / 4) + branch) disk) (t .size-is)
+      ∙ ap (λ (n : ℕ). numberOf (part n 4 disk)) at
+      ∙ sym (entryAt-blockAt (g .blockSize) disk address branch (omega (arith, branch-inside)))
+      ∙ ap (λ (n : ℕ). entryAt n (blockAt (g .blockSize) disk address)) e
 
 -- ---- well-formed addresses ----
 

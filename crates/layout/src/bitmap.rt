@@ -1,6 +1,7 @@
 // The bitmap: one bit for each block of the data area, low bit first.
 use crate::blocks::block_at;
-use crate::geometry::{Geometry, map_blocks};
+use crate::geometry::Geometry;
+use crate::geometry::map_blocks;
 use crate::numbers::DiskAddress;
 ghost use mathlib.Core.Path.{_≡_};
 ghost use Prim.Native.Nat.{_/_, _<_};

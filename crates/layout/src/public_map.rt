@@ -1,7 +1,8 @@
 // The public map: P entries, one after another from block 1 on.
 use crate::entries::entry_at;
 use crate::geometry::Geometry;
-use crate::numbers::{DiskAddress, PublicNumber};
+use crate::numbers::DiskAddress;
+use crate::numbers::PublicNumber;
 ghost use mathlib.Core.Path.{_≡_};
 ghost use Prim.Native.Nat.{_<_};
 ghost use Rattle.model.specs.Layout.{Drive, mapEntry};

@@ -1,5 +1,9 @@
 // Refusals 1 to 3 (document 01, "Public numbers and hidden outcomes"): the number that a disk is refused for, or 0.
-use crate::geometry::{Geometry, block_count, geometry_in, head_in, is_geometry};
+use crate::geometry::Geometry;
+use crate::geometry::block_count;
+use crate::geometry::geometry_in;
+use crate::geometry::head_in;
+use crate::geometry::is_geometry;
 ghost use mathlib.Core.Path.{_≡_};
 ghost use Rattle.model.specs.Refusals.{sizeRefusal, driveRefusal};
 ghost use Rattle.layout.specs.Geometries.{geometryOf};
@@ -25,18 +29,14 @@ pub fn size_fault(len: usize, g: Geometry) -> u8
 pub fn drive_fault(disk: &[u8]) -> u8
     ensures { λ r. ⌜ r ≡ driveRefusal (now (disk .entry)) ⌝ }
 {
-    let len = disk.len();
-    if len < 24 {
+    let bytes = disk.len();
+    if bytes < 24 {
         return 1;
     }
     let g = geometry_in(disk);
-    let fault = size_fault(len, g);
+    let fault = size_fault(bytes, g);
     if fault != 0 {
         return fault;
     }
-    if head_in(disk) < g.slots {
-        0
-    } else {
-        3
-    }
+    if head_in(disk) < g.slots { 0 } else { 3 }
 }

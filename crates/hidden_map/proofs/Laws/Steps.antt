@@ -110,3 +110,31 @@ module _ (g : Geometry) (disk : Bytes) (number : ℕ) (node : Bytes) where
         address-inside =
             rw (← r .address-is) (slotBlock-of g (suc level) entry (r .well-formed) .address-inside);
       }
+
+-- ---- where a walk ends ----
+
+-- an address that a walk ends at is on the drive
+pub found-inside :
+    (g : Geometry) (disk : Bytes) (number level : ℕ) (node : Bytes) (address : DiskAddress) →
+    found address ≡ walkFrom g disk number level node .end → address < blockCount g
+unfolding walkFrom
+found-inside g disk number zero node address e =
+    let entry = entryAt (branchAt g number 0) node in
+    by (eqb entry 0) (isWellFormed g 0 entry) entry (λ f. slotBlock-of g (levelPlace g 0) entry f .address-inside) e
+  where
+    by : (isZero isFormed : Bool) (entry : DiskAddress) → (isFormed ≡ true → entry < blockCount g) →
+        found address ≡ stepBy isZero isFormed entry → address < blockCount g
+    by true isFormed entry inside h = absurd (let z : _≡_ {A = ℕ} 0 1 = cc in omega arith)
+    by false true entry inside h = let same : address ≡ entry = cc in omega (arith, inside refl)
+    by false false entry inside h = absurd (let z : _≡_ {A = ℕ} 0 1 = cc in omega arith)
+found-inside g disk number (suc level) node address e =
+    let entry = entryAt (branchAt g number (suc level)) node in
+    let below = blockAt (g .blockSize) disk entry in
+    by (eqb entry 0) (isWellFormed g (suc level) entry) (passing node (walkFrom g disk number level below))
+    (λ h. found-inside g disk number level below address h) e
+  where
+    by : (isZero isFormed : Bool) (rest : Walk) → (found address ≡ rest .end → address < blockCount g) →
+        found address ≡ walkBy isZero isFormed (ended g node (suc level)) rest .end → address < blockCount g
+    by true isFormed rest inside h = absurd (let z : _≡_ {A = ℕ} 0 1 = cc in omega arith)
+    by false true rest inside h = inside h
+    by false false rest inside h = absurd (let z : _≡_ {A = ℕ} 0 1 = cc in omega arith)

@@ -1,48 +1,57 @@
+-- `mapper::hidden::hidden_fault` meets its contract: the drive's refusals, then the number's, then the walk's.
+-- Assumes nothing.
+use mathlib.Core.Path.{_∙_, sym, ap}
 use borrow.Author.Needs.{needs}
+use Rattle.model.specs.HiddenTree.{isDamaged}
+use Rattle.layout.specs.Geometries.{geometryOf}
+use Rattle.hidden_map.specs.Ends.{endOf}
+use Rattle.mapper.proofs.Laws.Drives.{long-enough, drive-read}
+use Rattle.mapper.proofs.Laws.HiddenReads.{hidden-drive, hidden-number, hidden-damaged, hidden-passes}
 use Rattle.mapper.proofs.hidden.hidden_fault.Statement.{statement}
 use Rattle.mapper.proofs.hidden.hidden_fault.Tie as tie
-use Rattle.mapper.proofs.hidden.hidden_fault.Reads as reads
-use Rattle.mapper.proofs.hidden.hidden_fault.Lts as lts
-use Rattle.hidden_map.proofs.walks.walk.Reads as walk-reads
-use Rattle.layout.proofs.geometry.geometry_in.Reads as geometry-in-reads
-use Rattle.layout.proofs.refusals.drive_fault.Reads as drive-fault-reads
-use Rattle.mapper.proofs.hidden.number_fault.Reads as number-fault-reads
 
--- src/hidden.rt:32:9
 drive-fault-requires : tie.Need-drive-fault-requires
 drive-fault-requires c κs = search needs
 
--- src/hidden.rt:34:9
 returns : tie.Need-returns
-returns c = ?
+returns c =
+    let a = c .before .before .before .before .args in
+    hidden-drive (a .disk .now) (a .number .0) (a .blank .now) (c .before .drive-fault .result) (c .before .drive-fault .ensures)
+    (c .if1 .taken)
 
--- src/hidden.rt:36:9
 geometry-in-requires : tie.Need-geometry-in-requires
-geometry-in-requires c κs = ?
+geometry-in-requires c κs = long-enough (c .before .before .before .before .args .disk .now) (sym (c .before .drive-fault .ensures) ∙ c .if1 .left)
 
--- src/hidden.rt:37:9
 number-fault-requires : tie.Need-number-fault-requires
 number-fault-requires c κs = search needs
 
--- src/hidden.rt:39:9
 returns-2 : tie.Need-returns-2
-returns-2 c = ?
+returns-2 c =
+    let a = c .before .before .before .before .before .before .before .args in
+    hidden-number (a .disk .now) (a .number .0) (a .blank .now) (sym (c .before .before .before .before .drive-fault .ensures) ∙ c .before .before .before .if1 .left)
+    (geometryOf (c .before .before .geometry-in .result)) (c .before .before .geometry-in .ensures) (c .before .number-fault .result) (c .before .number-fault .ensures) (c .if2 .taken)
 
--- src/hidden.rt:41:11
 walk-requires : tie.Need-walk-requires
-walk-requires c κs = ?
+walk-requires c κs =
+    drive-read (c .before .before .before .before .before .before .before .args .disk .now) (sym (c .before .before .before .before .drive-fault .ensures) ∙ c .before .before .before .if1 .left)
+    (geometryOf (c .before .before .geometry-in .result)) (c .before .before .geometry-in .ensures)
 
--- src/hidden.rt:42:29
 enum-told : tie.Need-enum-told
 enum-told c = search needs
 
--- src/hidden.rt:29:1
 returns-3 : tie.Need-returns-3
-returns-3 c = ?
+returns-3 c =
+    let a = c .before .before .before .before .before .before .before .before .before .before .args in
+    hidden-damaged (a .disk .now) (a .number .0) (a .blank .now) (sym (c .before .before .before .before .before .before .before .drive-fault .ensures) ∙ c .before .before .before .before .before .before .if1 .left)
+    (geometryOf (c .before .before .before .before .before .geometry-in .result)) (c .before .before .before .before .before .geometry-in .ensures) (c .before .before .before .before .number-fault .result) (c .before .before .before .before .number-fault .ensures) (c .before .before .before .if2 .left)
+    (endOf (c .before .before .walk .result)) (c .before .before .walk .ensures) ?
 
--- src/hidden.rt:29:1
 returns-4 : tie.Need-returns-4
-returns-4 c = ?
+returns-4 c =
+    let a = c .before .before .before .before .before .before .before .before .before .args in
+    hidden-passes (a .disk .now) (a .number .0) (a .blank .now) (sym (c .before .before .before .before .before .before .drive-fault .ensures) ∙ c .before .before .before .before .before .if1 .left)
+    (geometryOf (c .before .before .before .before .geometry-in .result)) (c .before .before .before .before .geometry-in .ensures) (c .before .before .before .number-fault .result) (c .before .before .before .number-fault .ensures) (c .before .before .if2 .left)
+    (endOf (c .before .walk .result)) (c .before .walk .ensures) ?
 
 pub hidden-fault-spec : {M : Type 1} → statement M
 hidden-fault-spec =

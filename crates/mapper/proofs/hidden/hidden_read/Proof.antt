@@ -1,75 +1,70 @@
+-- `mapper::hidden::hidden_read` meets its contract: what is shown is the block that the walk ends at, the blank, or nothing.
+-- Assumes nothing.
+use mathlib.Core.Path.{_∙_, sym, ap}
 use borrow.Author.Needs.{needs}
+use Rattle.model.specs.HiddenTree.{isDamaged}
+use Rattle.layout.specs.Geometries.{geometryOf}
+use Rattle.hidden_map.specs.Ends.{endOf}
+use Rattle.mapper.proofs.Laws.Drives.{long-enough, drive-read}
+use Rattle.mapper.proofs.Laws.HiddenReads.{hidden-drive, hidden-number, hidden-damaged, end-shown, nothing-shown}
 use Rattle.mapper.proofs.hidden.hidden_read.Statement.{statement}
 use Rattle.mapper.proofs.hidden.hidden_read.Tie as tie
-use Rattle.mapper.proofs.hidden.hidden_read.Reads as reads
-use Rattle.mapper.proofs.hidden.hidden_read.Lts as lts
-use Rattle.hidden_map.proofs.walks.walk.Reads as walk-reads
-use Rattle.layout.proofs.blocks.block_at.Reads as block-at-reads
-use Rattle.layout.proofs.geometry.geometry_in.Reads as geometry-in-reads
-use Rattle.layout.proofs.refusals.drive_fault.Reads as drive-fault-reads
-use Rattle.mapper.proofs.hidden.number_fault.Reads as number-fault-reads
 
--- src/hidden.rt:52:8
 drive-fault-requires : tie.Need-drive-fault-requires
 drive-fault-requires c κs = search needs
 
--- src/hidden.rt:53:9
 slice-aggregate-result : tie.Need-slice-aggregate-result
 slice-aggregate-result c = search needs
 
--- src/hidden.rt:53:9
 returns : tie.Need-returns
-returns c = ?
+returns c =
+    let a = c .before .before .before .before .before .args in
+    let fault = c .before .before .drive-fault in
+    nothing-shown (a .disk .now) (a .number .0) (a .blank .now) (fault .result)
+    (hidden-drive (a .disk .now) (a .number .0) (a .blank .now) (fault .result) (fault .ensures) (c .before .if1 .taken)) (c .before .if1 .taken)
 
--- src/hidden.rt:55:9
 geometry-in-requires : tie.Need-geometry-in-requires
-geometry-in-requires c κs = ?
+geometry-in-requires c κs = long-enough (c .before .before .before .before .args .disk .now) (sym (c .before .drive-fault .ensures) ∙ c .if1 .left)
 
--- src/hidden.rt:56:8
 number-fault-requires : tie.Need-number-fault-requires
 number-fault-requires c κs = search needs
 
--- src/hidden.rt:57:9
 slice-aggregate-result-2 : tie.Need-slice-aggregate-result-2
 slice-aggregate-result-2 c = search needs
 
--- src/hidden.rt:57:9
 returns-2 : tie.Need-returns-2
-returns-2 c = ?
+returns-2 c =
+    let a = c .before .before .before .before .before .before .before .before .args in
+    nothing-shown (a .disk .now) (a .number .0) (a .blank .now) (c .before .before .number-fault .result)
+    (hidden-number (a .disk .now) (a .number .0) (a .blank .now) (sym (c .before .before .before .before .before .drive-fault .ensures) ∙ c .before .before .before .before .if1 .left)
+    (geometryOf (c .before .before .before .geometry-in .result)) (c .before .before .before .geometry-in .ensures) (c .before .before .number-fault .result) (c .before .before .number-fault .ensures) (c .before .if2 .taken)) (c .before .if2 .taken)
 
--- src/hidden.rt:59:11
 walk-requires : tie.Need-walk-requires
-walk-requires c κs = ?
+walk-requires c κs =
+    drive-read (c .before .before .before .before .before .before .before .args .disk .now) (sym (c .before .before .before .before .drive-fault .ensures) ∙ c .before .before .before .if1 .left)
+    (geometryOf (c .before .before .geometry-in .result)) (c .before .before .geometry-in .ensures)
 
--- src/hidden.rt:60:24
 enum-known-address : tie.Need-enum-known-address
 enum-known-address c = search needs
 
--- src/hidden.rt:60:36
 block-at-requires : tie.Need-block-at-requires
 block-at-requires c κs = ?
 
--- src/hidden.rt:61:30
 enum-told : tie.Need-enum-told
 enum-told c = search needs
 
--- src/hidden.rt:62:29
 enum-told-2 : tie.Need-enum-told-2
 enum-told-2 c = search needs
 
--- src/hidden.rt:62:29
 slice-aggregate-result-3 : tie.Need-slice-aggregate-result-3
 slice-aggregate-result-3 c = search needs
 
--- src/hidden.rt:49:1
 returns-3 : tie.Need-returns-3
 returns-3 c = ?
 
--- src/hidden.rt:49:1
 returns-4 : tie.Need-returns-4
 returns-4 c = ?
 
--- src/hidden.rt:49:1
 returns-5 : tie.Need-returns-5
 returns-5 c = ?
 

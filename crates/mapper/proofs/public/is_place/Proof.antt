@@ -1,50 +1,64 @@
+-- `mapper::public::is_place` meets its contract: one law for each way through the tests. Assumes nothing.
+use mathlib.Core.Path.{_∙_}
 use borrow.Author.Needs.{needs}
+use Rattle.layout.specs.Geometries.{geometryOf}
+use Rattle.mapper.proofs.Laws.Places.{isPlace-below, isPlace-past, isPlace-inside-slot, isPlace-front, slot-inside}
 use Rattle.mapper.proofs.public.is_place.Statement.{statement}
 use Rattle.mapper.proofs.public.is_place.Tie as tie
-use Rattle.mapper.proofs.public.is_place.Reads as reads
-use Rattle.mapper.proofs.public.is_place.Lts as lts
-use Rattle.layout.proofs.bitmap.is_allocated.Reads as is-allocated-reads
-use Rattle.layout.proofs.geometry.area_start.Reads as area-start-reads
 
--- src/public.rt:20:9
 area-start-requires : tie.Need-area-start-requires
 area-start-requires c κs = search needs
 
--- src/public.rt:23:17
 add-width : tie.Need-add-width
 add-width c = search needs
 
--- src/public.rt:25:9
 returns : tie.Need-returns
-returns c = ?
+returns c =
+    let s = c .before .before .before .before in
+    let a = s .args in
+    let start = c .before .before .area-start in
+    isPlace-below (geometryOf (a .g)) (a .disk .now) (a .entry .0) (start .result .0) (start .ensures) (c .if1 .taken)
 
--- src/public.rt:28:8
 mul-if2 : tie.Need-mul-if2
 mul-if2 c = search needs
 
--- src/public.rt:29:9
 returns-2 : tie.Need-returns-2
-returns-2 c = ?
+returns-2 c =
+    let s = c .before .before .before .before .before .before in
+    let a = s .args in
+    let start = c .before .before .before .before .area-start in
+    isPlace-past (geometryOf (a .g)) (a .disk .now) (a .entry .0) (start .result .0) (start .ensures) (c .before .before .if1 .left) (c .if2 .taken)
 
--- src/public.rt:31:8
 rem-if3 : tie.Need-rem-if3
 rem-if3 c = search needs
 
--- src/public.rt:32:9
 returns-3 : tie.Need-returns-3
-returns-3 c = ?
+returns-3 c =
+    let s = c .before .before .before .before .before .before .before in
+    let a = s .args in
+    let start = c .before .before .before .before .before .area-start in
+    isPlace-inside-slot (geometryOf (a .g)) (a .disk .now) (a .entry .0) (start .result .0) (start .ensures)
+    (c .before .before .before .if1 .left) (c .before .if2 .left) (c .if3 .taken)
 
--- src/public.rt:34:27
 div-is-allocated : tie.Need-div-is-allocated
 div-is-allocated c = search needs
 
--- src/public.rt:34:5
 is-allocated-requires : tie.Need-is-allocated-requires
-is-allocated-requires c κs = ?
+is-allocated-requires c κs =
+    let s = c .before .before .before .before .before .before .before in
+    let a = s .args in
+    let start = c .before .before .before .before .before .area-start in
+    (s .pre, slot-inside (geometryOf (a .g)) (a .disk .now) (a .entry .0) (start .result .0) (start .ensures)
+    (c .before .before .before .if1 .left) (c .before .if2 .left))
 
--- src/public.rt:16:1
 returns-4 : tie.Need-returns-4
-returns-4 c = ?
+returns-4 c =
+    let s = c .before .before .before .before .before .before .before .before in
+    let a = s .args in
+    let start = c .before .before .before .before .before .before .area-start in
+    c .is-allocated .ensures
+    ∙ isPlace-front (geometryOf (a .g)) (a .disk .now) (a .entry .0) (start .result .0) (start .ensures)
+    (c .before .before .before .before .if1 .left) (c .before .before .if2 .left) (c .before .if3 .left)
 
 pub is-place-spec : {M : Type 1} → statement M
 is-place-spec =

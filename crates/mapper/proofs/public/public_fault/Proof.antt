@@ -1,31 +1,34 @@
+-- `mapper::public::public_fault` meets its contract: the drive's refusals, then the number's. Assumes nothing.
+use mathlib.Core.Path.{_∙_, sym}
 use borrow.Author.Needs.{needs}
+use Rattle.layout.specs.Geometries.{geometryOf}
+use Rattle.mapper.proofs.Laws.Drives.{long-enough, drive-read}
+use Rattle.mapper.proofs.Laws.PublicReads.{public-drive, public-place}
 use Rattle.mapper.proofs.public.public_fault.Statement.{statement}
 use Rattle.mapper.proofs.public.public_fault.Tie as tie
-use Rattle.mapper.proofs.public.public_fault.Reads as reads
-use Rattle.mapper.proofs.public.public_fault.Lts as lts
-use Rattle.layout.proofs.geometry.geometry_in.Reads as geometry-in-reads
-use Rattle.layout.proofs.refusals.drive_fault.Reads as drive-fault-reads
-use Rattle.mapper.proofs.public.place_fault.Reads as place-fault-reads
 
--- src/public.rt:64:9
 drive-fault-requires : tie.Need-drive-fault-requires
 drive-fault-requires c κs = search needs
 
--- src/public.rt:66:9
 returns : tie.Need-returns
-returns c = ?
+returns c =
+    let a = c .before .before .before .before .args in
+    public-drive (a .disk .now) (a .number .0) (a .blank .now) (c .before .drive-fault .result) (c .before .drive-fault .ensures)
+    (c .if1 .taken)
 
--- src/public.rt:68:23
 geometry-in-requires : tie.Need-geometry-in-requires
-geometry-in-requires c κs = ?
+geometry-in-requires c κs = long-enough (c .before .before .before .before .args .disk .now) (sym (c .before .drive-fault .ensures) ∙ c .if1 .left)
 
--- src/public.rt:68:5
 place-fault-requires : tie.Need-place-fault-requires
-place-fault-requires c κs = ?
+place-fault-requires c κs =
+    drive-read (c .before .before .before .before .before .args .disk .now) (sym (c .before .before .drive-fault .ensures) ∙ c .before .if1 .left)
+    (geometryOf (c .geometry-in .result)) (c .geometry-in .ensures)
 
--- src/public.rt:61:1
 returns-2 : tie.Need-returns-2
-returns-2 c = ?
+returns-2 c =
+    let a = c .before .before .before .before .before .before .args in
+    public-place (a .disk .now) (a .number .0) (a .blank .now) (sym (c .before .before .before .drive-fault .ensures) ∙ c .before .before .if1 .left)
+    (geometryOf (c .before .geometry-in .result)) (c .before .geometry-in .ensures) (c .place-fault .result) (c .place-fault .ensures)
 
 pub public-fault-spec : {M : Type 1} → statement M
 public-fault-spec =

@@ -4,7 +4,9 @@ use mathlib.Core.Path.{_∙_, sym, ap}
 use borrow.Author.Needs.{needs}
 use Rattle.model.specs.HiddenTree.{isDamaged}
 use Rattle.layout.specs.Geometries.{geometryOf}
+use Rattle.hidden_map.specs.declared.walks.Reached.{Reached}
 use Rattle.hidden_map.specs.Ends.{endOf}
+use Rattle.hidden_map.proofs.Laws.Answers.{isDamaged-endOf}
 use Rattle.mapper.proofs.Laws.Drives.{long-enough, drive-read}
 use Rattle.mapper.proofs.Laws.HiddenReads.{hidden-drive, hidden-number, hidden-damaged, hidden-passes}
 use Rattle.mapper.proofs.hidden.hidden_fault.Statement.{statement}
@@ -44,14 +46,14 @@ returns-3 c =
     let a = c .before .before .before .before .before .before .before .before .before .before .args in
     hidden-damaged (a .disk .now) (a .number .0) (a .blank .now) (sym (c .before .before .before .before .before .before .before .drive-fault .ensures) ∙ c .before .before .before .before .before .before .if1 .left)
     (geometryOf (c .before .before .before .before .before .geometry-in .result)) (c .before .before .before .before .before .geometry-in .ensures) (c .before .before .before .before .number-fault .result) (c .before .before .before .before .number-fault .ensures) (c .before .before .before .if2 .left)
-    (endOf (c .before .before .walk .result)) (c .before .before .walk .ensures) ?
+    (endOf (c .before .before .walk .result)) (c .before .before .walk .ensures) (ap (λ (answer : Reached). isDamaged (endOf answer)) (c .enum-told .given .1))
 
 returns-4 : tie.Need-returns-4
 returns-4 c =
     let a = c .before .before .before .before .before .before .before .before .before .args in
     hidden-passes (a .disk .now) (a .number .0) (a .blank .now) (sym (c .before .before .before .before .before .before .drive-fault .ensures) ∙ c .before .before .before .before .before .if1 .left)
     (geometryOf (c .before .before .before .before .geometry-in .result)) (c .before .before .before .before .geometry-in .ensures) (c .before .before .before .number-fault .result) (c .before .before .before .number-fault .ensures) (c .before .before .if2 .left)
-    (endOf (c .before .walk .result)) (c .before .walk .ensures) ?
+    (endOf (c .before .walk .result)) (c .before .walk .ensures) (isDamaged-endOf (c .before .walk .result) (c .match .keys2))
 
 pub hidden-fault-spec : {M : Type 1} → statement M
 hidden-fault-spec =

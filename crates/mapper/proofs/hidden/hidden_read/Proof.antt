@@ -1,10 +1,15 @@
 -- `mapper::hidden::hidden_read` meets its contract: what is shown is the block that the walk ends at, the blank, or nothing.
 -- Assumes nothing.
-use mathlib.Core.Path.{_∙_, sym, ap}
+use mathlib.Core.Path.{_≡_, refl, _∙_, sym, ap}
+use Prim.Native.Nat.{_-_}
+use native.Mathlib.Omega.{arith}
 use borrow.Author.Needs.{needs}
-use Rattle.model.specs.HiddenTree.{isDamaged}
+use Rattle.model.specs.Geometry.{rootAddress}
+use Rattle.model.specs.Blocks.{blockAt}
+use Rattle.model.specs.HiddenTree.{found, unmapped, damaged}
 use Rattle.layout.specs.Geometries.{geometryOf}
 use Rattle.hidden_map.specs.Ends.{endOf}
+use Rattle.hidden_map.proofs.Laws.Steps.{found-inside}
 use Rattle.mapper.proofs.Laws.Drives.{long-enough, drive-read}
 use Rattle.mapper.proofs.Laws.HiddenReads.{hidden-drive, hidden-number, hidden-damaged, end-shown, nothing-shown}
 use Rattle.mapper.proofs.hidden.hidden_read.Statement.{statement}
@@ -48,7 +53,14 @@ enum-known-address : tie.Need-enum-known-address
 enum-known-address c = search needs
 
 block-at-requires : tie.Need-block-at-requires
-block-at-requires c κs = ?
+block-at-requires c κs =
+    let a = c .before .before .before .before .before .before .before .before .before .before .before .args in
+    let g = geometryOf (c .before .before .before .before .before .before .geometry-in .result) in
+    let address = c .before .address .given in
+    let e = sym (ap endOf (address .1)) ∙ c .before .before .before .walk .ensures in
+    (drive-read (a .disk .now) (sym (c .before .before .before .before .before .before .before .before .drive-fault .ensures) ∙ c .before .before .before .before .before .before .before .if1 .left) (geometryOf (c .before .before .before .before .before .before .geometry-in .result)) (c .before .before .before .before .before .before .geometry-in .ensures),
+    found-inside g (a .disk .now) (a .number .0) (g .height - 1)
+    (blockAt (g .blockSize) (a .disk .now) (rootAddress g)) (address .0 .0 .0) e)
 
 enum-told : tie.Need-enum-told
 enum-told c = search needs
@@ -60,13 +72,28 @@ slice-aggregate-result-3 : tie.Need-slice-aggregate-result-3
 slice-aggregate-result-3 c = search needs
 
 returns-3 : tie.Need-returns-3
-returns-3 c = ?
+returns-3 c =
+    let a = c .before .before .before .before .before .before .before .before .before .before .before .before .args in
+    let address = c .before .before .address .given in
+    let e = sym (ap endOf (address .1)) ∙ c .before .before .before .before .walk .ensures in
+    c .block-at .ensures
+    ∙ end-shown (a .disk .now) (a .number .0) (a .blank .now) (sym (c .before .before .before .before .before .before .before .before .before .drive-fault .ensures) ∙ c .before .before .before .before .before .before .before .before .if1 .left) (geometryOf (c .before .before .before .before .before .before .before .geometry-in .result)) (c .before .before .before .before .before .before .before .geometry-in .ensures)
+    (c .before .before .before .before .before .before .number-fault .result) (c .before .before .before .before .before .before .number-fault .ensures) (c .before .before .before .before .before .if2 .left) (found (address .0 .0 .0)) e refl
 
 returns-4 : tie.Need-returns-4
-returns-4 c = ?
+returns-4 c =
+    let a = c .before .before .before .before .before .before .before .before .before .before .args in
+    let e = sym (ap endOf (c .enum-told .given .1)) ∙ c .before .before .walk .ensures in
+    end-shown (a .disk .now) (a .number .0) (a .blank .now) (sym (c .before .before .before .before .before .before .before .drive-fault .ensures) ∙ c .before .before .before .before .before .before .if1 .left) (geometryOf (c .before .before .before .before .before .geometry-in .result)) (c .before .before .before .before .before .geometry-in .ensures)
+    (c .before .before .before .before .number-fault .result) (c .before .before .before .before .number-fault .ensures) (c .before .before .before .if2 .left) unmapped e refl
 
 returns-5 : tie.Need-returns-5
-returns-5 c = ?
+returns-5 c =
+    let a = c .before .before .before .before .before .before .before .before .before .before .before .args in
+    let e = sym (ap endOf (c .before .enum-told2 .given .1)) ∙ c .before .before .before .walk .ensures in
+    nothing-shown (a .disk .now) (a .number .0) (a .blank .now) 12
+    (hidden-damaged (a .disk .now) (a .number .0) (a .blank .now) (sym (c .before .before .before .before .before .before .before .before .drive-fault .ensures) ∙ c .before .before .before .before .before .before .before .if1 .left) (geometryOf (c .before .before .before .before .before .before .geometry-in .result)) (c .before .before .before .before .before .before .geometry-in .ensures)
+    (c .before .before .before .before .before .number-fault .result) (c .before .before .before .before .before .number-fault .ensures) (c .before .before .before .before .if2 .left) damaged e refl) (λ z. omega arith)
 
 pub hidden-read-spec : {M : Type 1} → statement M
 hidden-read-spec =

@@ -1,5 +1,4 @@
--- Laws of the bitmap's stores: one as a changed block, both from one after the other, and that they lean on the bitmap
--- alone. Assumes nothing.
+-- Laws of the bitmap's stores: both from one after the other, and that they lean on the bitmap alone. Assumes nothing.
 use mathlib.Core.Path.{_≡_, sym, ap, ap₂, subst, _∙_}
 use mathlib.Core.Bool.{Bool, true, false, cond}
 use mathlib.Core.Logic.{_⊎_, inl, inr, _≢_}
@@ -28,16 +27,6 @@ use Rattle.public_half.specs.Entries.{OldEntry}
 pub old-block : (g : Geometry) (entry : DiskAddress) → OldEntry g entry → entry ≢ 0 → isSlotBlock g 0 entry ≡ true
 old-block g entry (inl e) ne = absurd (ne e)
 old-block g entry (inr e) ne = e
-
--- ---- one bit ----
-
--- a bitmap block with one bit changed
-pub bitStore-changed :
-    (g : Geometry) (disk : Bytes) (slot : ℕ) (isSet : Bool) (address place : ℕ) →
-    address ≡ bitAddress g slot → place ≡ bitPlace g slot →
-    store address (setBit place isSet (blockAt (g .blockSize) disk address)) ≡ bitStore g disk slot isSet
-unfolding bitmapWith
-bitStore-changed g disk slot isSet address place e p = rw (e, p)
 
 -- ---- both bits ----
 

@@ -11,13 +11,15 @@ use Rattle.model.specs.Geometry.{Geometry, blockCount}
 use Rattle.model.specs.Blocks.{Bytes, DiskAddress, blockAt}
 use Rattle.model.specs.Layout.{Drive, slotStart, bitAddress, mapAddress, mapEntry}
 use Rattle.model.specs.Stores.{Trace, addresses}
-use Rattle.model.specs.Table.{writePublic}
 use Rattle.model.specs.Rounds.{mapStore, bitStore, bitStores, mapStores}
 use Rattle.model.proofs.Laws.Geometry.{mapAddress-lt, bitAddress-ge}
 use Rattle.model.proofs.Laws.PublicMap.{length-mapBlockWith}
 use Rattle.model.proofs.Laws.Stores.{All, Stored}
 use Rattle.stores.specs.Made.{Made}
-use Rattle.stores.proofs.Laws.Made.{made-then, drive-made, blockAt-made-outside}
+use Rattle.stores.proofs.Laws.Made.{made-nothing, made-then, drive-made, blockAt-made-outside}
+use Rattle.table.specs.Rows.{publicOf}
+use Rattle.table.specs.declared.PublicChoice.{PublicChoice}
+use Rattle.table.specs.declared.PublicChoice.the-variants.{Keep, Write}
 use Rattle.public_half.proofs.Laws.Bits.{bitStores-block}
 
 length-bitStores-le : (g : Geometry) (disk : Bytes) (entry : DiskAddress) (slot : ℕ) → length (bitStores g disk entry slot) ≤ 2
@@ -25,6 +27,17 @@ unfolding bitStores
 length-bitStores-le g disk entry slot =
     cond-cases (λ (xs : Trace). length (bitStore g disk slot true ∷ xs) ≤ 2) (eqb entry 0) (λ e. omega arith)
     (λ e. omega arith)
+
+-- ---- a kept round ----
+
+pub made-map-kept :
+    (g : Geometry) (disk : Bytes) (number slot : ℕ) (choice : PublicChoice) → choice ≡ Keep →
+    (list : List DiskAddress) (next : ℕ) → next ≤ length list →
+    Made (g .blockSize) (mapStores (publicOf choice) g disk number slot) disk list next disk list next
+unfolding mapStores
+made-map-kept g disk number slot choice p list next h = rw p (made-nothing (g .blockSize) disk list next h)
+
+-- ---- a round that takes the call's data ----
 
 module _ (g : Geometry) (disk : Bytes) (drive : Drive g disk) (number slot : ℕ) (counted : number < g .publics)
     (inside : slot < g .slots) {middle : Bytes} {list listed : List DiskAddress} {next place : ℕ}
@@ -46,14 +59,16 @@ module _ (g : Geometry) (disk : Bytes) (drive : Drive g disk) (number slot : ℕ
       ((λ e. omega (arith, mapAddress-lt g (drive .fits) number counted, bitAddress-ge g other)), tt)
 
   pub made-map :
-      {after : Bytes} {last-list : List DiskAddress} {last : ℕ} → next + 3 ≤ length list →
-      Made (g .blockSize) (bitStores g middle (mapEntry g disk number) slot) middle listed place after last-list last →
-      Made (g .blockSize) (mapStores writePublic g disk number slot) disk list next after last-list last
+      {after : Bytes} {noted : List DiskAddress} {last : ℕ} (choice : PublicChoice) → choice ≡ Write →
+      (entry : DiskAddress) → entry ≡ mapEntry g disk number → next + 3 ≤ length list →
+      Made (g .blockSize) (bitStores g middle entry slot) middle listed place after noted last →
+      Made (g .blockSize) (mapStores (publicOf choice) g disk number slot) disk list next after noted last
   unfolding mapStores
-  made-map {after} {last-list} {last} room bits =
-      made-then (mapStore g disk number slot ∷ []) (bitStores g disk (mapEntry g disk number) slot)
-      (omega (arith, length-bitStores-le g disk (mapEntry g disk number) slot)) entered
-      (subst (λ (trace : Trace). Made (g .blockSize) trace middle listed place after last-list last)
+  made-map {after} {noted} {last} choice p entry e room bits =
+      rw (p, ← e)
+      (made-then (mapStore g disk number slot ∷ []) (bitStores g disk entry slot)
+      (omega (arith, length-bitStores-le g disk entry slot)) entered
+      (subst (λ (trace : Trace). Made (g .blockSize) trace middle listed place after noted last)
       (bitStores-block g (drive .fits) middle disk (drive-made g entered drive mapStore-stored .whole) (drive .whole)
-      bitmap-kept (mapEntry g disk number) slot inside)
-      bits)
+      bitmap-kept entry slot inside)
+      bits))

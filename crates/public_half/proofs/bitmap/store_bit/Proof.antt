@@ -1,14 +1,10 @@
 -- `store_bit` meets its contract: the slot's bitmap block is one of the drive's, and its bit stands in it. Assumes nothing.
-use mathlib.Core.Path.{subst}
-use mathlib.Core.List.{[], _∷_}
 use native.Mathlib.Omega.{arith}
 use borrow.Author.Needs.{needs}
-use Rattle.model.specs.Stores.{Store}
 use Rattle.model.proofs.Laws.Bitmap.{bitPlace-byte-lt}
 use Rattle.model.proofs.Laws.Geometry.{bitAddress-lt}
 use Rattle.layout.specs.Geometries.{geometryOf}
-use Rattle.stores.specs.Made.{Made}
-use Rattle.public_half.proofs.Laws.Bits.{bitStore-changed}
+use Rattle.public_half.proofs.Laws.Stores.{made-store, bitStore-changed}
 use Rattle.public_half.proofs.bitmap.store_bit.Statement.{statement}
 use Rattle.public_half.proofs.bitmap.store_bit.Tie as tie
 
@@ -45,10 +41,7 @@ returns c =
     let placed = stored .before .before .before in
     let start = placed .before .before .before .before in
     let g = geometryOf (start .args .g) in
-    subst
-    (λ (x : Store).
-    Made (g .blockSize) (x ∷ []) (start .args .disk .now) (start .args .list .now) (start .args .next)
-    (stored .store-changed .last .0) (stored .store-changed .last .1 .0) (stored .store-changed .result))
+    made-store
     (bitStore-changed g (start .args .disk .now) (start .args .slot) (start .args .is-set)
     (placed .before .bit-address .result .0) (placed .bit-place .result) (placed .before .bit-address .ensures)
     (placed .bit-place .ensures))

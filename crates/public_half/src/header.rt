@@ -18,6 +18,7 @@ pub fn store_header(disk: &mut [u8], list: &mut [u32], next: usize, g: Geometry,
     requires { ⌜ next < length (now list) ⌝ }
     ensures { λ r. ⌜ Made (geometryOf g .blockSize) (headerStore (geometryOf g) (now (disk .entry)) slot ∷ []) (now (disk .entry)) (now (list .entry)) next (now (disk .exit)) (now (list .exit)) r ⌝ }
 {
-    let head = (slot + 1) % g.slots;
+    let slots = g.slots;
+    let head = (slot + 1) % slots;
     store_changed(disk, list, next, g, DiskAddress(0), Change::Entry(5, head))
 }

@@ -40,7 +40,9 @@ fn store_bit(
     requires { ⌜ Drive (geometryOf g) (now disk) ⌝ }
     requires { ⌜ slot < g .slots ⌝ }
     requires { ⌜ next < length (now list) ⌝ }
-    ensures { λ r. ⌜ Made (geometryOf g .blockSize) (bitStore (geometryOf g) (now (disk .entry)) slot «is_set» ∷ []) (now (disk .entry)) (now (list .entry)) next (now (disk .exit)) (now (list .exit)) r ⌝ }
+    ensures { λ r. ⌜ Made (geometryOf g .blockSize)
+        (bitStore (geometryOf g) (now (disk .entry)) slot «is_set» ∷ [])
+        (now (disk .entry)) (now (list .entry)) next (now (disk .exit)) (now (list .exit)) r ⌝ }
 {
     let address = bit_address(g, slot);
     let place = bit_place(g, slot);
@@ -60,7 +62,9 @@ pub fn store_bits(
     requires { ⌜ slot < g .slots ⌝ }
     requires { ⌜ OldEntry (geometryOf g) (entry .0) ⌝ }
     requires { ⌜ next + 2 ≤ length (now list) ⌝ }
-    ensures { λ r. ⌜ Made (geometryOf g .blockSize) (bitStores (geometryOf g) (now (disk .entry)) (entry .0) slot) (now (disk .entry)) (now (list .entry)) next (now (disk .exit)) (now (list .exit)) r ⌝ }
+    ensures { λ r. ⌜ Made (geometryOf g .blockSize)
+        (bitStores (geometryOf g) (now (disk .entry)) (entry .0) slot)
+        (now (disk .entry)) (now (list .entry)) next (now (disk .exit)) (now (list .exit)) r ⌝ }
 {
     let place = store_bit(disk, list, next, g, slot, true);
     if entry.0 == 0 {

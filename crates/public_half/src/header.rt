@@ -16,7 +16,8 @@ pub fn store_header(disk: &mut [u8], list: &mut [u32], next: usize, g: Geometry,
     requires { ⌜ Drive (geometryOf g) (now disk) ⌝ }
     requires { ⌜ slot < g .slots ⌝ }
     requires { ⌜ next < length (now list) ⌝ }
-    ensures { λ r. ⌜ Made (geometryOf g .blockSize) (headerStore (geometryOf g) (now (disk .entry)) slot ∷ []) (now (disk .entry)) (now (list .entry)) next (now (disk .exit)) (now (list .exit)) r ⌝ }
+    ensures { λ r. ⌜ Made (geometryOf g .blockSize) (headerStore (geometryOf g) (now (disk .entry)) slot ∷ [])
+        (now (disk .entry)) (now (list .entry)) next (now (disk .exit)) (now (list .exit)) r ⌝ }
 {
     let slots = g.slots;
     let head = (slot + 1) % slots;

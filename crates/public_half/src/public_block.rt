@@ -29,7 +29,9 @@ pub fn store_public(
     requires { ⌜ slot < g .slots ⌝ }
     requires { ⌜ length (now content) ≡ geometryOf g .blockSize ⌝ }
     requires { ⌜ next < length (now list) ⌝ }
-    ensures { λ r. ⌜ Made (geometryOf g .blockSize) (publicStore (publicOf choice) (geometryOf g) (now (disk .entry)) slot (now (content .entry)) ∷ []) (now (disk .entry)) (now (list .entry)) next (now (disk .exit)) (now (list .exit)) r ⌝ }
+    ensures { λ r. ⌜ Made (geometryOf g .blockSize)
+        (publicStore (publicOf choice) (geometryOf g) (now (disk .entry)) slot (now (content .entry)) ∷ [])
+        (now (disk .entry)) (now (list .entry)) next (now (disk .exit)) (now (list .exit)) r ⌝ }
 {
     let address = slot_start(g, slot);
     match choice {

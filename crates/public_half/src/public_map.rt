@@ -8,7 +8,6 @@ use layout::public_map::map_entry;
 use stores::blocks::store_changed;
 use stores::changes::Change;
 use table::PublicChoice;
-ghost use mathlib.Core.Path.{_≡_};
 ghost use mathlib.Core.List.{[], _∷_};
 ghost use Prim.Native.Nat.{_+_, _≤_, _<_};
 ghost use lib.ListN.{length};
@@ -32,7 +31,9 @@ fn store_entry(
     requires { ⌜ number .0 < g .publics ⌝ }
     requires { ⌜ slot < g .slots ⌝ }
     requires { ⌜ next < length (now list) ⌝ }
-    ensures { λ r. ⌜ Made (geometryOf g .blockSize) (mapStore (geometryOf g) (now (disk .entry)) (number .0) slot ∷ []) (now (disk .entry)) (now (list .entry)) next (now (disk .exit)) (now (list .exit)) r ⌝ }
+    ensures { λ r. ⌜ Made (geometryOf g .blockSize)
+        (mapStore (geometryOf g) (now (disk .entry)) (number .0) slot ∷ [])
+        (now (disk .entry)) (now (list .entry)) next (now (disk .exit)) (now (list .exit)) r ⌝ }
 {
     let fanout = g.block_size / 4;
     let address = DiskAddress(1 + number.0 / fanout);
@@ -41,8 +42,8 @@ fn store_entry(
     store_changed(disk, list, next, g, address, Change::Entry(index, start.0))
 }
 
-// Stores what only a round that takes the call's data stores before its header: the number's entry, then the bits. The
-// number's old entry is read before any store.
+// Stores what only a round that takes the call's data stores before its header: the number's entry, then the
+// bits. The number's old entry is read before any store.
 pub fn store_map(
     disk: &mut [u8],
     list: &mut [u32],
@@ -57,7 +58,9 @@ pub fn store_map(
     requires { ⌜ slot < g .slots ⌝ }
     requires { ⌜ OldEntry (geometryOf g) (mapEntry (geometryOf g) (now disk) (number .0)) ⌝ }
     requires { ⌜ next + 3 ≤ length (now list) ⌝ }
-    ensures { λ r. ⌜ Made (geometryOf g .blockSize) (mapStores (publicOf choice) (geometryOf g) (now (disk .entry)) (number .0) slot) (now (disk .entry)) (now (list .entry)) next (now (disk .exit)) (now (list .exit)) r ⌝ }
+    ensures { λ r. ⌜ Made (geometryOf g .blockSize)
+        (mapStores (publicOf choice) (geometryOf g) (now (disk .entry)) (number .0) slot)
+        (now (disk .entry)) (now (list .entry)) next (now (disk .exit)) (now (list .exit)) r ⌝ }
 {
     match choice {
         PublicChoice::Keep => next,

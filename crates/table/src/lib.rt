@@ -1,5 +1,5 @@
-// The table of eight rows (document 01, "A round"): what a round does with the public block and with the hidden blocks
-// of its slot, as a constant that is looked up by three answers.
+// The table of eight rows (document 01, "A round"): what a round does with the public block and with the
+// hidden blocks of its slot, as a constant that is looked up by three answers.
 ghost use mathlib.Core.Path.{_≡_};
 ghost use Prim.Native.Nat.{_≤_, _<_};
 ghost use Rattle.model.specs.Table.{digit, rowIndex, rowAt};

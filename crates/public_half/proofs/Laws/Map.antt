@@ -1,4 +1,5 @@
--- Laws of all stores of map and bitmap: the entry's store, then the bits', which the entry leaves alone. Assumes nothing.
+-- Laws of all stores of map and bitmap: the entry's store, then the bits', which the entry leaves alone.
+-- Assumes nothing.
 use mathlib.Core.Path.{_≡_, subst}
 use mathlib.Core.Bool.{true}
 use mathlib.Core.List.{List, [], _∷_}
@@ -9,7 +10,7 @@ use lib.ListN.{length}
 use Rattle.laws.proofs.Cases.{cond-cases}
 use Rattle.model.specs.Geometry.{Geometry, blockCount}
 use Rattle.model.specs.Blocks.{Bytes, DiskAddress, blockAt}
-use Rattle.model.specs.Layout.{Drive, slotStart, bitAddress, mapAddress, mapEntry}
+use Rattle.model.specs.Layout.{Drive, slotStart, bitAddress, mapEntry}
 use Rattle.model.specs.Stores.{Trace, addresses}
 use Rattle.model.specs.Rounds.{mapStore, bitStore, bitStores, mapStores}
 use Rattle.model.proofs.Laws.Geometry.{mapAddress-lt, bitAddress-ge}
@@ -22,7 +23,8 @@ use Rattle.table.specs.declared.PublicChoice.{PublicChoice}
 use Rattle.table.specs.declared.PublicChoice.the-variants.{Keep, Write}
 use Rattle.public_half.proofs.Laws.Bits.{bitStores-block}
 
-length-bitStores-le : (g : Geometry) (disk : Bytes) (entry : DiskAddress) (slot : ℕ) → length (bitStores g disk entry slot) ≤ 2
+length-bitStores-le : (g : Geometry) (disk : Bytes) (entry : DiskAddress) (slot : ℕ) →
+    length (bitStores g disk entry slot) ≤ 2
 unfolding bitStores
 length-bitStores-le g disk entry slot =
     cond-cases (λ (xs : Trace). length (bitStore g disk slot true ∷ xs) ≤ 2) (eqb entry 0) (λ e. omega arith)
@@ -39,9 +41,11 @@ made-map-kept g disk number slot choice p list next h = rw p (made-nothing (g .b
 
 -- ---- a round that takes the call's data ----
 
-module _ (g : Geometry) (disk : Bytes) (drive : Drive g disk) (number slot : ℕ) (counted : number < g .publics)
-    (inside : slot < g .slots) {middle : Bytes} {list listed : List DiskAddress} {next place : ℕ}
-    (entered : Made (g .blockSize) (mapStore g disk number slot ∷ []) disk list next middle listed place) where
+module _ (g : Geometry) (disk : Bytes) (drive : Drive g disk) (number slot : ℕ)
+    (counted : number < g .publics) (inside : slot < g .slots)
+    {middle : Bytes} {list listed : List DiskAddress} {next place : ℕ}
+    (entered :
+    Made (g .blockSize) (mapStore g disk number slot ∷ []) disk list next middle listed place) where
   mapStore-stored : All (Stored (g .blockSize) (blockCount g)) (mapStore g disk number slot ∷ [])
   mapStore-stored = (
     (
@@ -52,7 +56,8 @@ module _ (g : Geometry) (disk : Bytes) (drive : Drive g disk) (number slot : ℕ
   )
 
   bitmap-kept :
-      (other : ℕ) → blockAt (g .blockSize) middle (bitAddress g other) ≡ blockAt (g .blockSize) disk (bitAddress g other)
+      (other : ℕ) →
+      blockAt (g .blockSize) middle (bitAddress g other) ≡ blockAt (g .blockSize) disk (bitAddress g other)
   unfolding addresses
   bitmap-kept other =
       blockAt-made-outside entered (blockCount g) (bitAddress g other) (drive .whole) mapStore-stored
@@ -69,6 +74,6 @@ module _ (g : Geometry) (disk : Bytes) (drive : Drive g disk) (number slot : ℕ
       (made-then (mapStore g disk number slot ∷ []) (bitStores g disk entry slot)
       (omega (arith, length-bitStores-le g disk entry slot)) entered
       (subst (λ (trace : Trace). Made (g .blockSize) trace middle listed place after noted last)
-      (bitStores-block g (drive .fits) middle disk (drive-made g entered drive mapStore-stored .whole) (drive .whole)
-      bitmap-kept entry slot inside)
+      (bitStores-block g (drive .fits) middle disk (drive-made g entered drive mapStore-stored .whole)
+      (drive .whole) bitmap-kept entry slot inside)
       bits))

@@ -1,5 +1,5 @@
--- One store of the public half as the store of a block with a change or none, whose address and change are the code's.
--- Assumes nothing.
+-- One store of the public half as the store of a block with a change or none, whose address and change are
+-- the code's. Assumes nothing.
 use mathlib.Core.Path.{_≡_, subst}
 use mathlib.Core.Bool.{Bool}
 use mathlib.Core.List.{List, [], _∷_}
@@ -18,13 +18,15 @@ use Rattle.table.specs.declared.PublicChoice.the-variants.{Keep, Write}
 -- what one store made, an equal one made
 pub made-store :
     {width : ℕ} {x y : Store} {disk after : Bytes} {list entered : List DiskAddress} {next last : ℕ} → x ≡ y →
-    Made width (x ∷ []) disk list next after entered last → Made width (y ∷ []) disk list next after entered last
+    Made width (x ∷ []) disk list next after entered last →
+    Made width (y ∷ []) disk list next after entered last
 made-store {width} {x} {y} {disk} {after} {list} {entered} {next} {last} e made =
     subst (λ (z : Store). Made width (z ∷ []) disk list next after entered last) e made
 
 -- ---- the public block ----
 
-module _ (g : Geometry) (disk : Bytes) (slot : ℕ) (content : Bytes) (choice : PublicChoice) (address : DiskAddress) where
+module _ (g : Geometry) (disk : Bytes) (slot : ℕ) (content : Bytes) (choice : PublicChoice)
+    (address : DiskAddress) where
   pub publicStore-kept :
       choice ≡ Keep → address ≡ slotStart g slot →
       store address (blockAt (g .blockSize) disk address) ≡ publicStore (publicOf choice) g disk slot content

@@ -1,5 +1,5 @@
--- `row_at` meets its contract: at each of the eight ways the constant holds the row of `model`'s table, by computation.
--- Assumes nothing.
+-- `row_at` meets its contract: at each of the eight ways the constant holds the row of `model`'s table, by
+-- computation. Assumes nothing.
 use mathlib.Core.Path.{_≡_, refl, ap, _∙_}
 use mathlib.Core.Bool.{Bool, true, false}
 use mathlib.Core.List.{List, [], _∷_}
@@ -53,7 +53,8 @@ array-copy-out-result c = search needs
 returns : tie.Need-returns
 returns c =
     let start = c .before .before .args in
-    ap (λ (index : ℕ). rowOf (getD rows index (row public.Keep hidden.Keep))) (c .before .row-index .ensures .0)
+    ap (λ (index : ℕ). rowOf (getD rows index (row public.Keep hidden.Keep)))
+    (c .before .row-index .ensures .0)
     ∙ rows-right (start .is-waiting) (start .is-allocated) (start .is-live)
 
 pub row-at-spec : {M : Type 1} → statement M

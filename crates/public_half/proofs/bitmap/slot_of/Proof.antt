@@ -1,4 +1,5 @@
--- `slot_of` meets its contract: a public block stands at the start of the data area or after it. Assumes nothing.
+-- `slot_of` meets its contract: a public block stands at the start of the data area or after it.
+-- Assumes nothing.
 use mathlib.Core.Path.{ap}
 use Prim.Native.Nat.{ℕ, _+_, _-_, _/_}
 use native.Mathlib.Omega.{arith}
@@ -29,7 +30,8 @@ div-result c = search needs
 returns : tie.Need-returns
 returns c =
     let start = c .before .before .before .before .args in
-    ap (λ (n : ℕ). (start .address .0 - n) / (start .g .height + 1)) (c .before .before .before .area-start .ensures)
+    ap (λ (n : ℕ). (start .address .0 - n) / (start .g .height + 1))
+    (c .before .before .before .area-start .ensures)
 
 pub slot-of-spec : {M : Type 1} → statement M
 slot-of-spec = tie.close (tie.spec area-start-requires sub-result add-result div-result returns)

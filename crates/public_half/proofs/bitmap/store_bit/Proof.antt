@@ -1,4 +1,5 @@
--- `store_bit` meets its contract: the slot's bitmap block is one of the drive's, and its bit stands in it. Assumes nothing.
+-- `store_bit` meets its contract: the slot's bitmap block is one of the drive's, and its bit stands in it.
+-- Assumes nothing.
 use native.Mathlib.Omega.{arith}
 use borrow.Author.Needs.{needs}
 use Rattle.model.proofs.Laws.Bitmap.{bitPlace-byte-lt}
@@ -21,7 +22,11 @@ store-changed-requires c κs =
     let g = geometryOf (start .args .g) in (
       start .pre .0,
       (
-        omega (arith, placed .before .bit-address .ensures, bitAddress-lt g (start .pre .0 .fits) (start .args .slot) (start .pre .1 .0)),
+        omega (
+          arith,
+          placed .before .bit-address .ensures,
+          bitAddress-lt g (start .pre .0 .fits) (start .args .slot) (start .pre .1 .0),
+        ),
         (
           rw (placed .bit-place .ensures) (bitPlace-byte-lt g (start .pre .0 .fits) (start .args .slot)),
           start .pre .1 .1,
@@ -43,11 +48,12 @@ returns c =
     let g = geometryOf (start .args .g) in
     made-store
     (bitStore-changed g (start .args .disk .now) (start .args .slot) (start .args .is-set)
-    (placed .before .bit-address .result .0) (placed .bit-place .result) (placed .before .bit-address .ensures)
-    (placed .bit-place .ensures))
+    (placed .before .bit-address .result .0) (placed .bit-place .result)
+    (placed .before .bit-address .ensures) (placed .bit-place .ensures))
     (stored .store-changed .ensures)
 
 pub store-bit-spec : {M : Type 1} → statement M
 store-bit-spec =
     tie.close
-    (tie.spec bit-address-requires bit-place-requires store-changed-requires same-length same-length-2 returns)
+    (tie.spec bit-address-requires bit-place-requires store-changed-requires same-length same-length-2
+    returns)

@@ -1,5 +1,5 @@
--- `store_bits` meets its contract: the new bit's store, and after it the old bit's, on the disk that the first one left.
--- Assumes nothing.
+-- `store_bits` meets its contract: the new bit's store, and after it the old bit's, on the disk that the
+-- first one left. Assumes nothing.
 use mathlib.Core.Path.{_≡_, subst, _∙_}
 use mathlib.Core.Bool.{true, false}
 use mathlib.Core.List.{[], _∷_}
@@ -41,7 +41,9 @@ old-place c =
     old-block (geometryOf (start .args .g)) (start .args .entry .0) (start .pre .1 .1 .0) (c .if1 .left)
 
 slot-of-requires : tie.Need-slot-of-requires
-slot-of-requires c κs = (c .before .before .before .before .before .before .before .before .before .before .before .pre .0 .fits, old-place c)
+slot-of-requires c κs =
+    let start = c .before .before .before .before .before .before .before .before .before .before .before in
+    (start .pre .0 .fits, old-place c)
 
 store-bit-requires-2 : tie.Need-store-bit-requires-2
 store-bit-requires-2 c κs =
@@ -51,8 +53,14 @@ store-bit-requires-2 c κs =
     let g = geometryOf (start .args .g) in (
       record { fits = start .pre .0 .fits; whole = stored .store-bit .kept .0 ∙ start .pre .0 .whole },
       (
-        rw (found .slot-of .ensures) (slotBlock-of g 0 (start .args .entry .0) (old-place (found .before)) .slot-inside),
-        omega (arith, stored .store-bit .ensures .counted, stored .store-bit .kept .1 .0, start .pre .1 .1 .1),
+        rw (found .slot-of .ensures)
+            (slotBlock-of g 0 (start .args .entry .0) (old-place (found .before)) .slot-inside),
+        omega (
+          arith,
+          stored .store-bit .ensures .counted,
+          stored .store-bit .kept .1 .0,
+          start .pre .1 .1 .1,
+        ),
       ),
     )
 
@@ -69,8 +77,8 @@ returns-2 c =
     let first = found .before .before .before .before .before .before .before in
     let start = first .before .before .before .before .before in
     let g = geometryOf (start .args .g) in
-    made-bits-some g (start .args .slot) (start .args .entry .0) (found .before .if1 .left) (start .pre .1 .1 .1)
-    (first .store-bit .ensures)
+    made-bits-some g (start .args .slot) (start .args .entry .0) (found .before .if1 .left)
+    (start .pre .1 .1 .1) (first .store-bit .ensures)
     (subst
     (λ (slot : ℕ).
     Made (g .blockSize) (bitStore g (first .store-bit .last .0) slot false ∷ []) (first .store-bit .last .0)

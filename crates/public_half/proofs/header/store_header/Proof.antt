@@ -1,4 +1,5 @@
--- `store_header` meets its contract: block 0 is one of the drive's, and its sixth entry stands in it. Assumes nothing.
+-- `store_header` meets its contract: block 0 is one of the drive's, and its sixth entry stands in it.
+-- Assumes nothing.
 use native.Mathlib.Omega.{arith}
 use borrow.Author.Needs.{needs}
 use Rattle.public_half.proofs.header.store_header.Statement.{statement}
@@ -25,4 +26,5 @@ returns : tie.Need-returns
 returns c = c .before .before .before .before .store-changed .ensures
 
 pub store-header-spec : {M : Type 1} → statement M
-store-header-spec = tie.close (tie.spec add-head rem-head store-changed-requires same-length same-length-2 returns)
+store-header-spec =
+    tie.close (tie.spec add-head rem-head store-changed-requires same-length same-length-2 returns)

@@ -1,5 +1,5 @@
--- `store_public` meets its contract: a slot's public block is one of the drive's, stored with no change or with the
--- call's data. Assumes nothing.
+-- `store_public` meets its contract: a slot's public block is one of the drive's, stored with no change or
+-- with the call's data. Assumes nothing.
 use Prim.Native.Nat.{_<_}
 use native.Mathlib.Omega.{arith}
 use borrow.Author.Needs.{needs}
@@ -15,10 +15,15 @@ slot-start-requires c κs = search needs
 
 -- the slot's public block stands on the disk
 inside :
-    (c : tie.After-slot-start) → c .slot-start .result .0 < blockCount (geometryOf (c .before .before .before .before .args .g))
+    (c : tie.After-slot-start) →
+    c .slot-start .result .0 < blockCount (geometryOf (c .before .before .before .before .args .g))
 inside c =
     let start = c .before .before .before .before in
-    omega (arith, c .slot-start .ensures, slot-block-lt (geometryOf (start .args .g)) (start .args .slot) 0 (start .pre .1 .0) (omega arith))
+    omega (
+      arith,
+      c .slot-start .ensures,
+      slot-block-lt (geometryOf (start .args .g)) (start .args .slot) 0 (start .pre .1 .0) (omega arith),
+    )
 
 enum-told : tie.Need-enum-told
 enum-told c = search needs
@@ -51,8 +56,8 @@ returns c =
     let placed = told .before .before in
     let start = placed .before .before .before .before .args in
     made-store
-    (publicStore-kept (geometryOf (start .g)) (start .disk .now) (start .slot) (start .content .now) (start .choice)
-    (placed .slot-start .result .0) (told .enum-told .given .1) (placed .slot-start .ensures))
+    (publicStore-kept (geometryOf (start .g)) (start .disk .now) (start .slot) (start .content .now)
+    (start .choice) (placed .slot-start .result .0) (told .enum-told .given .1) (placed .slot-start .ensures))
     (stored .store-changed .ensures)
 
 same-length-3 : tie.Need-same-length-3
@@ -68,12 +73,13 @@ returns-2 c =
     let placed = told .before .before in
     let start = placed .before .before .before .before .args in
     made-store
-    (publicStore-written (geometryOf (start .g)) (start .disk .now) (start .slot) (start .content .now) (start .choice)
-    (placed .slot-start .result .0) (told .enum-told2 .given .1) (placed .slot-start .ensures))
+    (publicStore-written (geometryOf (start .g)) (start .disk .now) (start .slot) (start .content .now)
+    (start .choice) (placed .slot-start .result .0) (told .enum-told2 .given .1)
+    (placed .slot-start .ensures))
     (stored .store-block .ensures)
 
 pub store-public-spec : {M : Type 1} → statement M
 store-public-spec =
     tie.close
-    (tie.spec slot-start-requires enum-told store-changed-requires enum-told-2 store-block-requires same-length
-    same-length-2 returns same-length-3 same-length-4 returns-2)
+    (tie.spec slot-start-requires enum-told store-changed-requires enum-told-2 store-block-requires
+    same-length same-length-2 returns same-length-3 same-length-4 returns-2)

@@ -1,7 +1,6 @@
--- `store_entry` meets its contract: the number's map block is one of the drive's, and its entry stands in it. Assumes
--- nothing.
+-- `store_entry` meets its contract: the number's map block is one of the drive's, and its entry stands in it.
+-- Assumes nothing.
 use native.Mathlib.Omega.{arith}
-use native.Mathlib.Nat.{div-le-self, mod-lt}
 use borrow.Author.Needs.{needs}
 use Rattle.model.proofs.Laws.Geometry.{mapAddress-lt}
 use Rattle.model.proofs.Laws.PublicMap.{map-index-fits}
@@ -17,7 +16,11 @@ add-t12 : tie.Need-add-t12
 add-t12 c =
     let start = c .before .before .before .before in
     let g = geometryOf (start .args .g) in
-    omega (arith, start .pre .0 .fits .blocks-high, mapAddress-lt g (start .pre .0 .fits) (start .args .number .0) (start .pre .1 .0))
+    omega (
+      arith,
+      start .pre .0 .fits .blocks-high,
+      mapAddress-lt g (start .pre .0 .fits) (start .args .number .0) (start .pre .1 .0),
+    )
 
 rem-index : tie.Need-rem-index
 rem-index c = search needs
@@ -26,7 +29,11 @@ cast-index : tie.Need-cast-index
 cast-index c =
     let start = c .before .before .before .before .before in
     let g = geometryOf (start .args .g) in
-    omega (arith, start .pre .0 .fits .size-high, map-index-fits g (start .pre .0 .fits) (start .args .number .0))
+    omega (
+      arith,
+      start .pre .0 .fits .size-high,
+      map-index-fits g (start .pre .0 .fits) (start .args .number .0),
+    )
 
 slot-start-requires : tie.Need-slot-start-requires
 slot-start-requires c κs = search needs
@@ -61,5 +68,5 @@ returns c =
 pub store-entry-spec : {M : Type 1} → statement M
 store-entry-spec =
     tie.close
-    (tie.spec div-t11 add-t12 rem-index cast-index slot-start-requires store-changed-requires same-length same-length-2
-    returns)
+    (tie.spec div-t11 add-t12 rem-index cast-index slot-start-requires store-changed-requires same-length
+    same-length-2 returns)

@@ -1,5 +1,5 @@
--- `store_map` meets its contract: a kept round stores nothing; else the entry, then the bits, whose blocks the entry's
--- store leaves alone. Assumes nothing.
+-- `store_map` meets its contract: a kept round stores nothing; else the entry, then the bits, whose blocks
+-- the entry's store leaves alone. Assumes nothing.
 use mathlib.Core.Path.{_∙_, sym, subst}
 use native.Mathlib.Omega.{arith}
 use borrow.Author.Needs.{needs}
@@ -30,8 +30,14 @@ store-bits-requires c κs =
       (
         start .pre .1 .1 .0,
         (
-          subst (OldEntry (geometryOf (start .args .g))) (sym (read .map-entry .ensures)) (start .pre .1 .1 .1 .0),
-          omega (arith, entered .store-entry .ensures .counted, entered .store-entry .kept .1 .0, start .pre .1 .1 .1 .1),
+          subst (OldEntry (geometryOf (start .args .g))) (sym (read .map-entry .ensures))
+              (start .pre .1 .1 .1 .0),
+          omega (
+            arith,
+            entered .store-entry .ensures .counted,
+            entered .store-entry .kept .1 .0,
+            start .pre .1 .1 .1 .1,
+          ),
         ),
       ),
     )
@@ -39,8 +45,9 @@ store-bits-requires c κs =
 returns : tie.Need-returns
 returns c =
     let start = c .before .before .before .before in
-    made-map-kept (geometryOf (start .args .g)) (start .args .disk .now) (start .args .number .0) (start .args .slot)
-    (start .args .choice) (c .enum-told .given .1) (start .args .list .now) (start .args .next) (omega (arith, start .pre .1 .1 .1 .1))
+    made-map-kept (geometryOf (start .args .g)) (start .args .disk .now) (start .args .number .0)
+    (start .args .slot) (start .args .choice) (c .enum-told .given .1) (start .args .list .now)
+    (start .args .next) (omega (arith, start .pre .1 .1 .1 .1))
 
 same-length : tie.Need-same-length
 same-length c = search needs
@@ -55,12 +62,12 @@ returns-2 c =
     let read = entered .before .before .before in
     let start = read .before .before .before .before .before .before in
     made-map (geometryOf (start .args .g)) (start .args .disk .now) (start .pre .0) (start .args .number .0)
-    (start .args .slot) (start .pre .1 .0) (start .pre .1 .1 .0) (entered .store-entry .ensures) (start .args .choice)
-    (read .before .before .enum-told2 .given .1) (read .map-entry .result .0) (read .map-entry .ensures) (start .pre .1 .1 .1 .1)
-    (stored .store-bits .ensures)
+    (start .args .slot) (start .pre .1 .0) (start .pre .1 .1 .0) (entered .store-entry .ensures)
+    (start .args .choice) (read .before .before .enum-told2 .given .1) (read .map-entry .result .0)
+    (read .map-entry .ensures) (start .pre .1 .1 .1 .1) (stored .store-bits .ensures)
 
 pub store-map-spec : {M : Type 1} → statement M
 store-map-spec =
     tie.close
-    (tie.spec enum-told enum-told-2 map-entry-requires store-entry-requires store-bits-requires returns same-length
-    same-length-2 returns-2)
+    (tie.spec enum-told enum-told-2 map-entry-requires store-entry-requires store-bits-requires returns
+    same-length same-length-2 returns-2)

@@ -1,6 +1,6 @@
 // The nodes of a walk, read one after another, zeros for those that it did not reach.
-use crate::copies::clear_at;
-use crate::copies::copy_at;
+use copies::clear_at;
+use copies::copy_at;
 use crate::walks::Reached;
 use crate::walks::step;
 use layout::geometry::Geometry;

@@ -1,18 +1,18 @@
--- Laws of formatting: zeros written one after another, entries written one after another, and the header over
--- zeros as the front of a fresh drive. Assumes nothing.
+-- Laws of formatting: entries written one after another, and the header over zeros as the front of a fresh drive.
+-- Assumes nothing.
 use mathlib.Core.Path.{_≡_, refl, sym, ap, _∙_}
 use mathlib.Core.Logic.{_≢_}
 use mathlib.Core.List.{List, [], _∷_, _++_, append-assoc, append-nil}
-use Prim.Native.Nat.{ℕ, zero, suc, _+_, _*_, _-_, _≤_, _<_}
+use Prim.Native.Nat.{ℕ, zero, suc, _+_, _*_, _-_, _≤_}
 use native.Mathlib.Nat.{suc-mul, mul-le-mul-right}
 use native.Mathlib.Omega.{arith}
-use lib.ListN.{length, drop, set, replicate, length-append, length-replicate, replicate-append-replicate}
+use lib.ListN.{length, drop, replicate, length-append, replicate-append-replicate}
 use lib.Seq.{drop-at}
 use borrow.Author.Tests.{eq-eqb, ne-eqb}
 use Rattle.laws.specs.Lists.{over}
 use Rattle.laws.specs.Numbers.{littleEndian}
 use Rattle.laws.proofs.Cases.{cond-true, cond-false}
-use Rattle.laws.proofs.Lists.{length-over, over-append, over-nil, over-one}
+use Rattle.laws.proofs.Lists.{over-append, over-nil}
 use Rattle.laws.proofs.Numbers.{length-littleEndian}
 use Rattle.model.specs.Geometry.{Geometry, Fits, areaStart, blockCount}
 use Rattle.model.specs.Blocks.{Bytes, setEntry, packed}
@@ -21,44 +21,6 @@ use Rattle.model.specs.Refusals.{formatRefusal}
 use Rattle.model.specs.Calls.{headerBlock, freshFront, formatted}
 use Rattle.model.proofs.Laws.Entries.{length-packed}
 use Rattle.mapper.specs.Headers.{headerEntries}
-
--- ---- zeros one after another ----
-
-over-zeros-next :
-    (bytes : Bytes) (i : ℕ) → i < length bytes →
-    set (over 0 (replicate i 0) bytes) i 0 ≡ over 0 (replicate (i + 1) 0) bytes
-over-zeros-next bytes i h =
-    let zeros : Bytes = replicate i 0 in
-    let size : length zeros ≡ i = length-replicate i 0 in
-    let inside : 0 + length zeros ≤ length bytes = omega arith in
-    let next : i < length (over 0 zeros bytes) = omega (arith, length-over zeros bytes 0 inside) in
-    let end : 0 + length zeros ≡ i = omega arith in
-    sym (over-one (over 0 zeros bytes) i 0 next)
-    ∙ ap (λ (n : ℕ). over n (0 ∷ []) (over 0 zeros bytes)) (sym end)
-    ∙ over-append zeros bytes 0 inside (0 ∷ []) (omega arith)
-    ∙ ap (λ (xs : Bytes). over 0 xs bytes) (replicate-append-replicate i 1 0)
-
--- the first bytes of a size are 0 already, the others as they were
-pub record Cleared (old : Bytes) (size : ℕ) (bytes : Bytes) (i : ℕ) : Type 0 where
-  pub within : i ≤ size
-  pub cleared : bytes ≡ over 0 (replicate i 0) old
-
-pub cleared-none : (old : Bytes) (size : ℕ) → Cleared old size old 0
-cleared-none old size = record { within = omega arith; cleared = sym (over-nil 0 old (omega arith)) }
-
-module _ {old : Bytes} {size : ℕ} {bytes : Bytes} {i : ℕ} (before : Cleared old size bytes i)
-    (inside : size ≤ length old) where
-  pub cleared-length : length bytes ≡ length old
-  cleared-length =
-      ap length (before .cleared)
-      ∙ length-over (replicate i 0) old 0 (omega (arith, before .within, length-replicate {A = ℕ} i 0))
-
-  pub cleared-next : i < size → Cleared old size (set bytes i 0) (i + 1)
-  cleared-next h =
-      record {
-        within = omega arith;
-        cleared = ap (λ (xs : Bytes). set xs i 0) (before .cleared) ∙ over-zeros-next old i (omega arith);
-      }
 
 -- ---- entries one after another ----
 

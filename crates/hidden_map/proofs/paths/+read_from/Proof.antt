@@ -19,7 +19,7 @@ use Rattle.hidden_map.proofs.Laws.Steps.{walkFrom-goes}
 use Rattle.hidden_map.proofs.paths.read_from.Reads as read-from
 use Rattle.hidden_map.proofs.paths.read_from.Kinds as read-from-kinds
 use Rattle.hidden_map.proofs.paths.+read_from.Lts-read_from as read-from-lts
-use Rattle.hidden_map.proofs.copies.clear_at.Reads as clear-at-reads
+use Rattle.copies.proofs.clear_at.Reads as clear-at-reads
 use Rattle.hidden_map.proofs.paths.copy_node.Reads as copy-node-reads
 use Rattle.hidden_map.proofs.walks.step.Reads as step-reads
 use Rattle.hidden_map.proofs.paths.+read_from.{statement}

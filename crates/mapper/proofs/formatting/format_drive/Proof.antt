@@ -17,10 +17,10 @@ use Rattle.mapper.proofs.formatting.format_drive.Statement.{statement}
 use Rattle.mapper.proofs.formatting.format_drive.Tie as tie
 
 -- the places before: the zeros written, the area's start asked for, and the size accepted
-abbrev after-zeros : tie.After-slice-known3 → tie.After-clear-front
+abbrev after-zeros : tie.After-slice-known3 → tie.After-clear-at
 after-zeros c = c .before .before .before .before .before .before
 
-abbrev after-start : tie.After-clear-front → tie.After-area-start
+abbrev after-start : tie.After-clear-at → tie.After-area-start
 after-start c = c .before .before .before .before
 
 abbrev start : tie.Else1 → tie.Start
@@ -60,22 +60,22 @@ returns c =
 area-start-requires : tie.Need-area-start-requires
 area-start-requires c κs = sized c .fits
 
-cast-clear-front : tie.Need-cast-clear-front
-cast-clear-front c = search needs
+cast-clear-at : tie.Need-cast-clear-at
+cast-clear-at c = search needs
 
-cast-clear-front-2 : tie.Need-cast-clear-front-2
-cast-clear-front-2 c = search needs
+cast-clear-at-2 : tie.Need-cast-clear-at-2
+cast-clear-at-2 c = search needs
 
-mul-clear-front : tie.Need-mul-clear-front
-mul-clear-front c = omega (arith, front (c .before .before .before))
+mul-clear-at : tie.Need-mul-clear-at
+mul-clear-at c = omega (arith, front (c .before .before .before))
 
-clear-front-requires : tie.Need-clear-front-requires
-clear-front-requires c κs = front (c .before .before .before)
+clear-at-requires : tie.Need-clear-at-requires
+clear-at-requires c κs = omega (arith, front (c .before .before .before))
 
 put-header-requires : tie.Need-put-header-requires
 put-header-requires c κs =
     let z = c .before .before .before in
-    omega (arith, sized (after-start z .before) .long, z .clear-front .kept .0)
+    omega (arith, sized (after-start z .before) .long, z .clear-at .kept .0)
 
 same-length : tie.Need-same-length
 same-length c = search needs
@@ -91,7 +91,7 @@ returns-2 c =
     ap (λ (n : ℕ). over 0 (replicate (n * g .blockSize) 0) (s .disk .now)) (a .area-start .ensures) in (
       sym e,
       c .before .before .put-header .ensures
-          ∙ ap (over 0 (packed (headerEntries g))) (z .clear-front .ensures ∙ zeros)
+          ∙ ap (over 0 (packed (headerEntries g))) (z .clear-at .ensures ∙ zeros)
           ∙ header-over-zeros g (sized (a .before) .fits) (s .disk .now)
           ∙ formatted-accepted (s .disk .now) g e,
     )
@@ -103,10 +103,10 @@ format-drive-spec =
     size-fault-requires
     returns
     area-start-requires
-    cast-clear-front
-    cast-clear-front-2
-    mul-clear-front
-    clear-front-requires
+    cast-clear-at
+    cast-clear-at-2
+    mul-clear-at
+    clear-at-requires
     put-header-requires
     same-length
     returns-2)

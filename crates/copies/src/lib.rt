@@ -1,4 +1,4 @@
-// Bytes copied and cleared.
+// Bytes copied into a lent buffer, and bytes cleared.
 ghost use mathlib.Core.Path.{_≡_};
 ghost use Prim.Native.Nat.{_+_, _≤_};
 ghost use lib.ListN.{length, replicate};

@@ -1,5 +1,6 @@
-// Which entry a hidden number takes at each level, and which addresses are well formed there. An entry of level j stands
-// in a node of level j + 1 and leads to a block of level j: level 0, hidden data, stands in a leaf.
+// Which entry a hidden number takes at each level, and which addresses are well formed there. An entry of
+// level j stands in a node of level j + 1 and leads to a block of level j: an entry of level 0 stands in a
+// leaf.
 use layout::numbers::DiskAddress;
 use layout::numbers::HiddenNumber;
 ghost use mathlib.Core.Path.{_≡_};
@@ -9,7 +10,8 @@ ghost use Rattle.model.specs.Layout.{isWellFormed};
 ghost use Rattle.model.specs.HiddenTree.{branchAt};
 ghost use Rattle.hidden_map.specs.Trees.{AreaOf};
 
-// The index of a number's entry of a level in its node: its place in the leaf, above it a digit of the leaf in base F.
+// The index of a number's entry of a level in its node: its place in the leaf, above it a digit of the leaf
+// in base F.
 pub fn branch_at(size: u32, number: HiddenNumber, level: u32) -> usize
     requires { ⌜ (32 ≤ size) × (size ≤ 4096) ⌝ }
     requires { ⌜ level ≤ 3 ⌝ }
@@ -39,7 +41,8 @@ pub fn is_well_formed(
     address: DiskAddress,
 ) -> bool
     requires { ⌜ height ≤ 4 ⌝ }
-    ensures { λ r. ⌜ ((g : Geometry) → AreaOf g height (start .0) count → r ≡ isWellFormed g level (address .0)) ⌝ }
+    ensures { λ r. ⌜ ((g : Geometry) → AreaOf g height (start .0) count →
+        r ≡ isWellFormed g level (address .0)) ⌝ }
 {
     let first = start.0;
     let at = address.0;

@@ -23,7 +23,8 @@ ghost use Rattle.hidden_map.specs.Paths.{PathRead, WholePath};
 fn copy_node(disk: &[u8], size: u32, address: DiskAddress, nodes: &mut [u8], at: usize)
     requires { ⌜ address .0 * size + size ≤ length (now disk) ⌝ }
     requires { ⌜ at + size ≤ length (now nodes) ⌝ }
-    ensures { λ _. ⌜ now (nodes .exit) ≡ over at (blockAt size (now (disk .entry)) (address .0)) (now (nodes .entry)) ⌝ }
+    ensures { λ _. ⌜ now (nodes .exit) ≡
+        over at (blockAt size (now (disk .entry)) (address .0)) (now (nodes .entry)) ⌝ }
 {
     let width = size as usize;
     let from = (address.0 as usize) * width;
@@ -31,7 +32,8 @@ fn copy_node(disk: &[u8], size: u32, address: DiskAddress, nodes: &mut [u8], at:
     copy_at(nodes, at, &disk[from..to]);
 }
 
-// Reads the nodes of the walk from the node at an address down to the bytes from an index on, and says where it ends.
+// Reads the nodes of the walk from the node at an address down to the bytes from an index on, and says where
+// it ends.
 fn read_from(
     disk: &[u8],
     size: u32,
@@ -47,7 +49,10 @@ fn read_from(
     requires { ⌜ Walkable (now disk) size height (start .0) count ⌝ }
     requires { ⌜ (level < height) × (address .0 < count) ⌝ }
     requires { ⌜ at + suc level * size ≤ length (now nodes) ⌝ }
-    ensures { λ r. ⌜ ((g : model.Geometry) → TreeOf g (now (disk .entry)) size height (start .0) count → PathRead (walkFrom g (now (disk .entry)) (number .0) level (blockAt (g .blockSize) (now (disk .entry)) (address .0))) r at (now (nodes .entry)) (now (nodes .exit))) ⌝ }
+    ensures { λ r. ⌜ ((g : model.Geometry) → TreeOf g (now (disk .entry)) size height (start .0) count →
+        let node = blockAt (g .blockSize) (now (disk .entry)) (address .0) in
+        let path = walkFrom g (now (disk .entry)) (number .0) level node in
+        PathRead path r at (now (nodes .entry)) (now (nodes .exit))) ⌝ }
 {
     copy_node(disk, size, address, nodes, at);
     let next = step(disk, size, height, start, count, number, level, address);

@@ -36,7 +36,8 @@ pub fn step(
 ) -> Reached
     requires { ⌜ Walkable (now disk) size height (start .0) count ⌝ }
     requires { ⌜ (level < height) × (address .0 < count) ⌝ }
-    ensures { λ r. ⌜ ((g : model.Geometry) → TreeOf g (now (disk .entry)) size height (start .0) count → endOf r ≡ stepOf g (number .0) level (blockAt (g .blockSize) (now (disk .entry)) (address .0))) ⌝ }
+    ensures { λ r. ⌜ ((g : model.Geometry) → TreeOf g (now (disk .entry)) size height (start .0) count →
+        endOf r ≡ stepOf g (number .0) level (blockAt (g .blockSize) (now (disk .entry)) (address .0))) ⌝ }
 {
     let before = (address.0 as usize) * (size as usize / 4);
     let entry = entry_at(disk, before + branch_at(size, number, level));
@@ -49,7 +50,8 @@ pub fn step(
     Reached::Damaged
 }
 
-// Where the walk for a number ends, from the node at an address down, by the level of the entry that it takes there.
+// Where the walk for a number ends, from the node at an address down, by the level of the entry that it takes
+// there.
 fn walk_from(
     disk: &[u8],
     size: u32,
@@ -62,7 +64,9 @@ fn walk_from(
 ) -> Reached
     requires { ⌜ Walkable (now disk) size height (start .0) count ⌝ }
     requires { ⌜ (level < height) × (address .0 < count) ⌝ }
-    ensures { λ r. ⌜ ((g : model.Geometry) → TreeOf g (now (disk .entry)) size height (start .0) count → endOf r ≡ tree.walkFrom g (now (disk .entry)) (number .0) level (blockAt (g .blockSize) (now (disk .entry)) (address .0)) .end) ⌝ }
+    ensures { λ r. ⌜ ((g : model.Geometry) → TreeOf g (now (disk .entry)) size height (start .0) count →
+        let node = blockAt (g .blockSize) (now (disk .entry)) (address .0) in
+        endOf r ≡ tree.walkFrom g (now (disk .entry)) (number .0) level node .end) ⌝ }
 {
     let next = step(disk, size, height, start, count, number, level, address);
     if level == 0 {

@@ -1,8 +1,11 @@
 // The hidden volume: refusals 10 to 12, and the hidden read.
-use hidden_map::walks::{Reached, walk};
+use hidden_map::walks::Reached;
+use hidden_map::walks::walk;
 use layout::blocks::block_at;
-use layout::geometry::{Geometry, geometry_in};
-use layout::numbers::{DiskAddress, HiddenNumber};
+use layout::geometry::Geometry;
+use layout::geometry::geometry_in;
+use layout::numbers::DiskAddress;
+use layout::numbers::HiddenNumber;
 use layout::refusals::drive_fault;
 ghost use mathlib.Core.Path.{_≡_};
 ghost use Rattle.laws.specs.Checks.{firstOf};
@@ -44,8 +47,8 @@ pub fn hidden_fault(disk: &[u8], number: HiddenNumber, blank: &[u8]) -> u8
     }
 }
 
-// A hidden number's block, as a part of the disk; the blank for a number never placed; an empty part of the blank where
-// the read is refused.
+// A hidden number's block, as a part of the disk; the blank for a number never placed; an empty part of the
+// blank where the read is refused.
 pub fn hidden_read<'a>(disk: &'a [u8], number: HiddenNumber, blank: &'a [u8]) -> &'a [u8]
     ensures { λ r. ⌜ now r ≡ hiddenRead (now (disk .entry)) (number .0) (now (blank .entry)) ⌝ }
 {

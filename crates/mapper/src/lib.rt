@@ -5,7 +5,7 @@ mod public; // refusals 4 to 6, and the public read
 mod hidden; // refusals 10 to 12, and the hidden read
 
 pub use formatting::format_drive;
-pub use public::public_fault;
-pub use public::public_read;
 pub use hidden::hidden_fault;
 pub use hidden::hidden_read;
+pub use public::public_fault;
+pub use public::public_read;

@@ -1,8 +1,11 @@
 // The public volume: refusals 4 to 6, and the public read.
 use layout::bitmap::is_allocated;
 use layout::blocks::block_at;
-use layout::geometry::{Geometry, area_start, geometry_in};
-use layout::numbers::{DiskAddress, PublicNumber};
+use layout::geometry::Geometry;
+use layout::geometry::area_start;
+use layout::geometry::geometry_in;
+use layout::numbers::DiskAddress;
+use layout::numbers::PublicNumber;
 use layout::public_map::map_entry;
 use layout::refusals::drive_fault;
 ghost use mathlib.Core.Path.{_≡_};
@@ -68,8 +71,8 @@ pub fn public_fault(disk: &[u8], number: PublicNumber, blank: &[u8]) -> u8
     place_fault(disk, geometry_in(disk), number, blank.len())
 }
 
-// A public number's block, as a part of the disk; the blank for a number never placed; an empty part of the blank where
-// the read is refused.
+// A public number's block, as a part of the disk; the blank for a number never placed; an empty part of the
+// blank where the read is refused.
 pub fn public_read<'a>(disk: &'a [u8], number: PublicNumber, blank: &'a [u8]) -> &'a [u8]
     ensures { λ r. ⌜ now r ≡ publicRead (now (disk .entry)) (number .0) (now (blank .entry)) ⌝ }
 {
@@ -77,9 +80,9 @@ pub fn public_read<'a>(disk: &'a [u8], number: PublicNumber, blank: &'a [u8]) ->
         return &blank[..0];
     }
     let g = geometry_in(disk);
-    let entry = map_entry(disk, g, number);
-    if entry.0 == 0 {
+    let address = map_entry(disk, g, number);
+    if address.0 == 0 {
         return blank;
     }
-    block_at(disk, g, entry)
+    block_at(disk, g, address)
 }

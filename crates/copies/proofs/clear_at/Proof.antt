@@ -58,4 +58,5 @@ returns c =
 pub clear-at-spec : {M : Type 1} → statement M
 clear-at-spec =
     tie.close
-    (tie.spec Inv-loop μ-loop loop-holds add-target slice-write-target add-i loop-less loop-again same-length returns)
+    (tie.spec Inv-loop μ-loop loop-holds add-target slice-write-target add-i loop-less loop-again same-length
+    returns)

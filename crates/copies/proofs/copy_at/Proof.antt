@@ -56,5 +56,6 @@ returns c =
 pub copy-at-spec : {M : Type 1} → statement M
 copy-at-spec =
     tie.close
-    (tie.spec Inv-loop μ-loop loop-holds shared-slice-read-target add-target slice-write-target add-i loop-less
+    (tie.spec Inv-loop μ-loop loop-holds shared-slice-read-target add-target slice-write-target add-i
+    loop-less
     loop-again same-length returns)

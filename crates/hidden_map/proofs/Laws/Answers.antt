@@ -1,5 +1,5 @@
--- A walk's answer by its tag: one that is not `Found` is no found end, and one that is not `Damaged` no damaged end.
--- Assumes nothing.
+-- A walk's answer by its tag: one that is not `Found` is no found end, and one that is not `Damaged` no
+-- damaged end. Assumes nothing.
 use mathlib.Core.Path.{_≡_, refl}
 use mathlib.Core.Logic.{_⊎_, ⊎-elim}
 use mathlib.Core.Bool.{false}
@@ -19,7 +19,8 @@ isFound-endOf Unmapped h = refl
 isFound-endOf Damaged h = refl
 
 pub isDamaged-endOf :
-    (answer : Reached) → (tagOf the-type answer ≡ 0) ⊎ (tagOf the-type answer ≡ 1) → isDamaged (endOf answer) ≡ false
+    (answer : Reached) → (tagOf the-type answer ≡ 0) ⊎ (tagOf the-type answer ≡ 1) →
+    isDamaged (endOf answer) ≡ false
 isDamaged-endOf (Found address) h = refl
 isDamaged-endOf Unmapped h = refl
 isDamaged-endOf Damaged h = absurd (⊎-elim (λ e. omega arith) (λ e. omega arith) h)

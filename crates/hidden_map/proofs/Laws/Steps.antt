@@ -120,7 +120,8 @@ pub found-inside :
 unfolding walkFrom
 found-inside g disk number zero node address e =
     let entry = entryAt (branchAt g number 0) node in
-    by (eqb entry 0) (isWellFormed g 0 entry) entry (λ f. slotBlock-of g (levelPlace g 0) entry f .address-inside) e
+    by (eqb entry 0) (isWellFormed g 0 entry) entry
+    (λ f. slotBlock-of g (levelPlace g 0) entry f .address-inside) e
   where
     by : (isZero isFormed : Bool) (entry : DiskAddress) → (isFormed ≡ true → entry < blockCount g) →
         found address ≡ stepBy isZero isFormed entry → address < blockCount g

@@ -1,5 +1,5 @@
--- Laws of the hidden read: refusals 10 and 11, the refusals of the read after the drive's, and what it shows, one law for
--- each way through. Assumes nothing.
+-- Laws of the hidden read: refusals 10 and 11, the refusals of the read after the drive's, and what it shows,
+-- one law for each way through. Assumes nothing.
 use mathlib.Core.Path.{_≡_, sym, ap, _∙_}
 use mathlib.Core.Logic.{_≢_}
 use mathlib.Core.Bool.{true, false, not}
@@ -10,7 +10,8 @@ use lib.ListN.{length}
 use borrow.Author.Tests.{le-leb, lt-leb, eq-eqb, ne-eqb}
 use Rattle.laws.specs.Checks.{firstOf}
 use Rattle.laws.proofs.Cases.{cond-true, cond-false}
-use Rattle.laws.proofs.Checks.{firstOf-nil, firstOf-stop, firstOf-pass, firstOf-append-stop, firstOf-append-pass, passed-of-zero}
+use Rattle.laws.proofs.Checks.{firstOf-nil, firstOf-stop, firstOf-pass, firstOf-append-stop}
+use Rattle.laws.proofs.Checks.{firstOf-append-pass, passed-of-zero}
 use Rattle.model.specs.Geometry.{Geometry}
 use Rattle.model.specs.Blocks.{Bytes}
 use Rattle.model.specs.Layout.{geometryIn}
@@ -42,7 +43,8 @@ module _ (g : Geometry) (number size : ℕ) where
 -- ---- the read's refusals ----
 
 module _ (disk : Bytes) (number : ℕ) (blank : Bytes) where
-  pub hidden-drive : (fault : ℕ) → fault ≡ driveRefusal disk → fault ≢ 0 → fault ≡ hiddenReadRefusal disk number blank
+  pub hidden-drive : (fault : ℕ) → fault ≡ driveRefusal disk → fault ≢ 0 →
+      fault ≡ hiddenReadRefusal disk number blank
   unfolding hiddenReadRefusal
   hidden-drive fault e f = e ∙ sym (after-drive-stop disk _ (λ z. f (e ∙ z)))
 
@@ -88,6 +90,8 @@ module _ (disk : Bytes) (number : ℕ) (blank : Bytes) where
           ∙ sym (cond-true _ _ (eq-eqb (hiddenReadRefusal disk number blank) 0 (sym (hidden-passes p))))
 
   -- a refused read shows nothing
-  pub nothing-shown : (fault : ℕ) → fault ≡ hiddenReadRefusal disk number blank → fault ≢ 0 → [] ≡ hiddenRead disk number blank
+  pub nothing-shown : (fault : ℕ) → fault ≡ hiddenReadRefusal disk number blank → fault ≢ 0 →
+      [] ≡ hiddenRead disk number blank
   unfolding hiddenRead
-  nothing-shown fault e f = sym (cond-false _ _ (ne-eqb (hiddenReadRefusal disk number blank) 0 (λ z. f (e ∙ z))))
+  nothing-shown fault e f =
+      sym (cond-false _ _ (ne-eqb (hiddenReadRefusal disk number blank) 0 (λ z. f (e ∙ z))))

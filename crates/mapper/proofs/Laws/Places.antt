@@ -59,7 +59,8 @@ unfolding isPlace
 place-inside g disk entry p some =
     let none : eqb entry 0 ≡ false = ne-eqb entry 0 some in
     let place : isPlace g disk entry ≡ true = not-false (isPlace g disk entry) (rw none at p) in
-    slotBlock-of g 0 entry (and-left (isSlotBlock g 0 entry) (isAllocated g disk (slotOf g entry)) place) .address-inside
+    slotBlock-of g 0 entry (and-left (isSlotBlock g 0 entry)
+    (isAllocated g disk (slotOf g entry)) place) .address-inside
 
 -- ---- 4 to 6 ----
 
@@ -77,7 +78,8 @@ module _ (g : Geometry) (disk : Bytes) (number size : ℕ) where
 
     module _ (sized : size ≡ g .blockSize) (entry : DiskAddress) (e : entry ≡ mapEntry g disk number) where
       -- the last check decides
-      by-entry : firstOf (placeChecks g disk number size) ≡ firstOf (check (not (eqb entry 0 || isPlace g disk entry)) 6 ∷ [])
+      by-entry : firstOf (placeChecks g disk number size) ≡
+          firstOf (check (not (eqb entry 0 || isPlace g disk entry)) 6 ∷ [])
       unfolding placeChecks
       by-entry =
           firstOf-pass 4 _ (lt-leb (g .publics) number inside)
@@ -85,10 +87,12 @@ module _ (g : Geometry) (disk : Bytes) (number size : ℕ) where
 
       pub unplaced-passes : entry ≡ 0 → 0 ≡ firstOf (placeChecks g disk number size)
       unplaced-passes z =
-          sym (by-entry ∙ firstOf-pass 6 [] (ap not (or-left (isPlace g disk entry) (eq-eqb entry 0 z))) ∙ firstOf-nil)
+          sym (by-entry ∙ firstOf-pass 6 [] (ap not (or-left (isPlace g disk entry) (eq-eqb entry 0 z)))
+          ∙ firstOf-nil)
 
       pub placed-passes : isPlace g disk entry ≡ true → 0 ≡ firstOf (placeChecks g disk number size)
       placed-passes p = sym (by-entry ∙ firstOf-pass 6 [] (ap not (or-right (eqb entry 0) p)) ∙ firstOf-nil)
 
-      pub entry-refused : entry ≢ 0 → isPlace g disk entry ≡ false → 6 ≡ firstOf (placeChecks g disk number size)
+      pub entry-refused : entry ≢ 0 → isPlace g disk entry ≡ false →
+          6 ≡ firstOf (placeChecks g disk number size)
       entry-refused f p = sym (by-entry ∙ firstOf-stop 6 [] (ap not (or-neither (ne-eqb entry 0 f) p)))

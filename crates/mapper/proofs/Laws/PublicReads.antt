@@ -22,16 +22,19 @@ use Rattle.mapper.proofs.Laws.Places.{place-inside}
 module _ (disk : Bytes) (number : ℕ) (blank : Bytes) where
   -- ---- refusals ----
 
-  pub public-drive : (fault : ℕ) → fault ≡ driveRefusal disk → fault ≢ 0 → fault ≡ publicReadRefusal disk number blank
+  pub public-drive : (fault : ℕ) → fault ≡ driveRefusal disk → fault ≢ 0 →
+      fault ≡ publicReadRefusal disk number blank
   unfolding publicReadRefusal
   public-drive fault e f = e ∙ sym (after-drive-stop disk _ (λ z. f (e ∙ z)))
 
   pub public-place :
       driveRefusal disk ≡ 0 → (g : Geometry) → g ≡ geometryIn disk → (answer : ℕ) →
-      answer ≡ firstOf (placeChecks g disk number (length blank)) → answer ≡ publicReadRefusal disk number blank
+      answer ≡ firstOf (placeChecks g disk number (length blank)) →
+      answer ≡ publicReadRefusal disk number blank
   unfolding publicReadRefusal
   public-place z g q answer e =
-      e ∙ ap (λ (x : Geometry). firstOf (placeChecks x disk number (length blank))) q ∙ sym (after-drive-pass disk _ z)
+      e ∙ ap (λ (x : Geometry). firstOf (placeChecks x disk number (length blank))) q
+      ∙ sym (after-drive-pass disk _ z)
 
   -- ---- a read that is not refused ----
 
@@ -53,7 +56,8 @@ module _ (disk : Bytes) (number : ℕ) (blank : Bytes) where
       pub number-inside : number < g .publics
       unfolding placeChecks
       number-inside =
-          subst (λ (x : Geometry). number < x .publics) (sym q) (leb-false (geometryIn disk .publics) number (passed .0))
+          subst (λ (x : Geometry). number < x .publics) (sym q)
+          (leb-false (geometryIn disk .publics) number (passed .0))
 
       module _ (entry : DiskAddress) (e : entry ≡ mapEntry g disk number) where
         entry-is : entry ≡ mapEntry (geometryIn disk) disk number
@@ -83,6 +87,8 @@ module _ (disk : Bytes) (number : ℕ) (blank : Bytes) where
               ∙ cond-false _ _ (ne-eqb (mapEntry (geometryIn disk) disk number) 0 (λ z. some (entry-is ∙ z))))
 
   -- a refused read shows nothing
-  pub nothing-shown : (fault : ℕ) → fault ≡ publicReadRefusal disk number blank → fault ≢ 0 → [] ≡ publicRead disk number blank
+  pub nothing-shown : (fault : ℕ) → fault ≡ publicReadRefusal disk number blank → fault ≢ 0 →
+      [] ≡ publicRead disk number blank
   unfolding publicRead
-  nothing-shown fault e f = sym (cond-false _ _ (ne-eqb (publicReadRefusal disk number blank) 0 (λ z. f (e ∙ z))))
+  nothing-shown fault e f =
+      sym (cond-false _ _ (ne-eqb (publicReadRefusal disk number blank) 0 (λ z. f (e ∙ z))))

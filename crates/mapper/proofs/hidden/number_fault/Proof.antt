@@ -1,4 +1,5 @@
--- `mapper::hidden::number_fault` meets its contract: one law for each way through its checks. Assumes nothing.
+-- `mapper::hidden::number_fault` meets its contract: one law for each way through its checks. Assumes
+-- nothing.
 use borrow.Author.Needs.{needs}
 use Rattle.layout.specs.Geometries.{geometryOf}
 use Rattle.mapper.proofs.Laws.HiddenReads.{number-refused, size-refused, number-passes}

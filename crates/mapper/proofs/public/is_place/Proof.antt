@@ -2,7 +2,8 @@
 use mathlib.Core.Path.{_∙_}
 use borrow.Author.Needs.{needs}
 use Rattle.layout.specs.Geometries.{geometryOf}
-use Rattle.mapper.proofs.Laws.Places.{isPlace-below, isPlace-past, isPlace-inside-slot, isPlace-front, slot-inside}
+use Rattle.mapper.proofs.Laws.Places.{isPlace-below, isPlace-past, isPlace-inside-slot, isPlace-front}
+use Rattle.mapper.proofs.Laws.Places.{slot-inside}
 use Rattle.mapper.proofs.public.is_place.Statement.{statement}
 use Rattle.mapper.proofs.public.is_place.Tie as tie
 
@@ -17,7 +18,8 @@ returns c =
     let s = c .before .before .before .before in
     let a = s .args in
     let start = c .before .before .area-start in
-    isPlace-below (geometryOf (a .g)) (a .disk .now) (a .entry .0) (start .result .0) (start .ensures) (c .if1 .taken)
+    isPlace-below (geometryOf (a .g)) (a .disk .now) (a .entry .0) (start .result .0) (start .ensures)
+    (c .if1 .taken)
 
 mul-if2 : tie.Need-mul-if2
 mul-if2 c = search needs
@@ -27,7 +29,8 @@ returns-2 c =
     let s = c .before .before .before .before .before .before in
     let a = s .args in
     let start = c .before .before .before .before .area-start in
-    isPlace-past (geometryOf (a .g)) (a .disk .now) (a .entry .0) (start .result .0) (start .ensures) (c .before .before .if1 .left) (c .if2 .taken)
+    isPlace-past (geometryOf (a .g)) (a .disk .now) (a .entry .0) (start .result .0) (start .ensures)
+    (c .before .before .if1 .left) (c .if2 .taken)
 
 rem-if3 : tie.Need-rem-if3
 rem-if3 c = search needs
@@ -47,9 +50,11 @@ is-allocated-requires : tie.Need-is-allocated-requires
 is-allocated-requires c κs =
     let s = c .before .before .before .before .before .before .before in
     let a = s .args in
-    let start = c .before .before .before .before .before .area-start in
-    (s .pre, slot-inside (geometryOf (a .g)) (a .disk .now) (a .entry .0) (start .result .0) (start .ensures)
-    (c .before .before .before .if1 .left) (c .before .if2 .left))
+    let start = c .before .before .before .before .before .area-start in (
+      s .pre,
+      slot-inside (geometryOf (a .g)) (a .disk .now) (a .entry .0) (start .result .0) (start .ensures)
+          (c .before .before .before .if1 .left) (c .before .if2 .left),
+    )
 
 returns-4 : tie.Need-returns-4
 returns-4 c =

@@ -3,7 +3,8 @@ use mathlib.Core.Path.{_∙_, sym, ap}
 use Prim.Native.Nat.{ℕ}
 use borrow.Author.Needs.{needs}
 use Rattle.layout.specs.Geometries.{geometryOf}
-use Rattle.mapper.proofs.Laws.Places.{number-refused, size-refused, unplaced-passes, placed-passes, entry-refused}
+use Rattle.mapper.proofs.Laws.Places.{number-refused, size-refused, unplaced-passes, placed-passes}
+use Rattle.mapper.proofs.Laws.Places.{entry-refused}
 use Rattle.mapper.proofs.public.place_fault.Statement.{statement}
 use Rattle.mapper.proofs.public.place_fault.Tie as tie
 
@@ -18,7 +19,8 @@ cast-if2 c = search needs
 returns-2 : tie.Need-returns-2
 returns-2 c =
     let a = c .before .before .before .before .args in
-    size-refused (geometryOf (a .g)) (a .disk .now) (a .number .0) (a .size) (c .before .before .if1 .left) (c .if2 .taken)
+    size-refused (geometryOf (a .g)) (a .disk .now) (a .number .0) (a .size) (c .before .before .if1 .left)
+    (c .if2 .taken)
 
 map-entry-requires : tie.Need-map-entry-requires
 map-entry-requires c κs = search needs
@@ -26,7 +28,8 @@ map-entry-requires c κs = search needs
 returns-3 : tie.Need-returns-3
 returns-3 c =
     let a = c .before .before .before .before .before .before .before .args in
-    unplaced-passes (geometryOf (a .g)) (a .disk .now) (a .number .0) (a .size) (c .before .before .before .before .before .if1 .left) (c .before .before .before .if2 .left)
+    unplaced-passes (geometryOf (a .g)) (a .disk .now) (a .number .0) (a .size)
+    (c .before .before .before .before .before .if1 .left) (c .before .before .before .if2 .left)
     (c .before .before .map-entry .result .0) (c .before .before .map-entry .ensures) (c .if3 .taken)
 
 is-place-requires : tie.Need-is-place-requires
@@ -35,14 +38,21 @@ is-place-requires c κs = search needs
 returns-4 : tie.Need-returns-4
 returns-4 c =
     let a = c .before .before .before .before .before .before .before .before .before .args in
-    placed-passes (geometryOf (a .g)) (a .disk .now) (a .number .0) (a .size) (c .before .before .before .before .before .before .before .if1 .left) (c .before .before .before .before .before .if2 .left)
-    (c .before .before .before .before .map-entry .result .0) (c .before .before .before .before .map-entry .ensures) (sym (c .before .is-place .ensures) ∙ c .if4 .taken)
+    placed-passes (geometryOf (a .g)) (a .disk .now) (a .number .0) (a .size)
+    (c .before .before .before .before .before .before .before .if1 .left)
+    (c .before .before .before .before .before .if2 .left)
+    (c .before .before .before .before .map-entry .result .0)
+    (c .before .before .before .before .map-entry .ensures)
+    (sym (c .before .is-place .ensures) ∙ c .if4 .taken)
 
 returns-5 : tie.Need-returns-5
 returns-5 c =
     let a = c .before .before .before .before .before .before .before .before .before .args in
-    entry-refused (geometryOf (a .g)) (a .disk .now) (a .number .0) (a .size) (c .before .before .before .before .before .before .before .if1 .left) (c .before .before .before .before .before .if2 .left)
-    (c .before .before .before .before .map-entry .result .0) (c .before .before .before .before .map-entry .ensures) (c .before .before .if3 .left)
+    entry-refused (geometryOf (a .g)) (a .disk .now) (a .number .0) (a .size)
+    (c .before .before .before .before .before .before .before .if1 .left)
+    (c .before .before .before .before .before .if2 .left)
+    (c .before .before .before .before .map-entry .result .0)
+    (c .before .before .before .before .map-entry .ensures) (c .before .before .if3 .left)
     (sym (c .before .is-place .ensures) ∙ c .if4 .left)
 
 pub place-fault-spec : {M : Type 1} → statement M

@@ -1,0 +1,4 @@
+pub mod Branches
+pub mod Steps
+pub mod Answers
+pub mod Copies

@@ -1,8 +1,8 @@
 -- Laws of blocks stored one after another: one more at the end, and what stays. Assumes nothing.
 use mathlib.Core.Path.{_≡_, refl, sym, ap, ap₂, subst, _∙_}
 use mathlib.Core.List.{List, [], _∷_, _++_}
-use Prim.Native.Nat.{ℕ, zero, suc, _+_, _*_, _≤_, _<_}
-use native.Mathlib.Nat.{suc-mul}
+use Prim.Native.Nat.{ℕ, zero, suc, _+_, _*_, _-_, _≤_, _<_}
+use native.Mathlib.Nat.{suc-mul, mul-le-mul-right}
 use native.Mathlib.Omega.{arith}
 use lib.ListN.{length, take, drop, take-append-drop}
 use lib.Seq.{take-add, drop-drop}
@@ -76,6 +76,15 @@ setBlock-blockAt width disk count whole address h =
 
 -- ---- loops ----
 
+-- a block of a run of blocks stands inside it
+pub block-of-run : (width count done : ℕ) → done < count → done * width + width ≤ count * width
+block-of-run width count done h = omega (arith, mul-le-mul-right width h, suc-mul done width)
+
+-- what is lent between two places a width apart
+pub lent-part :
+    (width from : ℕ) (bytes : Bytes) → take (from + width - from) (drop from bytes) ≡ take width (drop from bytes)
+lent-part width from bytes = let e : from + width - from ≡ width = omega arith in rw e
+
 -- so many blocks stored as they are, and the disk as it was
 abbrev pub KeptSoFar :
     Geometry → (address count : ℕ) → (disk : Bytes) → (list : List DiskAddress) → (next : ℕ) → (diskNow : Bytes) →
@@ -113,3 +122,21 @@ module _ (g : Geometry) (address count : ℕ) {disk : Bytes} {list : List DiskAd
       KeptSoFar g address count disk list next diskNow listNow done at → count ≤ done →
       Made (g .blockSize) (keptBlocks g disk address count) disk list next diskNow listNow at
   all-kept so h = all-made (g .blockSize) (keptBlocks g disk address) count room (so .0) h
+
+module _ (g : Geometry) (address count : ℕ) (random : Bytes) {disk : Bytes} {list : List DiskAddress} {next : ℕ}
+    (room : next + count ≤ length list) where
+  pub one-more-random :
+      {diskNow after : Bytes} {listNow entered : List DiskAddress} {done at last : ℕ} →
+      SoFar (g .blockSize) (λ n. randomBlocks g address n random) count disk list next diskNow listNow done at →
+      done < count →
+      Made (g .blockSize)
+      (store (address + done)
+      (take (done * g .blockSize + g .blockSize - done * g .blockSize) (drop (done * g .blockSize) random)) ∷ [])
+      diskNow listNow at after entered last →
+      length after ≡ length diskNow → length entered ≡ length listNow →
+      SoFar (g .blockSize) (λ n. randomBlocks g address n random) count disk list next after entered (done + 1) last
+  one-more-random {done = done} so h m d l =
+      one-more (g .blockSize) (λ n. randomBlocks g address n random) count room
+      (store (address + done) (take (g .blockSize) (drop (done * g .blockSize) random)))
+      (randomBlocks-suc g address done random) so h
+      (rw (lent-part (g .blockSize) (done * g .blockSize) random) at m) d l

@@ -6,7 +6,7 @@ use borrow.Author.Needs.{needs}
 use Rattle.model.specs.Paths.{randomBlocks}
 use Rattle.layout.specs.Geometries.{geometryOf}
 use Rattle.hidden_half.proofs.Laws.Loops.{SoFar, none-so-far, all-made}
-use Rattle.hidden_half.proofs.Laws.Runs.{randomBlocks-none, random-inside, one-more-random}
+use Rattle.hidden_half.proofs.Laws.Runs.{randomBlocks-none, block-of-run, one-more-random}
 use Rattle.hidden_half.proofs.runs.random_blocks.Statement.{statement}
 use Rattle.hidden_half.proofs.runs.random_blocks.Tie as tie
 
@@ -33,10 +33,28 @@ cast-from : tie.Need-cast-from Inv-loop μ-loop
 cast-from c = search needs
 
 mul-from : tie.Need-mul-from Inv-loop μ-loop
-mul-from c = ?
+mul-from c = 
+    let test = c in
+    let turn = test .before in
+    let start = turn .before .before .before .before .before in
+    omega (
+      arith,
+      block-of-run (start .args .g .«block_size») (start .args .count) (turn .loop .done) (test .loop-test .taken),
+      start .pre .1 .1 .1,
+      start .good,
+    )
 
 add-to : tie.Need-add-to Inv-loop μ-loop
-add-to c = ?
+add-to c = 
+    let test = c in
+    let turn = test .before in
+    let start = turn .before .before .before .before .before in
+    omega (
+      arith,
+      block-of-run (start .args .g .«block_size») (start .args .count) (turn .loop .done) (test .loop-test .taken),
+      start .pre .1 .1 .1,
+      start .good,
+    )
 
 add-t19 : tie.Need-add-t19 Inv-loop μ-loop
 add-t19 c = search needs
@@ -48,10 +66,19 @@ part-store-block-start : tie.Need-part-store-block-start Inv-loop μ-loop
 part-store-block-start c = search needs
 
 part-store-block-end : tie.Need-part-store-block-end Inv-loop μ-loop
-part-store-block-end c = ?
+part-store-block-end c = 
+    let test = c .before .before .before in
+    let turn = test .before in
+    let start = turn .before .before .before .before .before in
+    omega (
+      arith,
+      block-of-run (start .args .g .«block_size») (start .args .count) (turn .loop .done) (test .loop-test .taken),
+      start .pre .1 .1 .1,
+      start .good,
+    )
 
 store-block-requires : tie.Need-store-block-requires Inv-loop μ-loop
-store-block-requires c κs = ?
+store-block-requires c κs = search needs
 
 add-done : tie.Need-add-done Inv-loop μ-loop
 add-done c = search needs
@@ -60,7 +87,14 @@ loop-less : tie.Need-loop-less Inv-loop μ-loop
 loop-less c = search needs
 
 loop-again : tie.Need-loop-again Inv-loop μ-loop
-loop-again c = ?
+loop-again c = 
+    let stored = c .before .before .before .before in
+    let test = stored .before .before .before .before .before in
+    let turn = test .before in
+    let start = turn .before .before .before .before .before in
+    one-more-random (geometryOf (start .args .g)) (start .args .address .0) (start .args .count)
+    (start .args .random .now) (start .pre .1 .1 .0) (turn .loop .inv) (test .loop-test .taken)
+    (stored .store-block .ensures) (stored .store-block .kept .0) (stored .store-block .kept .1 .0)
 
 same-length : tie.Need-same-length Inv-loop μ-loop
 same-length c = c .before .loop .inv .disk-kept

@@ -17,3 +17,8 @@ joined (node ∷ nodes) = node ++ joined nodes
 pub record PathRead (path : Walk) (answer : Reached) (at : ℕ) (before after : Bytes) : Type 0 where
   pub end-is : endOf answer ≡ path .end
   pub nodes-are : after ≡ over at (joined (path .nodes)) before
+
+-- a walk's nodes are all of the bytes, and the answer is its end
+pub record WholePath (path : Walk) (answer : Reached) (nodes : Bytes) : Type 0 where
+  pub end-is : endOf answer ≡ path .end
+  pub nodes-are : nodes ≡ joined (path .nodes)

@@ -12,7 +12,8 @@ pub record AreaOf (g : Geometry) (height : ℕ) (start : DiskAddress) (count : �
   pub count-is : count ≡ blockCount g
 
 -- a drive of a geometry that has these numbers
-pub record TreeOf (g : Geometry) (disk : Bytes) (size height : ℕ) (start : DiskAddress) (count : ℕ) : Type 0 where
+pub record TreeOf (g : Geometry) (disk : Bytes) (size height : ℕ) (start : DiskAddress)
+    (count : ℕ) : Type 0 where
   pub drive : Drive g disk
   pub size-is : size ≡ g .blockSize
   pub area : AreaOf g height start count

@@ -1,6 +1,7 @@
 // Which entry a hidden number takes at each level, and which addresses are well formed there. An entry of level j stands
 // in a node of level j + 1 and leads to a block of level j: level 0, hidden data, stands in a leaf.
-use layout::numbers::{DiskAddress, HiddenNumber};
+use layout::numbers::DiskAddress;
+use layout::numbers::HiddenNumber;
 ghost use mathlib.Core.Path.{_≡_};
 ghost use Prim.Native.Nat.{_≤_};
 ghost use Rattle.model.specs.Geometry.{Geometry};
@@ -30,7 +31,13 @@ pub fn branch_at(size: u32, number: HiddenNumber, level: u32) -> usize
 }
 
 // Whether an address is that of a block of a level in some slot: A + level, and A + k for hidden data.
-pub fn is_well_formed(height: u32, start: DiskAddress, count: u32, level: u32, address: DiskAddress) -> bool
+pub fn is_well_formed(
+    height: u32,
+    start: DiskAddress,
+    count: u32,
+    level: u32,
+    address: DiskAddress,
+) -> bool
     requires { ⌜ height ≤ 4 ⌝ }
     ensures { λ r. ⌜ ((g : Geometry) → AreaOf g height (start .0) count → r ≡ isWellFormed g level (address .0)) ⌝ }
 {

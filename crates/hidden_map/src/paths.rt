@@ -1,8 +1,12 @@
 // The nodes of a walk, read one after another, zeros for those that it did not reach.
-use crate::copies::{clear_at, copy_at};
-use crate::walks::{Reached, step};
-use layout::geometry::{Geometry, area_start};
-use layout::numbers::{DiskAddress, HiddenNumber};
+use crate::copies::clear_at;
+use crate::copies::copy_at;
+use crate::walks::Reached;
+use crate::walks::step;
+use layout::geometry::Geometry;
+use layout::geometry::area_start;
+use layout::numbers::DiskAddress;
+use layout::numbers::HiddenNumber;
 ghost use mathlib.Core.Path.{_≡_};
 ghost use Prim.Native.Nat.{suc, _+_, _*_, _≤_, _<_};
 ghost use lib.ListN.{length};
@@ -12,9 +16,8 @@ ghost use Rattle.model.specs.Blocks.{blockAt};
 ghost use Rattle.model.specs.Layout.{Drive};
 ghost use Rattle.model.specs.HiddenTree.{walkFrom, walk};
 ghost use Rattle.layout.specs.Geometries.{geometryOf};
-ghost use Rattle.hidden_map.specs.Ends.{endOf};
 ghost use Rattle.hidden_map.specs.Trees.{TreeOf, Walkable};
-ghost use Rattle.hidden_map.specs.Paths.{joined, PathRead};
+ghost use Rattle.hidden_map.specs.Paths.{PathRead, WholePath};
 
 // Copies the block at an address to the bytes from an index on.
 fn copy_node(disk: &[u8], size: u32, address: DiskAddress, nodes: &mut [u8], at: usize)
@@ -29,7 +32,18 @@ fn copy_node(disk: &[u8], size: u32, address: DiskAddress, nodes: &mut [u8], at:
 }
 
 // Reads the nodes of the walk from the node at an address down to the bytes from an index on, and says where it ends.
-fn read_from(disk: &[u8], size: u32, height: u32, start: DiskAddress, count: u32, number: HiddenNumber, level: u32, address: DiskAddress, nodes: &mut [u8], at: usize) -> Reached
+fn read_from(
+    disk: &[u8],
+    size: u32,
+    height: u32,
+    start: DiskAddress,
+    count: u32,
+    number: HiddenNumber,
+    level: u32,
+    address: DiskAddress,
+    nodes: &mut [u8],
+    at: usize,
+) -> Reached
     requires { ⌜ Walkable (now disk) size height (start .0) count ⌝ }
     requires { ⌜ (level < height) × (address .0 < count) ⌝ }
     requires { ⌜ at + suc level * size ≤ length (now nodes) ⌝ }
@@ -45,19 +59,40 @@ fn read_from(disk: &[u8], size: u32, height: u32, start: DiskAddress, count: u32
         clear_at(nodes, rest, (level as usize) * (size as usize));
         return next;
     };
-    read_from(disk, size, height, start, count, number, level - 1, node, nodes, rest)
+    read_from(
+        disk,
+        size,
+        height,
+        start,
+        count,
+        number,
+        level - 1,
+        node,
+        nodes,
+        rest,
+    )
 }
 
 // Reads the nodes of the walk for a number one after another, the root first, and says where the walk ends.
 pub fn read_path(disk: &[u8], g: Geometry, number: HiddenNumber, nodes: &mut [u8]) -> Reached
     requires { ⌜ Drive (geometryOf g) (now disk) ⌝ }
     requires { ⌜ length (now nodes) ≡ g .height * g .«block_size» ⌝ }
-    ensures { λ r. ⌜ endOf r ≡ walk (geometryOf g) (now (disk .entry)) (number .0) .end ⌝ }
-    ensures { λ _. ⌜ now (nodes .exit) ≡ joined (walk (geometryOf g) (now (disk .entry)) (number .0) .nodes) ⌝ }
+    ensures { λ r. ⌜ WholePath (walk (geometryOf g) (now (disk .entry)) (number .0)) r (now (nodes .exit)) ⌝ }
 {
     let height = g.height;
     let start = area_start(g);
     let root = DiskAddress(start.0 - 1);
     let count = start.0 + g.slots * (height + 1);
-    read_from(disk, g.block_size, height, start, count, number, height - 1, root, nodes, 0)
+    read_from(
+        disk,
+        g.block_size,
+        height,
+        start,
+        count,
+        number,
+        height - 1,
+        root,
+        nodes,
+        0,
+    )
 }

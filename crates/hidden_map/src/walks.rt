@@ -1,8 +1,11 @@
 // The walk for a hidden number, from the root down, each step to the level below.
-use crate::branches::{branch_at, is_well_formed};
+use crate::branches::branch_at;
+use crate::branches::is_well_formed;
 use layout::entries::entry_at;
-use layout::geometry::{Geometry, area_start};
-use layout::numbers::{DiskAddress, HiddenNumber};
+use layout::geometry::Geometry;
+use layout::geometry::area_start;
+use layout::numbers::DiskAddress;
+use layout::numbers::HiddenNumber;
 ghost use mathlib.Core.Path.{_≡_};
 ghost use Prim.Native.Nat.{_<_};
 ghost use Rattle.model.specs.Geometry as model;
@@ -21,7 +24,16 @@ pub enum Reached {
 }
 
 // Where a number's entry of a level leads that stands in the node at an address.
-pub fn step(disk: &[u8], size: u32, height: u32, start: DiskAddress, count: u32, number: HiddenNumber, level: u32, address: DiskAddress) -> Reached
+pub fn step(
+    disk: &[u8],
+    size: u32,
+    height: u32,
+    start: DiskAddress,
+    count: u32,
+    number: HiddenNumber,
+    level: u32,
+    address: DiskAddress,
+) -> Reached
     requires { ⌜ Walkable (now disk) size height (start .0) count ⌝ }
     requires { ⌜ (level < height) × (address .0 < count) ⌝ }
     ensures { λ r. ⌜ ((g : model.Geometry) → TreeOf g (now (disk .entry)) size height (start .0) count → endOf r ≡ stepOf g (number .0) level (blockAt (g .blockSize) (now (disk .entry)) (address .0))) ⌝ }
@@ -38,7 +50,16 @@ pub fn step(disk: &[u8], size: u32, height: u32, start: DiskAddress, count: u32,
 }
 
 // Where the walk for a number ends, from the node at an address down, by the level of the entry that it takes there.
-fn walk_from(disk: &[u8], size: u32, height: u32, start: DiskAddress, count: u32, number: HiddenNumber, level: u32, address: DiskAddress) -> Reached
+fn walk_from(
+    disk: &[u8],
+    size: u32,
+    height: u32,
+    start: DiskAddress,
+    count: u32,
+    number: HiddenNumber,
+    level: u32,
+    address: DiskAddress,
+) -> Reached
     requires { ⌜ Walkable (now disk) size height (start .0) count ⌝ }
     requires { ⌜ (level < height) × (address .0 < count) ⌝ }
     ensures { λ r. ⌜ ((g : model.Geometry) → TreeOf g (now (disk .entry)) size height (start .0) count → endOf r ≡ tree.walkFrom g (now (disk .entry)) (number .0) level (blockAt (g .blockSize) (now (disk .entry)) (address .0)) .end) ⌝ }
@@ -62,5 +83,14 @@ pub fn walk(disk: &[u8], g: Geometry, number: HiddenNumber) -> Reached
     let start = area_start(g);
     let root = DiskAddress(start.0 - 1);
     let count = start.0 + g.slots * (height + 1);
-    walk_from(disk, g.block_size, height, start, count, number, height - 1, root)
+    walk_from(
+        disk,
+        g.block_size,
+        height,
+        start,
+        count,
+        number,
+        height - 1,
+        root,
+    )
 }

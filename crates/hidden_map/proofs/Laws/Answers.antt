@@ -10,7 +10,8 @@ use Rattle.hidden_map.specs.Ends.{endOf}
 use Rattle.hidden_map.proofs.walks.Reached.{the-type}
 use Rattle.hidden_map.proofs.Laws.Steps.{isFound}
 
-pub isFound-endOf : (answer : Reached) → (tagOf the-type answer ≡ 1) ⊎ (tagOf the-type answer ≡ 2) → isFound (endOf answer) ≡ false
+pub isFound-endOf : (answer : Reached) → (tagOf the-type answer ≡ 1) ⊎ (tagOf the-type answer ≡ 2) →
+    isFound (endOf answer) ≡ false
 isFound-endOf (Found address) h = absurd (⊎-elim (λ e. omega arith) (λ e. omega arith) h)
 isFound-endOf Unmapped h = refl
 isFound-endOf Damaged h = refl

@@ -1,5 +1,6 @@
--- Laws of branches and well-formed addresses: a branch level by level and its bound, the entry that it names counted
--- over the whole disk, and the test of an address by the numbers that a walk is given. Assumes nothing.
+-- Laws of branches and well-formed addresses: a branch level by level and its bound, the entry that it names
+-- counted over the whole disk, and the test of an address by the numbers that a walk is given. Assumes
+-- nothing.
 use mathlib.Core.Path.{_≡_, refl, sym, ap, _∙_}
 use mathlib.Core.Logic.{_≢_}
 use mathlib.Core.Bool.{Bool, true, false}
@@ -31,7 +32,8 @@ module _ (g : Geometry) (size : ℕ) (e : size ≡ g .blockSize) (number level :
   unfolding branchAt
   branchAt-first z = rw (z, e, pow-zero (fanout g), div-one (leafOf g number))
 
-  pub branchAt-second : level ≡ 2 → number / (size / 4 - 1) / (size / 4) % (size / 4) ≡ branchAt g number level
+  pub branchAt-second : level ≡ 2 → number / (size / 4 - 1) / (size / 4) % (size / 4) ≡
+      branchAt g number level
   unfolding branchAt
   branchAt-second z = rw (z, e, pow-one (fanout g))
 
@@ -40,7 +42,8 @@ module _ (g : Geometry) (size : ℕ) (e : size ≡ g .blockSize) (number level :
   unfolding branchAt
   branchAt-third z = rw (z, e, pow-two (fanout g))
 
-pub square-le : (size : ℕ) → 32 ≤ size → size ≤ 4096 → (1 ≤ size / 4 * (size / 4)) × (size / 4 * (size / 4) ≤ 1048576)
+pub square-le : (size : ℕ) → 32 ≤ size → size ≤ 4096 →
+    (1 ≤ size / 4 * (size / 4)) × (size / 4 * (size / 4) ≤ 1048576)
 square-le size low high =
     let l : 1 ≤ size / 4 = omega arith in
     let h : size / 4 ≤ 1024 = omega arith in
@@ -58,7 +61,8 @@ branchAt-lt g f number (suc level) =
 -- ---- the entry of a branch ----
 
 -- a node's entry, counted over the whole disk, by the numbers that a walk is given
-module _ (g : Geometry) (disk : Bytes) (size height start count : ℕ) (t : TreeOf g disk size height start count)
+module _ (g : Geometry) (disk : Bytes) (size height start count : ℕ)
+    (t : TreeOf g disk size height start count)
     (number level address branch : ℕ) (e : branch ≡ branchAt g number level) where
   branch-inside : branch < fanout g
   branch-inside = rw e (branchAt-lt g (t .drive .fits) number level)
@@ -78,7 +82,8 @@ module _ (g : Geometry) (disk : Bytes) (size height start count : ℕ) (t : Tree
   unfolding entryAt
   branch-entry-is entry p =
       let sized = t .drive .fits .size-entries in
-      let at : 4 * (address * fanout g + branch) ≡ address * g .blockSize + 4 * branch = omega (arith, node-start) in
+      let at : 4 * (address * fanout g + branch) ≡ address * g .blockSize + 4 * branch =
+      omega (arith, node-start) in
       p ∙ ap (λ (n : ℕ). entryAt (address * (n / 4) + branch) disk) (t .size-is)
       ∙ ap (λ (n : ℕ). numberOf (part n 4 disk)) at
       ∙ sym (entryAt-blockAt (g .blockSize) disk address branch (omega (arith, branch-inside)))
@@ -100,7 +105,8 @@ module _ (g : Geometry) (height start count : ℕ) (a : AreaOf g height start co
         eqb ((address - start) % (height + 1)) place ≡ isWellFormed g level address
     by-place place e =
         rw (e, a .start-is, a .height-is)
-        (sym (isSlotBlock-inside g (levelPlace g level) address (omega (arith, a .start-is)) (omega (arith, a .count-is))))
+        (sym (isSlotBlock-inside g (levelPlace g level) address (omega (arith, a .start-is))
+        (omega (arith, a .count-is))))
 
     pub isWellFormed-data :
         level ≡ 0 → eqb ((address - start) % (height + 1)) height ≡ isWellFormed g level address

@@ -9,7 +9,8 @@ use lib.ListN.{length, getD, set}
 use lib.Seq.{paste, paste-suc, take-length}
 use Rattle.laws.specs.Lists.{over}
 
-module _ (target : List ℕ) (at : ℕ) (source : List ℕ) (i : ℕ) (now : List ℕ) (e : now ≡ paste target at source i) where
+module _ (target : List ℕ) (at : ℕ) (source : List ℕ) (i : ℕ) (now : List ℕ)
+    (e : now ≡ paste target at source i) where
   pub set-paste :
       at + length source ≤ length target → i < length source →
       set now (at + i) (getD source i 0) ≡ paste target at source (i + 1)

@@ -1,5 +1,5 @@
--- Laws of a step of the walk: its three ways, and what a walk is by its first step, at the leaf, where it stops and where
--- it goes on. Assumes nothing.
+-- Laws of a step of the walk: its three ways, and what a walk is by its first step, at the leaf, where it
+-- stops and where it goes on. Assumes nothing.
 use mathlib.Core.Path.{_≡_, refl, sym, ap, _∙_}
 use mathlib.Core.Logic.{_≢_}
 use mathlib.Core.Bool.{Bool, true, false, cond}
@@ -48,7 +48,8 @@ walkBy isZero isFormed stop rest = cond isZero (stop unmapped) (cond isFormed re
 
 walkBy-stop :
     (isZero isFormed : Bool) (entry : DiskAddress) (stop : End → Walk) (rest : Walk) →
-    isFound (stepBy isZero isFormed entry) ≡ false → walkBy isZero isFormed stop rest ≡ stop (stepBy isZero isFormed entry)
+    isFound (stepBy isZero isFormed entry) ≡ false →
+    walkBy isZero isFormed stop rest ≡ stop (stepBy isZero isFormed entry)
 walkBy-stop true isFormed entry stop rest h = refl
 walkBy-stop false true entry stop rest h = true-is-not-false refl h
 walkBy-stop false false entry stop rest h = refl
@@ -61,15 +62,18 @@ record Goes (isFormed : Bool) (entry address : DiskAddress) (path rest : Walk) :
 
 walkBy-goes :
     (isZero isFormed : Bool) (entry address : DiskAddress) (stop : End → Walk) (rest : Walk) →
-    found address ≡ stepBy isZero isFormed entry → Goes isFormed entry address (walkBy isZero isFormed stop rest) rest
+    found address ≡ stepBy isZero isFormed entry → Goes isFormed entry address
+    (walkBy isZero isFormed stop rest) rest
 walkBy-goes true isFormed entry address stop rest h = absurd (let z : _≡_ {A = ℕ} 0 1 = cc in omega arith)
-walkBy-goes false true entry address stop rest h = record { goes-on = refl; address-is = cc; well-formed = refl }
+walkBy-goes false true entry address stop rest h =
+    record { goes-on = refl; address-is = cc; well-formed = refl }
 walkBy-goes false false entry address stop rest h = absurd (let z : _≡_ {A = ℕ} 0 1 = cc in omega arith)
 
 module _ (g : Geometry) (disk : Bytes) (number : ℕ) (node : Bytes) where
   -- a walk that ends in the node that it starts from
   pub walkFrom-leaf :
-      (level : ℕ) → level ≡ 0 → walkFrom g disk number level node ≡ ended g node level (stepOf g number level node)
+      (level : ℕ) → level ≡ 0 → walkFrom g disk number level node ≡
+      ended g node level (stepOf g number level node)
   unfolding walkFrom stepOf
   walkFrom-leaf level z = rw z
 
@@ -91,15 +95,18 @@ module _ (g : Geometry) (disk : Bytes) (number : ℕ) (node : Bytes) where
     pub address-inside : address < blockCount g
 
   pub walkFrom-goes :
-      (level : ℕ) (address : DiskAddress) → level ≢ 0 → found address ≡ stepOf g number level node → GoesOn level address
+      (level : ℕ) (address : DiskAddress) → level ≢ 0 → found address ≡ stepOf g number level node →
+      GoesOn level address
   unfolding walkFrom stepOf
   walkFrom-goes zero address some h = absurd (some refl)
   walkFrom-goes (suc level) address some h =
       let entry = entryAt (branchAt g number (suc level)) node in
       let rest = passing node (walkFrom g disk number level (blockAt (g .blockSize) disk entry)) in
-      let r = walkBy-goes (eqb entry 0) (isWellFormed g (suc level) entry) entry address (ended g node (suc level)) rest h in
+      let r = walkBy-goes (eqb entry 0) (isWellFormed g (suc level) entry) entry address
+      (ended g node (suc level)) rest h in
       let less : suc level - 1 ≡ level = omega arith in
       record {
         goes-on = rw (less, ← r .address-is) (r .goes-on);
-        address-inside = rw (← r .address-is) (slotBlock-of g (suc level) entry (r .well-formed) .address-inside);
+        address-inside =
+            rw (← r .address-is) (slotBlock-of g (suc level) entry (r .well-formed) .address-inside);
       }

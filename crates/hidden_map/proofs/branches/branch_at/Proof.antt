@@ -3,7 +3,8 @@ use mathlib.Core.Path.{_≡_}
 use Prim.Native.Nat.{_≤_}
 use native.Mathlib.Nat.{mul-le-mul}
 use native.Mathlib.Omega.{arith}
-use Rattle.hidden_map.proofs.Laws.Branches.{branchAt-leaf, branchAt-first, branchAt-second, branchAt-third, square-le}
+use Rattle.hidden_map.proofs.Laws.Branches.{branchAt-leaf, branchAt-first, branchAt-second}
+use Rattle.hidden_map.proofs.Laws.Branches.{branchAt-third, square-le}
 use borrow.Author.Needs.{needs}
 use Rattle.hidden_map.proofs.branches.branch_at.Statement.{statement}
 use Rattle.hidden_map.proofs.branches.branch_at.Tie as tie
@@ -24,7 +25,9 @@ rem-result c = search needs
 
 -- src/branches.rt:20:9
 returns : tie.Need-returns
-returns c = λ g e. let a = c .before .before .args in branchAt-leaf g (a .size) e (a .number .0) (a .level) (c .if1 .taken)
+returns c =
+    λ g e. let a = c .before .before .args in branchAt-leaf g (a .size) e (a .number .0) (a .level)
+    (c .if1 .taken)
 
 -- src/branches.rt:22:25
 sub-leaf : tie.Need-sub-leaf
@@ -40,7 +43,9 @@ rem-result-2 c = search needs
 
 -- src/branches.rt:24:9
 returns-2 : tie.Need-returns-2
-returns-2 c = λ g e. let a = c .before .before .before .args in branchAt-first g (a .size) e (a .number .0) (a .level) (c .if2 .taken)
+returns-2 c =
+    λ g e. let a = c .before .before .before .args in
+    branchAt-first g (a .size) e (a .number .0) (a .level) (c .if2 .taken)
 
 -- src/branches.rt:27:16
 div-result : tie.Need-div-result
@@ -52,15 +57,27 @@ rem-result-3 c = search needs
 
 -- src/branches.rt:27:9
 returns-3 : tie.Need-returns-3
-returns-3 c = λ g e. let a = c .before .before .before .before .args in branchAt-second g (a .size) e (a .number .0) (a .level) (c .if3 .taken)
+returns-3 c =
+    λ g e. let a = c .before .before .before .before .args in
+    branchAt-second g (a .size) e (a .number .0) (a .level) (c .if3 .taken)
 
 -- src/branches.rt:29:13
 mul-result : tie.Need-mul-result
-mul-result c = omega (arith, square-le (c .before .before .before .before .args .size) (c .before .before .before .before .pre .0 .0) (c .before .before .before .before .pre .0 .1))
+mul-result c =
+    omega (
+      arith,
+      square-le (c .before .before .before .before .args .size)
+          (c .before .before .before .before .pre .0 .0) (c .before .before .before .before .pre .0 .1),
+    )
 
 -- src/branches.rt:29:5
 div-result-2 : tie.Need-div-result-2
-div-result-2 c = omega (arith, square-le (c .before .before .before .before .args .size) (c .before .before .before .before .pre .0 .0) (c .before .before .before .before .pre .0 .1))
+div-result-2 c =
+    omega (
+      arith,
+      square-le (c .before .before .before .before .args .size)
+          (c .before .before .before .before .pre .0 .0) (c .before .before .before .before .pre .0 .1),
+    )
 
 -- src/branches.rt:29:5
 rem-result-4 : tie.Need-rem-result-4
@@ -68,7 +85,7 @@ rem-result-4 c = search needs
 
 -- src/branches.rt:12:1
 returns-4 : tie.Need-returns-4
-returns-4 c = 
+returns-4 c =
     let s = c .before .before .before .before in
     let last : s .args .level ≡ 3 = omega arith in
     λ g e. branchAt-third g (s .args .size) e (s .args .number .0) (s .args .level) last

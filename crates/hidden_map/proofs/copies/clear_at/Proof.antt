@@ -1,5 +1,5 @@
--- `hidden_map::copies::clear_at` meets its contract: zeros copied. The loop's invariant: the first i bytes are cleared.
--- The measure is what is left to clear. Assumes nothing.
+-- `hidden_map::copies::clear_at` meets its contract: zeros copied. The loop's invariant: the first i bytes
+-- are cleared. The measure is what is left to clear. Assumes nothing.
 use mathlib.Core.Path.{_≡_, refl}
 use Prim.Native.Nat.{ℕ, _-_, _≤_, zero-le}
 use native.Mathlib.Omega.{arith}
@@ -18,7 +18,8 @@ abbrev μ-loop : tie.MeasureT-loop
 μ-loop target₀ at count i₀ target i = count - i
 
 loop-holds : tie.Need-loop-holds Inv-loop μ-loop
-loop-holds c = (zero-le, (paste-zero (c .args .target .now) (c .args .at) (replicate (c .args .count) 0), refl))
+loop-holds c =
+    (zero-le, (paste-zero (c .args .target .now) (c .args .at) (replicate (c .args .count) 0), refl))
 
 add-target : tie.Need-add-target Inv-loop μ-loop
 add-target c = search needs
@@ -38,7 +39,8 @@ loop-again c =
     let s = c .before .before in
     let n = length-replicate {A = ℕ} (s .args .count) 0 in
     let z = getD-replicate {A = ℕ} (s .args .count) (l .i) 0 0 (c .loop-test .taken) in
-    let cleared = set-paste (s .args .target .now) (s .args .at) (replicate (s .args .count) 0) (l .i) (l .target)
+    let cleared = set-paste (s .args .target .now) (s .args .at) (replicate (s .args .count) 0) (l .i)
+    (l .target)
     (l .inv .1 .0) (omega (arith, n, s .pre)) (omega (arith, n)) in
     (search needs, (rw z at cleared, simp length-set (l .inv .1 .1)))
 

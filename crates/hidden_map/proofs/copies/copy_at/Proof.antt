@@ -1,5 +1,5 @@
--- `hidden_map::copies::copy_at` meets its contract. The loop's invariant: the first i bytes are copied. The measure is
--- what is left of the source. Assumes nothing.
+-- `hidden_map::copies::copy_at` meets its contract. The loop's invariant: the first i bytes are copied. The
+-- measure is what is left of the source. Assumes nothing.
 use mathlib.Core.Path.{_≡_, refl}
 use Prim.Native.Nat.{_-_, _≤_, zero-le}
 use borrow.Author.Needs.{needs}
@@ -38,7 +38,8 @@ loop-again : tie.Need-loop-again Inv-loop μ-loop
 loop-again c =
     let l = c .before .before .loop in
     let s = c .before .before .before in
-    let copied = set-paste (s .args .target .now) (s .args .at) (s .args .source .now) (l .i) (l .target) (l .inv .1 .0)
+    let copied = set-paste (s .args .target .now) (s .args .at) (s .args .source .now) (l .i) (l .target)
+    (l .inv .1 .0)
     (s .pre) (c .before .loop-test .taken) in
     (search needs, (copied, simp length-set (l .inv .1 .1)))
 
@@ -49,7 +50,8 @@ returns : tie.Need-returns Inv-loop μ-loop
 returns c =
     let l = c .before .loop in
     let a = c .before .before .args in
-    paste-whole (a .target .now) (a .at) (a .source .now) (l .i) (l .target) (l .inv .1 .0) (l .inv .0) (c .loop-test .left)
+    paste-whole (a .target .now) (a .at) (a .source .now) (l .i) (l .target) (l .inv .1 .0) (l .inv .0)
+    (c .loop-test .left)
 
 pub copy-at-spec : {M : Type 1} → statement M
 copy-at-spec =

@@ -1,45 +1,49 @@
+-- `hidden_map::paths::copy_node` meets its contract: the part of the disk that is copied is the block.
+-- Assumes nothing.
+use mathlib.Core.Path.{_≡_, sym, ap, _∙_}
+use mathlib.Core.List.{List}
+use Prim.Native.Nat.{ℕ, _+_, _*_, _-_}
+use native.Mathlib.Omega.{arith}
 use borrow.Author.Needs.{needs}
+use Rattle.laws.specs.Lists.{over}
+use Rattle.laws.proofs.Lists.{part-is}
+use Rattle.model.specs.Blocks.{Bytes}
+use Rattle.model.proofs.Laws.Blocks.{blockAt-is}
 use Rattle.hidden_map.proofs.paths.copy_node.Statement.{statement}
 use Rattle.hidden_map.proofs.paths.copy_node.Tie as tie
-use Rattle.hidden_map.proofs.paths.copy_node.Reads as reads
-use Rattle.hidden_map.proofs.paths.copy_node.Lts as lts
-use Rattle.hidden_map.proofs.copies.copy_at.Reads as copy-at-reads
 
--- src/paths.rt:26:17
 cast-from : tie.Need-cast-from
 cast-from c = search needs
 
--- src/paths.rt:26:16
 mul-from : tie.Need-mul-from
 mul-from c = search needs
 
--- src/paths.rt:27:14
 add-to : tie.Need-add-to
 add-to c = search needs
 
--- src/paths.rt:28:24
 sub-copy-at : tie.Need-sub-copy-at
 sub-copy-at c = search needs
 
--- src/paths.rt:28:24
 part-copy-at-start : tie.Need-part-copy-at-start
 part-copy-at-start c = search needs
 
--- src/paths.rt:28:24
 part-copy-at-end : tie.Need-part-copy-at-end
 part-copy-at-end c = search needs
 
--- src/paths.rt:28:5
 copy-at-requires : tie.Need-copy-at-requires
 copy-at-requires c κs = search needs
 
--- src/paths.rt:20:1
 same-length : tie.Need-same-length
 same-length c = search needs
 
--- src/paths.rt:20:1
 returns : tie.Need-returns
-returns c = ?
+returns c =
+    let a = c .before .before .before .before .before .before .before .before .args in
+    let from = a .address .0 * a .size in
+    let width : from + a .size - from ≡ a .size = omega arith in
+    let block = blockAt-is (a .size) (a .disk .now) (a .address .0) ∙ part-is from (a .size) (a .disk .now) in
+    c .before .before .copy-at .ensures
+    ∙ ap (λ (xs : Bytes). over (a .at) xs (a .nodes .now)) (rw width (sym block))
 
 pub copy-node-spec : {M : Type 1} → statement M
 copy-node-spec =

@@ -1,5 +1,6 @@
--- `hidden_map::walks::walk_from` meets its contract: the answer of the first step ends the walk at the leaf and where the
--- step leads nowhere, and otherwise the rest of the walk does. The measure is the level. Assumes nothing.
+-- `hidden_map::walks::walk_from` meets its contract: the answer of the first step ends the walk at the leaf
+-- and where the step leads nowhere, and otherwise the rest of the walk does. The measure is the level.
+-- Assumes nothing.
 use mathlib.Core.Path.{_≡_, sym, ap, _∙_}
 use mathlib.Core.Bool.{false}
 use Prim.Native.Nat.{ℕ, _-_, _<_}
@@ -55,7 +56,8 @@ goes :
     GoesOn g (a .disk .now) (a .number .0) (nodeOf t s g) (a .level) address
 goes t s g tree address some e =
     let a = s .before .before .args in
-    walkFrom-goes g (a .disk .now) (a .number .0) (nodeOf t s g) (a .level) address some (sym e ∙ s .step .ensures g tree)
+    walkFrom-goes g (a .disk .now) (a .number .0) (nodeOf t s g) (a .level) address some
+    (sym e ∙ s .step .ensures g tree)
 
 walk-from-step-requires : (t : ℕ) → walk-from-lts.Need-step-requires (reads t) (walk-from-at t) walk-from.Post
 walk-from-step-requires t c κs = c .before .pre .1
@@ -68,7 +70,8 @@ walk-from-returns t c =
     ∙ sym (ap (λ (path : Walk). path .end)
     (walkFrom-leaf g (a .disk .now) (a .number .0) (nodeOf t s g) (a .level) (c .if1 .taken)))
 
-walk-from-enum-known-next : (t : ℕ) → walk-from-lts.Need-enum-known-next (reads t) (walk-from-at t) walk-from.Post
+walk-from-enum-known-next : (t : ℕ) → walk-from-lts.Need-enum-known-next (reads t)
+    (walk-from-at t) walk-from.Post
 walk-from-enum-known-next t c = search needs
 
 walk-from-returns-2 : (t : ℕ) → walk-from-lts.Need-returns-2 (reads t) (walk-from-at t) walk-from.Post
@@ -85,16 +88,18 @@ walk-from-returns-2 t c =
 walk-from-sub-walk-from : (t : ℕ) → walk-from-lts.Need-sub-walk-from (reads t) (walk-from-at t) walk-from.Post
 walk-from-sub-walk-from t c = search needs
 
-walk-from-walk-from-requires : (t : ℕ) → walk-from-lts.Need-walk-from-requires (reads t) (walk-from-at t) walk-from.Post
+walk-from-walk-from-requires : (t : ℕ) → walk-from-lts.Need-walk-from-requires (reads t)
+    (walk-from-at t) walk-from.Post
 walk-from-walk-from-requires t c κs =
     let s = c .before .before .before .before in
     let w = s .before .before in
     let p = w .pre .1 in
     let next = c .before .next .given in
     let inside = goes t s (p .0 .geometry) (p .0 .tree) (next .0 .0 .0) (c .before .before .before .if1 .left)
-    (ap endOf (next .1)) .address-inside in
-    (omega (arith, w .pre .0, c .before .before .before .if1 .left),
-    (p .0, (omega (arith, p .1 .0), omega (arith, p .0 .tree .area .count-is, inside))))
+    (ap endOf (next .1)) .address-inside in (
+      omega (arith, w .pre .0, c .before .before .before .if1 .left),
+      (p .0, (omega (arith, p .1 .0), omega (arith, p .0 .tree .area .count-is, inside))),
+    )
 
 walk-from-returns-3 : (t : ℕ) → walk-from-lts.Need-returns-3 (reads t) (walk-from-at t) walk-from.Post
 walk-from-returns-3 t c =
@@ -102,7 +107,8 @@ walk-from-returns-3 t c =
     let next = c .before .before .next .given in
     λ g tree. c .walk-from .ensures g tree
     ∙ sym (ap (λ (path : Walk). path .end)
-    (goes t s g tree (next .0 .0 .0) (c .before .before .before .before .if1 .left) (ap endOf (next .1)) .goes-on))
+    (goes t s g tree (next .0 .0 .0) (c .before .before .before .before .if1 .left)
+    (ap endOf (next .1)) .goes-on))
 
 pub +walk-from-spec : {M : Type 1} → statement M
 +walk-from-spec =

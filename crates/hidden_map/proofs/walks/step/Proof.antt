@@ -1,5 +1,5 @@
--- `hidden_map::walks::step` meets its contract: the entry that is read over the whole disk is the node's, and each of its
--- three ways is a law. Assumes nothing.
+-- `hidden_map::walks::step` meets its contract: the entry that is read over the whole disk is the node's, and
+-- each of its three ways is a law. Assumes nothing.
 use mathlib.Core.Path.{_≡_, refl}
 use Prim.Native.Nat.{ℕ, _+_, _*_, _/_, _≤_}
 use native.Mathlib.Omega.{arith}
@@ -21,7 +21,8 @@ use Rattle.layout.proofs.entries.entry_at.Reads as entry-at-reads
 
 -- the entry ends inside the disk
 entry-inside :
-    (s : tie.Start) (branch : ℕ) → branch ≡ branchAt (s .pre .0 .geometry) (s .args .number .0) (s .args .level) →
+    (s : tie.Start) (branch : ℕ) → branch ≡ branchAt (s .pre .0 .geometry) (s .args .number .0)
+    (s .args .level) →
     4 * (s .args .address .0 * (s .args .size / 4) + branch) + 4 ≤ length (s .args .disk .now)
 entry-inside s branch e =
     let a = s .args in
@@ -39,8 +40,10 @@ entry-is :
 entry-is c g t =
     let a = c .before .before .before .before .args in
     let branch = c .before .branch-at in
-    branch-entry-is g (a .disk .now) (a .size) (a .height) (a .start .0) (a .count) t (a .number .0) (a .level)
-    (a .address .0) (branch .result) (branch .ensures g (t .size-is)) (c .entry-at .result) (c .entry-at .ensures)
+    branch-entry-is g (a .disk .now) (a .size) (a .height) (a .start .0) (a .count) t (a .number .0)
+    (a .level)
+    (a .address .0) (branch .result) (branch .ensures g (t .size-is)) (c .entry-at .result)
+    (c .entry-at .ensures)
 
 -- src/walks.rt:29:19
 cast-before : tie.Need-cast-before
@@ -48,9 +51,13 @@ cast-before c = search needs
 
 -- src/walks.rt:29:18
 mul-before : tie.Need-mul-before
-mul-before c = 
+mul-before c =
     let s = c .before .before in
-    omega (arith, entry-inside s (branchAt (s .pre .0 .geometry) (s .args .number .0) (s .args .level)) refl, s .good)
+    omega (
+      arith,
+      entry-inside s (branchAt (s .pre .0 .geometry) (s .args .number .0) (s .args .level)) refl,
+      s .good,
+    )
 
 -- src/walks.rt:30:41
 branch-at-requires : tie.Need-branch-at-requires
@@ -58,19 +65,24 @@ branch-at-requires c κs = search needs
 
 -- src/walks.rt:30:32
 add-entry-at : tie.Need-add-entry-at
-add-entry-at c = 
+add-entry-at c =
     let s = c .before .before .before in
-    omega (arith, entry-inside s (c .branch-at .result) (c .branch-at .ensures (s .pre .0 .geometry) (s .pre .0 .tree .size-is)))
+    omega (
+      arith,
+      entry-inside s (c .branch-at .result)
+          (c .branch-at .ensures (s .pre .0 .geometry) (s .pre .0 .tree .size-is)),
+    )
 
 -- src/walks.rt:30:9
 entry-at-requires : tie.Need-entry-at-requires
-entry-at-requires c κs = 
+entry-at-requires c κs =
     let s = c .before .before .before in
-    entry-inside s (c .branch-at .result) (c .branch-at .ensures (s .pre .0 .geometry) (s .pre .0 .tree .size-is))
+    entry-inside s (c .branch-at .result) (c .branch-at .ensures (s .pre .0 .geometry)
+    (s .pre .0 .tree .size-is))
 
 -- src/walks.rt:32:9
 returns : tie.Need-returns
-returns c = 
+returns c =
     let a = c .before .before .before .before .before .args in
     λ g t. stepOf-unmapped g (a .number .0) (a .level) (blockAt (g .blockSize) (a .disk .now) (a .address .0))
     (c .before .entry-at .result) (entry-is (c .before) g t) (c .if1 .taken)
@@ -81,18 +93,20 @@ is-well-formed-requires c κs = search needs
 
 -- src/walks.rt:35:9
 returns-2 : tie.Need-returns-2
-returns-2 c = 
+returns-2 c =
     let a = c .before .before .before .before .before .before .before .args in
     λ g t. stepOf-found g (a .number .0) (a .level) (blockAt (g .blockSize) (a .disk .now) (a .address .0))
-    (c .before .before .before .entry-at .result) (entry-is (c .before .before .before) g t) (c .before .before .if1 .left) (c .before .is-well-formed .result)
+    (c .before .before .before .entry-at .result) (entry-is (c .before .before .before) g t)
+    (c .before .before .if1 .left) (c .before .is-well-formed .result)
     (c .before .is-well-formed .ensures g (t .area)) (c .if2 .taken)
 
 -- src/walks.rt:24:1
 returns-3 : tie.Need-returns-3
-returns-3 c = 
+returns-3 c =
     let a = c .before .before .before .before .before .before .before .args in
     λ g t. stepOf-damaged g (a .number .0) (a .level) (blockAt (g .blockSize) (a .disk .now) (a .address .0))
-    (c .before .before .before .entry-at .result) (entry-is (c .before .before .before) g t) (c .before .before .if1 .left) (c .before .is-well-formed .result)
+    (c .before .before .before .entry-at .result) (entry-is (c .before .before .before) g t)
+    (c .before .before .if1 .left) (c .before .is-well-formed .result)
     (c .before .is-well-formed .ensures g (t .area)) (c .if2 .left)
 
 pub step-spec : {M : Type 1} → statement M

@@ -1,42 +1,52 @@
+-- `hidden_map::walks::walk` meets its contract: the numbers that it hands on are those of its geometry.
+-- Assumes nothing.
+use mathlib.Core.Path.{_≡_, ap, _∙_}
+use Prim.Native.Nat.{ℕ, _-_}
+use native.Mathlib.Omega.{arith}
 use borrow.Author.Needs.{needs}
+use Rattle.model.specs.Blocks.{blockAt}
+use Rattle.model.specs.HiddenTree.{walkFrom}
+use Rattle.layout.specs.Geometries.{geometryOf}
+use Rattle.hidden_map.proofs.Laws.Trees.{treeOf-drive, walkable-drive, root-is, root-inside}
 use Rattle.hidden_map.proofs.walks.walk.Statement.{statement}
 use Rattle.hidden_map.proofs.walks.walk.Tie as tie
-use Rattle.hidden_map.proofs.walks.walk.Reads as reads
-use Rattle.hidden_map.proofs.walks.walk.Lts as lts
-use Rattle.hidden_map.proofs.walks.walk_from.Reads as walk-from-reads
-use Rattle.layout.proofs.geometry.area_start.Reads as area-start-reads
 
--- src/walks.rt:62:9
 area-start-requires : tie.Need-area-start-requires
 area-start-requires c κs = search needs
 
--- src/walks.rt:63:28
 sub-count : tie.Need-sub-count
 sub-count c = search needs
 
--- src/walks.rt:64:38
 add-count : tie.Need-add-count
 add-count c = search needs
 
--- src/walks.rt:64:27
 mul-count : tie.Need-mul-count
 mul-count c = search needs
 
--- src/walks.rt:64:17
 add-count-2 : tie.Need-add-count-2
 add-count-2 c = search needs
 
--- src/walks.rt:65:65
 sub-walk-from : tie.Need-sub-walk-from
 sub-walk-from c = search needs
 
--- src/walks.rt:65:5
 walk-from-requires : tie.Need-walk-from-requires
-walk-from-requires c κs = ?
+walk-from-requires c κs =
+    let s = c .before .before .before .before .before in
+    let g = geometryOf (s .args .g) in
+    let start = c .before .before .before .area-start in (
+      walkable-drive g (s .args .disk .now) (s .pre) (start .result .0) (start .ensures),
+      (omega arith, root-inside g (s .args .disk .now) (s .pre) (start .result .0) (start .ensures)),
+    )
 
--- src/walks.rt:57:1
 returns : tie.Need-returns
-returns c = ?
+returns c =
+    let s = c .before .before .before .before .before .before in
+    let g = geometryOf (s .args .g) in
+    let start = c .before .before .before .before .area-start in
+    c .walk-from .ensures g (treeOf-drive g (s .args .disk .now) (s .pre) (start .result .0) (start .ensures))
+    ∙ ap (λ (n : ℕ). walkFrom g (s .args .disk .now) (s .args .number .0) (g .height - 1)
+    (blockAt (g .blockSize) (s .args .disk .now) n) .end)
+    (root-is g (s .args .disk .now) (s .pre) (start .result .0) (start .ensures))
 
 pub walk-spec : {M : Type 1} → statement M
 walk-spec =

@@ -1,0 +1,63 @@
+use borrow.Author.Needs.{needs}
+use Rattle.hidden_half.proofs.nodes.link_node.Statement.{statement}
+use Rattle.hidden_half.proofs.nodes.link_node.Tie as tie
+use Rattle.hidden_half.proofs.nodes.link_node.Reads as reads
+use Rattle.hidden_half.proofs.nodes.link_node.Lts as lts
+use Rattle.hidden_half.proofs.nodes.level_address.Reads as level-address-reads
+use Rattle.hidden_map.proofs.branches.branch_at.Reads as branch-at-reads
+use Rattle.layout.proofs.entries.put_entry.Reads as put-entry-reads
+
+-- src/nodes.rt:42:9
+level-address-requires : tie.Need-level-address-requires
+level-address-requires c κs = search needs
+
+-- src/nodes.rt:43:16
+cast-last : tie.Need-cast-last
+cast-last c = search needs
+
+-- src/nodes.rt:43:16
+sub-last : tie.Need-sub-last
+sub-last c = search needs
+
+-- src/nodes.rt:44:22
+branch-at-requires : tie.Need-branch-at-requires
+branch-at-requires c κs = search needs
+
+-- src/nodes.rt:44:5
+put-entry-requires : tie.Need-put-entry-requires
+put-entry-requires c κs = ?
+
+-- src/nodes.rt:46:9
+put-entry-requires-2 : tie.Need-put-entry-requires-2
+put-entry-requires-2 c κs = search needs
+
+-- src/nodes.rt:35:1
+same-length : tie.Need-same-length
+same-length c = search needs
+
+-- src/nodes.rt:35:1
+returns : tie.Need-returns
+returns c = ?
+
+-- src/nodes.rt:35:1
+same-length-2 : tie.Need-same-length-2
+same-length-2 c = search needs
+
+-- src/nodes.rt:35:1
+returns-2 : tie.Need-returns-2
+returns-2 c = ?
+
+pub link-node-spec : {M : Type 1} → statement M
+link-node-spec =
+    tie.close
+    (tie.spec
+    level-address-requires
+    cast-last
+    sub-last
+    branch-at-requires
+    put-entry-requires
+    put-entry-requires-2
+    same-length
+    returns
+    same-length-2
+    returns-2)

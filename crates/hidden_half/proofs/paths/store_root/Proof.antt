@@ -1,0 +1,57 @@
+use borrow.Author.Needs.{needs}
+use Rattle.hidden_half.proofs.paths.store_root.Statement.{statement}
+use Rattle.hidden_half.proofs.paths.store_root.Tie as tie
+use Rattle.hidden_half.proofs.paths.store_root.Reads as reads
+use Rattle.hidden_half.proofs.paths.store_root.Lts as lts
+use Rattle.hidden_half.proofs.nodes.store_linked.Reads as store-linked-reads
+use Rattle.layout.proofs.geometry.root_address.Reads as root-address-reads
+
+-- src/paths.rt:68:17
+cast-width : tie.Need-cast-width
+cast-width c = search needs
+
+-- src/paths.rt:69:15
+sub-top : tie.Need-sub-top
+sub-top c = search needs
+
+-- src/paths.rt:70:58
+root-address-requires : tie.Need-root-address-requires
+root-address-requires c κs = search needs
+
+-- src/paths.rt:70:75
+slice-aggregate-store-linked : tie.Need-slice-aggregate-store-linked
+slice-aggregate-store-linked c = ?
+
+-- src/paths.rt:70:5
+store-linked-requires : tie.Need-store-linked-requires
+store-linked-requires c κs = ?
+
+-- src/paths.rt:51:1
+same-length : tie.Need-same-length
+same-length c = search needs
+
+-- src/paths.rt:51:1
+same-length-2 : tie.Need-same-length-2
+same-length-2 c = search needs
+
+-- src/paths.rt:51:1
+same-length-3 : tie.Need-same-length-3
+same-length-3 c = search needs
+
+-- src/paths.rt:51:1
+returns : tie.Need-returns
+returns c = ?
+
+pub store-root-spec : {M : Type 1} → statement M
+store-root-spec =
+    tie.close
+    (tie.spec
+    cast-width
+    sub-top
+    root-address-requires
+    slice-aggregate-store-linked
+    store-linked-requires
+    same-length
+    same-length-2
+    same-length-3
+    returns)

@@ -74,6 +74,25 @@ setBlock-blockAt width disk count whole address h =
     over-part (address * width) width disk (block-inside width disk count whole address h)
 
 
+pub apply-keptBlocks :
+    (g : Geometry) (disk : Bytes) → length disk ≡ blockCount g * g .blockSize → (address count : ℕ) →
+    address + count ≤ blockCount g → apply (g .blockSize) (keptBlocks g disk address count) disk ≡ disk
+unfolding apply keptBlocks
+apply-keptBlocks g disk whole address zero h = refl
+apply-keptBlocks g disk whole address (suc count) h =
+    ap (apply (g .blockSize) (keptBlocks g disk (suc address) count))
+    (setBlock-blockAt (g .blockSize) disk (blockCount g) whole address (omega arith))
+    ∙ apply-keptBlocks g disk whole (suc address) count (omega arith)
+
+-- one store, its address and content said in another way
+pub made-same :
+    {width : ℕ} {address place : DiskAddress} {content other disk after : Bytes} {list entered : List DiskAddress}
+    {next last : ℕ} → address ≡ place → content ≡ other →
+    Made width (store address content ∷ []) disk list next after entered last →
+    Made width (store place other ∷ []) disk list next after entered last
+made-same {width} {disk = disk} {after = after} {list = list} {entered = entered} {next = next} {last = last} e k m =
+    subst (λ (x : Store). Made width (x ∷ []) disk list next after entered last) (ap₂ store e k) m
+
 -- ---- loops ----
 
 -- a block of a run of blocks stands inside it

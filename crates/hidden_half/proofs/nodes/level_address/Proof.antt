@@ -1,3 +1,9 @@
+use mathlib.Core.Path.{ap, _∙_}
+use Prim.Native.Nat.{ℕ, _+_}
+use native.Mathlib.Omega.{arith}
+use Rattle.model.proofs.Laws.Geometry.{slot-block-lt}
+use Rattle.layout.specs.Geometries.{geometryOf}
+use Rattle.hidden_half.proofs.Laws.Nodes.{levelAddress-data, levelAddress-node}
 use borrow.Author.Needs.{needs}
 use Rattle.hidden_half.proofs.nodes.level_address.Statement.{statement}
 use Rattle.hidden_half.proofs.nodes.level_address.Tie as tie
@@ -11,19 +17,43 @@ slot-start-requires c κs = search needs
 
 -- src/nodes.rt:29:28
 add-t6 : tie.Need-add-t6
-add-t6 c = ?
+add-t6 c =
+    let start = c .before .before .before .before in
+    let g = geometryOf (start .args .g) in
+    omega (
+      arith,
+      slot-block-lt g (start .args .slot) (g .height) (start .pre .1 .0) (omega arith),
+      start .pre .0 .blocks-high,
+    )
 
 -- src/nodes.rt:29:9
 returns : tie.Need-returns
-returns c = ?
+returns c =
+    let started = c .before .before .before in
+    let start = started .before in
+    let g = geometryOf (start .args .g) in
+    ap (λ (n : ℕ). n + g .height) (started .slot-start .ensures)
+    ∙ levelAddress-data g (start .args .slot) (start .args .level) (c .before .before .if1 .taken)
 
 -- src/nodes.rt:31:17
 add-t7 : tie.Need-add-t7
-add-t7 c = ?
+add-t7 c =
+    let start = c .before .before .before in
+    let g = geometryOf (start .args .g) in
+    omega (
+      arith,
+      slot-block-lt g (start .args .slot) (start .args .level) (start .pre .1 .0) (omega (arith, start .pre .1 .1)),
+      start .pre .0 .blocks-high,
+    )
 
 -- src/nodes.rt:21:1
 returns-2 : tie.Need-returns-2
-returns-2 c = ?
+returns-2 c =
+    let started = c .before .before in
+    let start = started .before in
+    let g = geometryOf (start .args .g) in
+    ap (λ (n : ℕ). n + start .args .level) (started .slot-start .ensures)
+    ∙ levelAddress-node g (start .args .slot) (start .args .level) (c .before .if1 .left)
 
 pub level-address-spec : {M : Type 1} → statement M
 level-address-spec = tie.close (tie.spec slot-start-requires add-t6 returns add-t7 returns-2)

@@ -1,3 +1,8 @@
+use mathlib.Core.Path.{refl}
+use native.Mathlib.Omega.{arith}
+use Rattle.model.proofs.Laws.Paths.{branchAt-fits}
+use Rattle.layout.specs.Geometries.{geometryOf}
+use Rattle.hidden_half.proofs.Laws.Nodes.{linked-leaf, linked-above}
 use borrow.Author.Needs.{needs}
 use Rattle.hidden_half.proofs.nodes.link_node.Statement.{statement}
 use Rattle.hidden_half.proofs.nodes.link_node.Tie as tie
@@ -25,7 +30,15 @@ branch-at-requires c κs = search needs
 
 -- src/nodes.rt:44:5
 put-entry-requires : tie.Need-put-entry-requires
-put-entry-requires c κs = ?
+put-entry-requires c κs =
+    let start = c .before .before .before .before .before in
+    let g = geometryOf (start .args .g) in
+    omega (
+      arith,
+      branchAt-fits g (start .pre .0) (start .args .number .0) (start .args .level),
+      c .branch-at .ensures g refl,
+      start .pre .1 .1 .1,
+    )
 
 -- src/nodes.rt:46:9
 put-entry-requires-2 : tie.Need-put-entry-requires-2
@@ -37,7 +50,16 @@ same-length c = search needs
 
 -- src/nodes.rt:35:1
 returns : tie.Need-returns
-returns c = ?
+returns c =
+    let entered = c .before .before .before .before .before .before .before in
+    let branched = entered .before in
+    let started = branched .before .before .before in
+    let start = started .before .before in
+    let g = geometryOf (start .args .g) in
+    linked-leaf g (start .args .number .0) (start .args .slot) (start .args .level) (branched .branch-at .result)
+    (started .level-address .result .0) (start .args .block .now) (entered .put-entry .last .0)
+    (branched .branch-at .ensures g refl) (started .level-address .ensures) (entered .put-entry .ensures)
+    (c .before .before .put-entry2 .last .0) (c .before .before .put-entry2 .ensures) (c .before .before .before .before .if1 .taken)
 
 -- src/nodes.rt:35:1
 same-length-2 : tie.Need-same-length-2
@@ -45,7 +67,16 @@ same-length-2 c = search needs
 
 -- src/nodes.rt:35:1
 returns-2 : tie.Need-returns-2
-returns-2 c = ?
+returns-2 c =
+    let entered = c .before .before .before in
+    let branched = entered .before in
+    let started = branched .before .before .before in
+    let start = started .before .before in
+    let g = geometryOf (start .args .g) in
+    linked-above g (start .args .number .0) (start .args .slot) (start .args .level) (branched .branch-at .result)
+    (started .level-address .result .0) (start .args .block .now) (entered .put-entry .last .0)
+    (branched .branch-at .ensures g refl) (started .level-address .ensures) (entered .put-entry .ensures)
+    (c .if1 .left)
 
 pub link-node-spec : {M : Type 1} → statement M
 link-node-spec =

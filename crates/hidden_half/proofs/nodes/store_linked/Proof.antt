@@ -1,3 +1,8 @@
+use mathlib.Core.Path.{refl, sym, ap, _∙_}
+use Rattle.laws.proofs.Lists.{over-whole}
+use Rattle.model.specs.Paths.{linkedNode}
+use Rattle.layout.specs.Geometries.{geometryOf}
+use Rattle.hidden_half.proofs.Laws.Runs.{made-same}
 use borrow.Author.Needs.{needs}
 use Rattle.hidden_half.proofs.nodes.store_linked.Statement.{statement}
 use Rattle.hidden_half.proofs.nodes.store_linked.Tie as tie
@@ -33,7 +38,18 @@ same-length-3 c = search needs
 
 -- src/nodes.rt:51:1
 returns : tie.Need-returns
-returns c = ?
+returns c =
+    let stored = c .before .before .before .before in
+    let linked = c .before .before .before .before .before .before .before .before .before .before in
+    let copied = c .before .before .before .before .before .before .before .before .before .before .before .before .before .before in
+    let start = c .before .before .before .before .before .before .before .before .before .before .before .before .before .before .before .before .before .before .before .before in
+    let pre = start .pre .1 .1 .1 .1 in
+    made-same refl
+    (linked .link-node .ensures
+    ∙ ap (linkedNode (geometryOf (start .args .g)) (start .args .number .0) (start .args .slot) (start .args .level))
+    (copied .copy-to .ensures
+    ∙ over-whole (start .args .node .now) (start .args .block .now) (pre .0 ∙ sym (pre .1 .0))))
+    (stored .store-block .ensures)
 
 pub store-linked-spec : {M : Type 1} → statement M
 store-linked-spec =

@@ -1,3 +1,8 @@
+use Prim.Native.Nat.{_+_}
+use native.Mathlib.Omega.{arith}
+use Rattle.model.proofs.Laws.Geometry.{slot-block-lt, rootAddress-lt}
+use Rattle.layout.specs.Geometries.{geometryOf}
+use Rattle.hidden_half.proofs.Laws.Halves.{length-randomBlocks, filled}
 use borrow.Author.Needs.{needs}
 use Rattle.hidden_half.proofs.paths.fill_random.Statement.{statement}
 use Rattle.hidden_half.proofs.paths.fill_random.Tie as tie
@@ -14,11 +19,32 @@ slot-start-requires c κs = search needs
 
 -- src/paths.rt:44:61
 add-t13 : tie.Need-add-t13
-add-t13 c = ?
+add-t13 c =
+    let start = c .before .before .before .before .before .before .before in
+    let g = geometryOf (start .args .g) in
+    omega (
+      arith,
+      c .before .before .before .slot-start .ensures,
+      slot-block-lt g (start .args .slot) (g .height) (start .pre .1 .0) (omega arith),
+      start .pre .0 .fits .blocks-high,
+      start .pre .0 .fits .height-low,
+    )
 
 -- src/paths.rt:44:9
 random-blocks-requires : tie.Need-random-blocks-requires
-random-blocks-requires c κs = ?
+random-blocks-requires c κs =
+    let start = c .before .before .before .before .before .before .before in
+    let g = geometryOf (start .args .g) in (
+      start .pre .0,
+      (
+        omega (
+            arith,
+            c .before .before .before .slot-start .ensures,
+            slot-block-lt g (start .args .slot) (g .height) (start .pre .1 .0) (omega arith),
+          ),
+        (omega (arith, start .pre .1 .1 .0), start .pre .1 .1 .1),
+      ),
+    )
 
 -- src/paths.rt:45:38
 root-address-requires : tie.Need-root-address-requires
@@ -26,7 +52,25 @@ root-address-requires c κs = search needs
 
 -- src/paths.rt:45:5
 store-changed-requires : tie.Need-store-changed-requires
-store-changed-requires c κs = ?
+store-changed-requires c κs =
+    let ran = c .before .before .before .before .before .before .before in
+    let start = c .before .before .before .before .before .before .before .before .before .before .before .before .before .before .before in
+    let g = geometryOf (start .args .g) in (
+      search needs,
+      (
+        omega (arith, c .root-address .ensures, rootAddress-lt g),
+        (
+          tt,
+          omega (
+            arith,
+            ran .random-blocks .ensures .counted,
+            length-randomBlocks g (c .before .before .before .before .before .before .before .before .before .before .before .slot-start .result .0 + 1) (g .height) (start .args .random .now),
+            ran .random-blocks .kept .1 .0,
+            start .pre .1 .1 .0,
+          ),
+        ),
+      ),
+    )
 
 -- src/paths.rt:36:1
 same-length : tie.Need-same-length
@@ -38,7 +82,15 @@ same-length-2 c = search needs
 
 -- src/paths.rt:36:1
 returns : tie.Need-returns
-returns c = ?
+returns c =
+    let stored = c .before .before .before .before in
+    let rooted = c .before .before .before .before .before in
+    let ran = c .before .before .before .before .before .before .before .before .before .before .before .before in
+    let started = c .before .before .before .before .before .before .before .before .before .before .before .before .before .before .before .before in
+    let start = c .before .before .before .before .before .before .before .before .before .before .before .before .before .before .before .before .before .before .before .before in
+    filled (geometryOf (start .args .g)) (start .args .slot) (started .slot-start .result .0)
+    (rooted .root-address .result .0) (start .pre .0) (start .pre .1 .0) (start .pre .1 .1 .0) (started .slot-start .ensures)
+    (rooted .root-address .ensures) (start .args .random .now) (start .pre .1 .1 .1) (ran .random-blocks .ensures) (stored .store-changed .ensures)
 
 pub fill-random-spec : {M : Type 1} → statement M
 fill-random-spec =

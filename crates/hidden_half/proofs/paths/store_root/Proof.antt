@@ -1,3 +1,11 @@
+use mathlib.Core.Path.{refl, sym}
+use Prim.Native.Nat.{_*_, _≤_}
+use native.Mathlib.Omega.{arith}
+use lib.ListN.{length}
+use lib.Seq.{length-take-le}
+use Rattle.model.proofs.Laws.Geometry.{rootAddress-lt}
+use Rattle.layout.specs.Geometries.{geometryOf}
+use Rattle.hidden_half.proofs.Laws.Runs.{made-same, block-of-run}
 use borrow.Author.Needs.{needs}
 use Rattle.hidden_half.proofs.paths.store_root.Statement.{statement}
 use Rattle.hidden_half.proofs.paths.store_root.Tie as tie
@@ -20,11 +28,39 @@ root-address-requires c κs = search needs
 
 -- src/paths.rt:70:75
 slice-aggregate-store-linked : tie.Need-slice-aggregate-store-linked
-slice-aggregate-store-linked c = ?
+slice-aggregate-store-linked c =
+    let start = c .before .before .before .before .before .before .before .before .before .before in
+    let g = geometryOf (start .args .g) in
+    sym
+    (length-take-le (g .blockSize) (start .args .nodes .now)
+    (omega (
+      arith,
+      start .pre .1 .1 .0,
+      block-of-run (g .blockSize) (g .height) 0 (omega (arith, start .pre .0 .fits .height-low)),
+    )))
 
 -- src/paths.rt:70:5
 store-linked-requires : tie.Need-store-linked-requires
-store-linked-requires c κs = ?
+store-linked-requires c κs =
+    let start = c .before .before .before .before .before .before .before .before .before .before .before in
+    let g = geometryOf (start .args .g) in (
+      search needs,
+      (
+        start .pre .1 .0,
+        (
+          omega (arith, start .pre .0 .fits .height-low),
+          (
+            omega (arith, c .before .before .root-address .ensures, rootAddress-lt g),
+            (length-take-le (g .blockSize) (start .args .nodes .now)
+    (omega (
+      arith,
+      start .pre .1 .1 .0,
+      block-of-run (g .blockSize) (g .height) 0 (omega (arith, start .pre .0 .fits .height-low)),
+    )), (start .pre .1 .1 .1 .0, start .pre .1 .1 .1 .1)),
+          ),
+        ),
+      ),
+    )
 
 -- src/paths.rt:51:1
 same-length : tie.Need-same-length
@@ -40,7 +76,8 @@ same-length-3 c = search needs
 
 -- src/paths.rt:51:1
 returns : tie.Need-returns
-returns c = ?
+returns c =
+    made-same (c .before .before .before .before .before .before .before .before .before .root-address .ensures) refl (c .before .before .before .before .before .before .store-linked .ensures)
 
 pub store-root-spec : {M : Type 1} → statement M
 store-root-spec =

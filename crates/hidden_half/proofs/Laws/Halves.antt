@@ -33,18 +33,18 @@ record Runs (g : Geometry) (from count : ℕ) (trace : Trace) : Type 0 where
   run : addresses trace ≡ addressesFrom from count
   whole : All (WholeStore g) trace
 
-length-run : {from count : ℕ} (trace : Trace) → addresses trace ≡ addressesFrom from count → length trace ≡ count
-length-run {from} {count} trace e = sym (length-addresses trace) ∙ ap length e ∙ length-addressesFrom from count
+length-run : (from count : ℕ) (trace : Trace) → addresses trace ≡ addressesFrom from count → length trace ≡ count
+length-run from count trace e = sym (length-addresses trace) ∙ ap length e ∙ length-addressesFrom from count
 
 pub length-keptBlocks :
     (g : Geometry) (disk : Bytes) (address count : ℕ) → length (keptBlocks g disk address count) ≡ count
 length-keptBlocks g disk address count =
-    length-run (keptBlocks g disk address count) (addresses-keptBlocks g disk address count)
+    length-run address count (keptBlocks g disk address count) (addresses-keptBlocks g disk address count)
 
 pub length-randomBlocks :
     (g : Geometry) (address count : ℕ) (random : Bytes) → length (randomBlocks g address count random) ≡ count
 length-randomBlocks g address count random =
-    length-run (randomBlocks g address count random) (addresses-randomBlocks g address count random)
+    length-run address count (randomBlocks g address count random) (addresses-randomBlocks g address count random)
 
 -- a block before or after the run is as it was
 blockAt-made-run :
@@ -78,7 +78,7 @@ module _ (g : Geometry) (slot start root : ℕ) {disk middle after : Bytes} {lis
       Made (g .blockSize) (keptBlock g middle root ∷ []) middle listed place after entered last →
       Made (g .blockSize) (trace ++ (keptBlock g disk (rootAddress g) ∷ [])) disk list next after entered last
   then-root trace run same m k =
-      let long : length trace ≡ g .height = length-run trace run in
+      let long : length trace ≡ g .height = length-run (slotStart g slot + 1) (g .height) trace run in
       made-then trace (keptBlock g disk (rootAddress g) ∷ []) (omega arith) m
       (made-same to (ap (blockAt (g .blockSize) middle) to ∙ same) k)
 
@@ -132,7 +132,7 @@ pub length-below :
     (g : Geometry) (number slot : ℕ) (bytes : Bytes) →
     length (nodeStores g number slot (belowRoot g bytes)) ≡ g .height - 1
 length-below g number slot bytes =
-    length-run (nodeStores g number slot (belowRoot g bytes)) (below-run g number slot bytes)
+    length-run (slotStart g slot + 1) (g .height - 1) (nodeStores g number slot (belowRoot g bytes)) (below-run g number slot bytes)
 
 pathStores-blocks :
     (g : Geometry) → Fits g → (number slot : ℕ) (content bytes : Bytes) →

@@ -5,11 +5,17 @@ use Prim.Native.Nat.{ℕ, suc, _+_, _≤_, _<_}
 use native.Mathlib.Nat.{le-antisymm}
 use native.Mathlib.Numerals.{add-one}
 use native.Mathlib.Omega.{arith}
-use lib.ListN.{length, length-append}
+use lib.ListN.{length}
+use Rattle.model.specs.Geometry.{Geometry}
 use Rattle.model.specs.Blocks.{Bytes, DiskAddress}
+use Rattle.model.specs.Layout.{Drive}
 use Rattle.model.specs.Stores.{Store, Trace}
 use Rattle.stores.specs.Made.{Made}
 use Rattle.stores.proofs.Laws.Made.{made-nothing, made-then}
+
+-- a drive whose length stays is still one
+pub drive-kept : {g : Geometry} {disk after : Bytes} → Drive g disk → length after ≡ length disk → Drive g after
+drive-kept drive e = record { fits = drive .fits; whole = e ∙ drive .whole }
 
 -- so many stores of a trace that grows by one a turn, of disk and list and next place before, then now
 pub record SoFar (width : ℕ) (traceOf : ℕ → Trace) (count : ℕ) (disk : Bytes) (list : List DiskAddress) (next : ℕ)

@@ -1,13 +1,15 @@
--- A law of plans: what is stored is read at the slot's hidden blocks and at the root alone. Assumes nothing.
-use mathlib.Core.Path.{_≡_, refl, ap, ap₂}
+-- Laws of plans: what is stored is read at the slot's hidden blocks and at the root alone, and a plan that is known.
+-- Assumes nothing.
+use mathlib.Core.Path.{_≡_, refl, sym, ap, ap₂, subst}
 use mathlib.Core.List.{List, [], _∷_, _++_}
 use Prim.Native.Nat.{ℕ, zero, suc, _+_, _≤_, _<_}
 use native.Mathlib.Omega.{arith}
 use Rattle.model.specs.Geometry.{Geometry, Fits, rootAddress}
-use Rattle.model.specs.Blocks.{Bytes, blockAt}
+use Rattle.model.specs.Blocks.{Bytes, DiskAddress, blockAt}
 use Rattle.model.specs.Layout.{slotStart}
 use Rattle.model.specs.Stores.{Store, Trace, store}
 use Rattle.model.specs.Paths.{keptBlock, keptBlocks, pathStores, randomBlocks}
+use Rattle.stores.specs.Made.{Made}
 use Rattle.hidden_half.specs.declared.halves.Plan.{Plan}
 use Rattle.hidden_half.specs.declared.halves.Plan.the-variants.{Back, Keep, Place, Fill}
 use Rattle.hidden_half.specs.Plans.{hiddenTrace}
@@ -49,3 +51,16 @@ hiddenTrace-agree g f slot disk other same Fill number content random nodes =
     ap {B = Trace}
     (λ (block : Bytes). randomBlocks g (slotStart g slot + 1) (g .height) random ++ (store (rootAddress g) block ∷ []))
     (same .root)
+
+-- ---- stores by a plan ----
+
+pub made-plan :
+    {width : ℕ} {disk after : Bytes} {list entered : List DiskAddress} {next last : ℕ} (g : Geometry)
+    (slot number : ℕ) (content random : Bytes) (nodes : List Bytes) {plan known : Plan} → plan ≡ known →
+    Made width (hiddenTrace known g disk slot number content random nodes) disk list next after entered last →
+    Made width (hiddenTrace plan g disk slot number content random nodes) disk list next after entered last
+made-plan {width} {disk} {after} {list} {entered} {next} {last} g slot number content random nodes e m =
+    subst
+    (λ (plan : Plan).
+    Made width (hiddenTrace plan g disk slot number content random nodes) disk list next after entered last)
+    (sym e) m

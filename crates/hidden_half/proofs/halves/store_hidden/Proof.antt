@@ -1,3 +1,6 @@
+use Rattle.layout.specs.Geometries.{geometryOf}
+use Rattle.hidden_half.specs.NodeBlocks.{blocksIn}
+use Rattle.hidden_half.proofs.Laws.Plans.{made-plan}
 use borrow.Author.Needs.{needs}
 use Rattle.hidden_half.proofs.halves.store_hidden.Statement.{statement}
 use Rattle.hidden_half.proofs.halves.store_hidden.Tie as tie
@@ -50,7 +53,11 @@ same-length-2 c = search needs
 
 -- src/halves.rt:24:1
 returns : tie.Need-returns
-returns c = ?
+returns c =
+    let start = c .before .before .before .before .before .before .before .before .before .before .before .before .before .before .before in
+    let g = geometryOf (start .args .g) in
+    made-plan g (start .args .slot) (start .args .number .0) (start .args .content .now) (start .args .random .now)
+    (blocksIn (g .blockSize) (g .height) (start .args .nodes .now)) (c .before .before .before .before .before .before .before .enum-told .given .1) (c .before .before .before .before .write-back .ensures)
 
 -- src/halves.rt:24:1
 same-length-3 : tie.Need-same-length-3
@@ -66,7 +73,11 @@ same-length-5 c = search needs
 
 -- src/halves.rt:24:1
 returns-2 : tie.Need-returns-2
-returns-2 c = ?
+returns-2 c =
+    let start = c .before .before .before .before .before .before .before .before .before .before .before .before .before .before .before .before .before .before .before in
+    let g = geometryOf (start .args .g) in
+    made-plan g (start .args .slot) (start .args .number .0) (start .args .content .now) (start .args .random .now)
+    (blocksIn (g .blockSize) (g .height) (start .args .nodes .now)) (c .before .before .before .before .before .before .before .before .before .before .before .plan .given .1) (c .before .before .before .before .before .before .keep-path .ensures)
 
 -- src/halves.rt:24:1
 same-length-6 : tie.Need-same-length-6
@@ -82,7 +93,11 @@ same-length-8 c = search needs
 
 -- src/halves.rt:24:1
 returns-3 : tie.Need-returns-3
-returns-3 c = ?
+returns-3 c =
+    let start = c .before .before .before .before .before .before .before .before .before .before .before .before .before .before .before .before .before .before in
+    let g = geometryOf (start .args .g) in
+    made-plan g (start .args .slot) (start .args .number .0) (start .args .content .now) (start .args .random .now)
+    (blocksIn (g .blockSize) (g .height) (start .args .nodes .now)) (c .before .before .before .before .before .before .before .before .before .before .enum-told2 .given .1) (c .before .before .before .before .before .before .store-path .ensures)
 
 -- src/halves.rt:24:1
 same-length-9 : tie.Need-same-length-9
@@ -94,7 +109,11 @@ same-length-10 c = search needs
 
 -- src/halves.rt:24:1
 returns-4 : tie.Need-returns-4
-returns-4 c = ?
+returns-4 c =
+    let start = c .before .before .before .before .before .before .before .before .before .before .before .before .before .before .before in
+    let g = geometryOf (start .args .g) in
+    made-plan g (start .args .slot) (start .args .number .0) (start .args .content .now) (start .args .random .now)
+    (blocksIn (g .blockSize) (g .height) (start .args .nodes .now)) (c .before .before .before .before .before .before .before .enum-told3 .given .1) (c .before .before .before .before .fill-random .ensures)
 
 pub store-hidden-spec : {M : Type 1} → statement M
 store-hidden-spec =

@@ -8,7 +8,7 @@ use lib.ListN.{length}
 use Rattle.model.specs.Stores.{Trace}
 use Rattle.layout.specs.Geometries.{geometryOf}
 use Rattle.stores.specs.Made.{Made}
-use Rattle.hidden_half.proofs.Laws.Loops.{SoFar, none-so-far, all-made}
+use Rattle.hidden_half.proofs.Laws.Loops.{drive-kept, SoFar, none-so-far, all-made}
 use Rattle.hidden_half.proofs.Laws.Runs.{block-of-run}
 use Rattle.hidden_half.proofs.Laws.Nodes.{levelAddress-lt, lowestStores, lowestStores-none, lowestStores-top}
 use Rattle.hidden_half.proofs.Laws.Nodes.{one-more-node}
@@ -101,7 +101,7 @@ store-linked-requires c κs =
     let turn = addressed .before .before in
     let start = turn .before .before .before .before .before .before .before in
     let g = geometryOf (start .args .g) in (
-      search needs,
+      drive-kept (start .pre .0) (turn .loop .inv .0 .disk-kept),
       (
         start .pre .1 .0,
         (

@@ -1,7 +1,8 @@
 use Rattle.model.specs.Geometry.{rootAddress}
-use mathlib.Core.Path.{refl}
+use mathlib.Core.Path.{refl, _∙_}
 use native.Mathlib.Omega.{arith}
 use Rattle.layout.specs.Geometries.{geometryOf}
+use Rattle.hidden_half.proofs.Laws.Loops.{drive-kept}
 use Rattle.hidden_half.proofs.Laws.Nodes.{levelAddress-lt}
 use Rattle.hidden_half.proofs.Laws.Halves.{length-below, path-kept}
 use borrow.Author.Needs.{needs}
@@ -28,7 +29,7 @@ store-changed-requires c κs =
     let ran = c .before .before .before .before .before .before .before .before .before in
     let start = c .before .before .before .before .before .before .before .before .before .before .before .before .before .before .before .before .before in
     let g = geometryOf (start .args .g) in (
-      search needs,
+      drive-kept (start .pre .0) (ran .store-nodes .kept .0),
       (
         omega (
           arith,
@@ -56,7 +57,7 @@ store-root-requires c κs =
     let ran = c .before .before .before .before .before .before .before .before .before .before .before .before .before .before .before .before .before in
     let start = c .before .before .before .before .before .before .before .before .before .before .before .before .before .before .before .before .before .before .before .before .before .before .before .before .before in
     let g = geometryOf (start .args .g) in (
-      search needs,
+      drive-kept (start .pre .0) (stored .store-changed .kept .0 ∙ ran .store-nodes .kept .0),
       (
         start .pre .1 .0,
         (

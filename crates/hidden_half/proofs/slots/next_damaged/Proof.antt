@@ -1,3 +1,4 @@
+use Rattle.hidden_half.proofs.Laws.Statuses.{next-read}
 use borrow.Author.Needs.{needs}
 use Rattle.hidden_half.proofs.slots.next_damaged.Statement.{statement}
 use Rattle.hidden_half.proofs.slots.next_damaged.Tie as tie
@@ -27,7 +28,7 @@ same-length c = search needs
 
 -- src/slots.rt:62:1
 returns : tie.Need-returns
-returns c = ?
+returns c = next-read _ (c .before .before .before .before .read-path .ensures) (c .enum-told .given .1)
 
 -- src/slots.rt:62:1
 same-length-2 : tie.Need-same-length-2
@@ -35,7 +36,7 @@ same-length-2 c = search needs
 
 -- src/slots.rt:62:1
 returns-2 : tie.Need-returns-2
-returns-2 c = ?
+returns-2 c = next-read _ (c .before .before .before .before .read-path .ensures) (c .enum-told2 .given .1)
 
 -- src/slots.rt:62:1
 same-length-3 : tie.Need-same-length-3
@@ -43,7 +44,7 @@ same-length-3 c = search needs
 
 -- src/slots.rt:62:1
 returns-3 : tie.Need-returns-3
-returns-3 c = ?
+returns-3 c = next-read _ (c .before .before .before .before .read-path .ensures) (c .enum-told3 .given .1)
 
 pub next-damaged-spec : {M : Type 1} → statement M
 next-damaged-spec =

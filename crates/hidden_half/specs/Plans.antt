@@ -10,7 +10,8 @@ use Rattle.hidden_half.specs.declared.halves.Plan.{Plan}
 use Rattle.hidden_half.specs.declared.halves.Plan.the-variants.{Back, Keep, Place, Fill}
 
 abbrev pub hiddenTrace :
-    Plan → Geometry → (disk : Bytes) → (slot number : ℕ) → (content random : Bytes) → (nodes : List Bytes) → Trace
+    Plan → Geometry → (disk : Bytes) → (slot number : ℕ) → (content random : Bytes) → (nodes : List Bytes) →
+    Trace
 hiddenTrace Back g disk slot number content random nodes = writtenBack g disk slot
 hiddenTrace (Keep owner) g disk slot number content random nodes =
     pathStores g (owner .0) slot (blockAt (g .blockSize) disk (levelAddress g slot 0)) nodes

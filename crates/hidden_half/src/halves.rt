@@ -1,5 +1,8 @@
 // The hidden half of a round that is planned.
-use crate::paths::{fill_random, keep_path, store_path, write_back};
+use crate::paths::fill_random;
+use crate::paths::keep_path;
+use crate::paths::store_path;
+use crate::paths::write_back;
 use layout::geometry::Geometry;
 use layout::numbers::HiddenNumber;
 ghost use mathlib.Core.Path.{_≡_};

@@ -1,8 +1,10 @@
 // A path's nodes, each made to lead to the node below it in a slot, and stored there.
 use hidden_map::branches::branch_at;
 use layout::entries::put_entry;
-use layout::geometry::{Geometry, slot_start};
-use layout::numbers::{DiskAddress, HiddenNumber};
+use layout::geometry::Geometry;
+use layout::geometry::slot_start;
+use layout::numbers::DiskAddress;
+use layout::numbers::HiddenNumber;
 use stores::blocks::store_block;
 use stores::copies::copy_to;
 ghost use mathlib.Core.Path.{_≡_};
@@ -100,7 +102,18 @@ pub fn store_nodes(
         let from = ((top - level) as usize) * width;
         let to = from + width;
         let address = level_address(g, slot, level + 1);
-        at = store_linked(disk, list, at, g, number, slot, level, address, &nodes[from..to], block);
+        at = store_linked(
+            disk,
+            list,
+            at,
+            g,
+            number,
+            slot,
+            level,
+            address,
+            &nodes[from..to],
+            block,
+        );
         level += 1;
     }
     at

@@ -1,9 +1,16 @@
 // The four kinds of hidden half: the blocks written back, random bytes, a path with given data, a path with the slot's own.
-use crate::nodes::{level_address, store_linked, store_nodes};
-use crate::runs::{keep_blocks, random_blocks};
-use layout::geometry::{Geometry, root_address, slot_start};
-use layout::numbers::{DiskAddress, HiddenNumber};
-use stores::blocks::{store_block, store_changed};
+use crate::nodes::level_address;
+use crate::nodes::store_linked;
+use crate::nodes::store_nodes;
+use crate::runs::keep_blocks;
+use crate::runs::random_blocks;
+use layout::geometry::Geometry;
+use layout::geometry::root_address;
+use layout::geometry::slot_start;
+use layout::numbers::DiskAddress;
+use layout::numbers::HiddenNumber;
+use stores::blocks::store_block;
+use stores::blocks::store_changed;
 use stores::changes::Change;
 ghost use mathlib.Core.Path.{_≡_};
 ghost use mathlib.Core.List.{[], _∷_};
@@ -33,7 +40,14 @@ pub fn write_back(disk: &mut [u8], list: &mut [u32], next: usize, g: Geometry, s
 }
 
 // Stores random bytes as a slot's hidden blocks, and the root as it is.
-pub fn fill_random(disk: &mut [u8], list: &mut [u32], next: usize, g: Geometry, slot: u32, random: &[u8]) -> usize
+pub fn fill_random(
+    disk: &mut [u8],
+    list: &mut [u32],
+    next: usize,
+    g: Geometry,
+    slot: u32,
+    random: &[u8],
+) -> usize
     requires { ⌜ Drive (geometryOf g) (now disk) ⌝ }
     requires { ⌜ slot < g .slots ⌝ }
     requires { ⌜ next + geometryOf g .height + 1 ≤ length (now list) ⌝ }
@@ -41,7 +55,15 @@ pub fn fill_random(disk: &mut [u8], list: &mut [u32], next: usize, g: Geometry, 
     ensures { λ r. ⌜ Made (geometryOf g .blockSize) (dummyStores (geometryOf g) (now (disk .entry)) slot (now (random .entry))) (now (disk .entry)) (now (list .entry)) next (now (disk .exit)) (now (list .exit)) r ⌝ }
 {
     let start = slot_start(g, slot);
-    let at = random_blocks(disk, list, next, g, DiskAddress(start.0 + 1), g.height, random);
+    let at = random_blocks(
+        disk,
+        list,
+        next,
+        g,
+        DiskAddress(start.0 + 1),
+        g.height,
+        random,
+    );
     store_changed(disk, list, at, g, root_address(g), Change::Nothing)
 }
 
@@ -67,7 +89,18 @@ fn store_root(
 {
     let width = g.block_size as usize;
     let top = g.height - 1;
-    store_linked(disk, list, next, g, number, slot, top, root_address(g), &nodes[..width], block)
+    store_linked(
+        disk,
+        list,
+        next,
+        g,
+        number,
+        slot,
+        top,
+        root_address(g),
+        &nodes[..width],
+        block,
+    )
 }
 
 // Stores a path in a slot with the data given. The nodes stand one after another, the root first.
@@ -114,6 +147,13 @@ pub fn keep_path(
     ensures { λ r. ⌜ Made (geometryOf g .blockSize) (pathStores (geometryOf g) (number .0) slot (blockAt (geometryOf g .blockSize) (now (disk .entry)) (levelAddress (geometryOf g) slot 0)) (blocksIn (geometryOf g .blockSize) (geometryOf g .height) (now (nodes .entry)))) (now (disk .entry)) (now (list .entry)) next (now (disk .exit)) (now (list .exit)) r ⌝ }
 {
     let at = store_nodes(disk, list, next, g, number, slot, nodes, block);
-    let then = store_changed(disk, list, at, g, level_address(g, slot, 0), Change::Nothing);
+    let then = store_changed(
+        disk,
+        list,
+        at,
+        g,
+        level_address(g, slot, 0),
+        Change::Nothing,
+    );
     store_root(disk, list, then, g, number, slot, nodes, block)
 }

@@ -1,7 +1,8 @@
 // Blocks one after another stored as they are, or as random bytes.
 use layout::geometry::Geometry;
 use layout::numbers::DiskAddress;
-use stores::blocks::{store_block, store_changed};
+use stores::blocks::store_block;
+use stores::blocks::store_changed;
 use stores::changes::Change;
 ghost use mathlib.Core.Path.{_≡_};
 ghost use Prim.Native.Nat.{_+_, _*_, _≤_, _<_};
@@ -13,7 +14,14 @@ ghost use Rattle.layout.specs.Geometries.{geometryOf};
 ghost use Rattle.stores.specs.Made.{Made};
 
 // Stores so many blocks from an address on as they are.
-pub fn keep_blocks(disk: &mut [u8], list: &mut [u32], next: usize, g: Geometry, address: DiskAddress, count: u32) -> usize
+pub fn keep_blocks(
+    disk: &mut [u8],
+    list: &mut [u32],
+    next: usize,
+    g: Geometry,
+    address: DiskAddress,
+    count: u32,
+) -> usize
     requires { ⌜ Drive (geometryOf g) (now disk) ⌝ }
     requires { ⌜ address .0 + count ≤ blockCount (geometryOf g) ⌝ }
     requires { ⌜ next + count ≤ length (now list) ⌝ }
@@ -22,14 +30,29 @@ pub fn keep_blocks(disk: &mut [u8], list: &mut [u32], next: usize, g: Geometry, 
     let mut done: u32 = 0;
     let mut at = next;
     while done < count {
-        at = store_changed(disk, list, at, g, DiskAddress(address.0 + done), Change::Nothing);
+        at = store_changed(
+            disk,
+            list,
+            at,
+            g,
+            DiskAddress(address.0 + done),
+            Change::Nothing,
+        );
         done += 1;
     }
     at
 }
 
 // Stores so many blocks from an address on, each of the next random bytes.
-pub fn random_blocks(disk: &mut [u8], list: &mut [u32], next: usize, g: Geometry, address: DiskAddress, count: u32, random: &[u8]) -> usize
+pub fn random_blocks(
+    disk: &mut [u8],
+    list: &mut [u32],
+    next: usize,
+    g: Geometry,
+    address: DiskAddress,
+    count: u32,
+    random: &[u8],
+) -> usize
     requires { ⌜ Drive (geometryOf g) (now disk) ⌝ }
     requires { ⌜ address .0 + count ≤ blockCount (geometryOf g) ⌝ }
     requires { ⌜ next + count ≤ length (now list) ⌝ }
@@ -42,7 +65,14 @@ pub fn random_blocks(disk: &mut [u8], list: &mut [u32], next: usize, g: Geometry
     while done < count {
         let from = (done as usize) * width;
         let to = from + width;
-        at = store_block(disk, list, at, g, DiskAddress(address.0 + done), &random[from..to]);
+        at = store_block(
+            disk,
+            list,
+            at,
+            g,
+            DiskAddress(address.0 + done),
+            &random[from..to],
+        );
         done += 1;
     }
     at

@@ -1,5 +1,5 @@
--- Laws of the hidden half's stores made one after another: what a run of addresses leaves as it was, and the blocks
--- written back, random blocks and a path, each ended by the root. Assumes nothing.
+-- Laws of the hidden half's stores made one after another: what a run of addresses leaves as it was, and the
+-- blocks written back, random blocks and a path, each ended by the root. Assumes nothing.
 use mathlib.Core.Path.{_≡_, refl, sym, ap, _∙_, subst}
 use mathlib.Core.Logic.{_≢_, _⊎_, inl, inr}
 use mathlib.Core.List.{List, [], _∷_, _++_}
@@ -16,7 +16,8 @@ use Rattle.model.specs.Paths.{randomBlocks, dummyStores}
 use Rattle.model.specs.Simulator.{addressesFrom}
 use Rattle.model.proofs.Laws.Geometry.{slot-block-lt}
 use Rattle.model.proofs.Laws.Stores.{All, length-addresses}
-use Rattle.model.proofs.Laws.Paths.{WholeStore, addresses-keptBlocks, addresses-randomBlocks, addresses-nodeStores}
+use Rattle.model.proofs.Laws.Paths.{WholeStore, addresses-keptBlocks, addresses-randomBlocks}
+use Rattle.model.proofs.Laws.Paths.{addresses-nodeStores}
 use Rattle.model.proofs.Laws.Paths.{nodeStores-whole, randomBlocks-whole}
 use Rattle.model.proofs.Laws.RoundStores.{all-addressesFrom, stored-of-whole}
 use Rattle.model.proofs.Laws.RoundCounts.{length-addressesFrom}
@@ -33,7 +34,8 @@ record Runs (g : Geometry) (from count : ℕ) (trace : Trace) : Type 0 where
   run : addresses trace ≡ addressesFrom from count
   whole : All (WholeStore g) trace
 
-length-run : (from count : ℕ) (trace : Trace) → addresses trace ≡ addressesFrom from count → length trace ≡ count
+length-run : (from count : ℕ) (trace : Trace) → addresses trace ≡ addressesFrom from count →
+    length trace ≡ count
 length-run from count trace e = sym (length-addresses trace) ∙ ap length e ∙ length-addressesFrom from count
 
 pub length-keptBlocks :
@@ -44,7 +46,8 @@ length-keptBlocks g disk address count =
 pub length-randomBlocks :
     (g : Geometry) (address count : ℕ) (random : Bytes) → length (randomBlocks g address count random) ≡ count
 length-randomBlocks g address count random =
-    length-run address count (randomBlocks g address count random) (addresses-randomBlocks g address count random)
+    length-run address count (randomBlocks g address count random)
+    (addresses-randomBlocks g address count random)
 
 -- a block before or after the run is as it was
 blockAt-made-run :
@@ -67,9 +70,11 @@ blockAt-made-run g from count {trace = trace} made drive runs inside address out
 
 -- ---- written back, and random bytes ----
 
-module _ (g : Geometry) (slot start root : ℕ) {disk middle after : Bytes} {list listed entered : List DiskAddress}
+module _ (g : Geometry) (slot start root : ℕ) {disk middle after : Bytes}
+    {list listed entered : List DiskAddress}
     {next place last : ℕ} (drive : Drive g disk) (inside : slot < g .slots)
-    (room : next + g .height + 1 ≤ length list) (from : start ≡ slotStart g slot) (to : root ≡ rootAddress g) where
+    (room : next + g .height + 1 ≤ length list) (from : start ≡ slotStart g slot)
+    (to : root ≡ rootAddress g) where
   -- a run over the slot's hidden blocks and then the root
   then-root :
       (trace : Trace) → addresses trace ≡ addressesFrom (slotStart g slot + 1) (g .height) →
@@ -87,7 +92,8 @@ module _ (g : Geometry) (slot start root : ℕ) {disk middle after : Bytes} {lis
       Made (g .blockSize) (keptBlock g middle root ∷ []) middle listed place after entered last →
       Made (g .blockSize) (writtenBack g disk slot) disk list next after entered last
   written-back m k =
-      let n : Made (g .blockSize) (keptBlocks g disk (slotStart g slot + 1) (g .height)) disk list next middle listed
+      let n : Made (g .blockSize) (keptBlocks g disk (slotStart g slot + 1)
+      (g .height)) disk list next middle listed
       place = rw from at m in
       then-root (keptBlocks g disk (slotStart g slot + 1) (g .height))
       (addresses-keptBlocks g disk (slotStart g slot + 1) (g .height))
@@ -102,7 +108,8 @@ module _ (g : Geometry) (slot start root : ℕ) {disk middle after : Bytes} {lis
       Made (g .blockSize) (keptBlock g middle root ∷ []) middle listed place after entered last →
       Made (g .blockSize) (dummyStores g disk slot random) disk list next after entered last
   filled random enough m k =
-      let n : Made (g .blockSize) (randomBlocks g (slotStart g slot + 1) (g .height) random) disk list next middle
+      let n : Made (g .blockSize) (randomBlocks g (slotStart g slot + 1)
+      (g .height) random) disk list next middle
       listed place = rw from at m in
       let run = addresses-randomBlocks g (slotStart g slot + 1) (g .height) random in
       then-root (randomBlocks g (slotStart g slot + 1) (g .height) random) run
@@ -111,7 +118,8 @@ module _ (g : Geometry) (slot start root : ℕ) {disk middle after : Bytes} {lis
         run = run;
         whole = randomBlocks-whole g (drive .fits) (slotStart g slot + 1) (g .height) random enough;
       })
-      (omega (arith, slot-block-lt g slot (g .height) inside (omega arith))) (rootAddress g) (inl (omega arith)))
+      (omega (arith, slot-block-lt g slot (g .height) inside (omega arith))) (rootAddress g)
+      (inl (omega arith)))
       n k
 
 -- ---- a path ----
@@ -122,7 +130,8 @@ belowRoot g bytes = blocksIn (g .blockSize) (g .height - 1) (drop (g .blockSize)
 
 below-run :
     (g : Geometry) (number slot : ℕ) (bytes : Bytes) →
-    addresses (nodeStores g number slot (belowRoot g bytes)) ≡ addressesFrom (slotStart g slot + 1) (g .height - 1)
+    addresses (nodeStores g number slot (belowRoot g bytes)) ≡
+    addressesFrom (slotStart g slot + 1) (g .height - 1)
 below-run g number slot bytes =
     addresses-nodeStores g number slot (belowRoot g bytes)
     ∙ ap (addressesFrom (slotStart g slot + 1))
@@ -132,7 +141,8 @@ pub length-below :
     (g : Geometry) (number slot : ℕ) (bytes : Bytes) →
     length (nodeStores g number slot (belowRoot g bytes)) ≡ g .height - 1
 length-below g number slot bytes =
-    length-run (slotStart g slot + 1) (g .height - 1) (nodeStores g number slot (belowRoot g bytes)) (below-run g number slot bytes)
+    length-run (slotStart g slot + 1) (g .height - 1) (nodeStores g number slot (belowRoot g bytes))
+    (below-run g number slot bytes)
 
 pathStores-blocks :
     (g : Geometry) → Fits g → (number slot : ℕ) (content bytes : Bytes) →
@@ -147,20 +157,25 @@ pathStores-blocks g f number slot content bytes =
 module _ (g : Geometry) (number slot own root : ℕ) (bytes : Bytes) {disk low high after : Bytes}
     {list listed entered filed : List DiskAddress} {next place then last : ℕ} (drive : Drive g disk)
     (inside : slot < g .slots) (sized : length bytes ≡ g .height * g .blockSize)
-    (room : next + g .height + 1 ≤ length list) (to : own ≡ levelAddress g slot 0) (top : root ≡ rootAddress g)
-    (nodes : Made (g .blockSize) (nodeStores g number slot (belowRoot g bytes)) disk list next low listed place)
+    (room : next + g .height + 1 ≤ length list) (to : own ≡ levelAddress g slot 0)
+    (top : root ≡ rootAddress g)
+    (nodes : Made (g .blockSize) (nodeStores g number slot
+    (belowRoot g bytes)) disk list next low listed place)
     (rooted : Made (g .blockSize)
-    (store root (linkedNode g number slot (g .height - 1) (take (g .blockSize) bytes)) ∷ []) high entered then after
+    (store root (linkedNode g number slot (g .height - 1) (take (g .blockSize) bytes)) ∷
+    []) high entered then after
     filed last) where
   below-long : (g .height - 1) * g .blockSize ≤ length (drop (g .blockSize) bytes)
   below-long =
       let e : g .height ≡ suc (g .height - 1) = omega (arith, drive .fits .height-low) in
-      let p : g .height * g .blockSize ≡ suc (g .height - 1) * g .blockSize = ap (λ (n : ℕ). n * g .blockSize) e in
+      let p : g .height * g .blockSize ≡ suc (g .height - 1) * g .blockSize =
+      ap (λ (n : ℕ). n * g .blockSize) e in
       simp length-drop (omega (arith, suc-mul (g .height - 1) (g .blockSize)))
 
   pub path-stored :
       (content : Bytes) → Made (g .blockSize) (store own content ∷ []) low listed place high entered then →
-      Made (g .blockSize) (pathStores g number slot content (blocksIn (g .blockSize) (g .height) bytes)) disk list next
+      Made (g .blockSize) (pathStores g number slot content
+      (blocksIn (g .blockSize) (g .height) bytes)) disk list next
       after filed last
   path-stored content m =
       let long : length (nodeStores g number slot (belowRoot g bytes)) ≡ g .height - 1 =
@@ -170,14 +185,16 @@ module _ (g : Geometry) (number slot own root : ℕ) (bytes : Bytes) {disk low h
       let e : place ≡ next + (g .height - 1) = nodes .counted ∙ ap (λ (n : ℕ). next + n) long in
       let ending =
       made-then (store (levelAddress g slot 0) content ∷ [])
-      (store (rootAddress g) (linkedNode g number slot (g .height - 1) (take (g .blockSize) bytes)) ∷ []) (omega arith)
+      (store (rootAddress g) (linkedNode g number slot (g .height - 1) (take (g .blockSize) bytes)) ∷ [])
+      (omega arith)
       (made-same to refl m) (made-same top refl rooted) in
       subst (λ (xs : Trace). Made (g .blockSize) xs disk list next after filed last)
       (sym (pathStores-blocks g (drive .fits) number slot content bytes))
       (made-then (nodeStores g number slot (belowRoot g bytes)) _ (omega arith) nodes ending)
 
   pub path-kept :
-      Made (g .blockSize) (store own (blockAt (g .blockSize) low own) ∷ []) low listed place high entered then →
+      Made (g .blockSize) (store own (blockAt (g .blockSize) low own) ∷
+      []) low listed place high entered then →
       Made (g .blockSize)
       (pathStores g number slot (blockAt (g .blockSize) disk (levelAddress g slot 0))
       (blocksIn (g .blockSize) (g .height) bytes))
@@ -192,7 +209,7 @@ module _ (g : Geometry) (number slot own root : ℕ) (bytes : Bytes) {disk low h
         run = below-run g number slot bytes;
         whole =
             nodeStores-whole g (drive .fits) number slot (belowRoot g bytes)
-                (blocksIn-whole (g .blockSize) (g .height - 1) (drop (g .blockSize) bytes) below-long);
+            (blocksIn-whole (g .blockSize) (g .height - 1) (drop (g .blockSize) bytes) below-long);
       })
       (omega (arith, slot-block-lt g slot (g .height) inside (omega arith))) (levelAddress g slot 0)
       (inr (omega arith)))

@@ -1,4 +1,5 @@
--- A loop that makes one store a turn: what it has made so far, its beginning, a turn and its end. Assumes nothing.
+-- A loop that makes one store a turn: what it has made so far, its beginning, a turn and its end. Assumes
+-- nothing.
 use mathlib.Core.Path.{_≡_, refl, sym, ap, _∙_, subst}
 use mathlib.Core.List.{List, [], _∷_, _++_}
 use Prim.Native.Nat.{ℕ, suc, _+_, _≤_, _<_}
@@ -14,11 +15,13 @@ use Rattle.stores.specs.Made.{Made}
 use Rattle.stores.proofs.Laws.Made.{made-nothing, made-then}
 
 -- a drive whose length stays is still one
-pub drive-kept : {g : Geometry} {disk after : Bytes} → Drive g disk → length after ≡ length disk → Drive g after
+pub drive-kept : {g : Geometry} {disk after : Bytes} → Drive g disk → length after ≡ length disk →
+    Drive g after
 drive-kept drive e = record { fits = drive .fits; whole = e ∙ drive .whole }
 
 -- so many stores of a trace that grows by one a turn, of disk and list and next place before, then now
-pub record SoFar (width : ℕ) (traceOf : ℕ → Trace) (count : ℕ) (disk : Bytes) (list : List DiskAddress) (next : ℕ)
+pub record SoFar (width : ℕ) (traceOf : ℕ → Trace) (count : ℕ) (disk : Bytes) (list : List DiskAddress)
+    (next : ℕ)
     (diskNow : Bytes) (listNow : List DiskAddress) (done at : ℕ) : Type 0 where
   pub within : done ≤ count
   pub placed : at ≡ next + done

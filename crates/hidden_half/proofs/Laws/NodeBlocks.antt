@@ -1,5 +1,5 @@
--- Laws of a run of bytes as blocks: how many they are, that they are whole, and that they are the nodes that were joined.
--- Assumes nothing.
+-- Laws of a run of bytes as blocks: how many they are, that they are whole, and that they are the nodes that
+-- were joined. Assumes nothing.
 use mathlib.Core.Path.{_≡_, refl, ap, ap₂, _∙_, subst}
 use mathlib.Core.List.{List, [], _∷_}
 use Prim.Native.Nat.{ℕ, zero, suc, _*_, _-_, _≤_}
@@ -50,7 +50,8 @@ pub blocksIn-joined :
 unfolding blocksIn joined
 blocksIn-joined width [] h = refl
 blocksIn-joined width (node ∷ nodes) h =
-    ap₂ {C = List Bytes} (λ (first : Bytes) (rest : List Bytes). first ∷ rest) (take-at node (joined nodes) width (h .0))
+    ap₂ {C = List Bytes} (λ (first : Bytes) (rest : List Bytes). first ∷ rest)
+    (take-at node (joined nodes) width (h .0))
     (ap (blocksIn width (length nodes)) (drop-at node (joined nodes) width (h .0))
     ∙ blocksIn-joined width nodes (h .1))
 
@@ -60,5 +61,6 @@ pub blocksIn-walk :
     blocksIn (g .blockSize) (g .height) (joined (walk g disk number .nodes)) ≡ walk g disk number .nodes
 blocksIn-walk g disk number drive =
     let nodes = walk-nodes g (drive .fits) disk (drive .whole) number in
-    subst (λ (n : ℕ). blocksIn (g .blockSize) n (joined (walk g disk number .nodes)) ≡ walk g disk number .nodes)
+    subst (λ (n : ℕ). blocksIn (g .blockSize) n (joined (walk g disk number .nodes)) ≡
+    walk g disk number .nodes)
     (nodes .counted) (blocksIn-joined (g .blockSize) (walk g disk number .nodes) (nodes .whole))

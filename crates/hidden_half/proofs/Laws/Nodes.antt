@@ -1,5 +1,5 @@
--- Laws of a path's nodes in a slot: the addresses of its levels, a node linked, and the loop that stores the nodes from
--- the leaf up. Assumes nothing.
+-- Laws of a path's nodes in a slot: the addresses of its levels, a node linked, and the loop that stores the
+-- nodes from the leaf up. Assumes nothing.
 use mathlib.Core.Path.{_≡_, refl, sym, ap, ap₂, _∙_, subst}
 use mathlib.Core.Logic.{_≢_}
 use mathlib.Core.List.{List, [], _∷_, _++_}
@@ -35,7 +35,8 @@ levelAddress-node g slot zero h = absurd (h refl)
 levelAddress-node g slot (suc level) h = refl
 
 pub levelAddress-lt :
-    (g : Geometry) (slot level : ℕ) → slot < g .slots → level < g .height → levelAddress g slot level < blockCount g
+    (g : Geometry) (slot level : ℕ) → slot < g .slots → level < g .height →
+    levelAddress g slot level < blockCount g
 levelAddress-lt g slot level h k = slot-block-lt g slot (levelPlace g level) h (levelPlace-le g level k)
 
 -- ---- a node linked ----
@@ -58,7 +59,8 @@ module _ (g : Geometry) (number slot level branch address : ℕ) (node linked : 
       e ∙ ap (setEntry (fanout g - 1) number) (set ∙ ap₂ (λ (b a : ℕ). setEntry b a node) at to) ∙ rw z
 
   pub linked-above : level ≢ 0 → linked ≡ linkedNode g number slot level node
-  linked-above h = set ∙ ap₂ (λ (b a : ℕ). setEntry b a node) at to ∙ entry-of-level g number slot level node h
+  linked-above h =
+      set ∙ ap₂ (λ (b a : ℕ). setEntry b a node) at to ∙ entry-of-level g number slot level node h
 
 -- ---- nodes from the leaf up ----
 
@@ -102,8 +104,10 @@ module _ (g : Geometry) (number slot : ℕ) (bytes : Bytes) where
 
   pub one-more-node :
       {disk diskNow after : Bytes} {list listNow entered : List DiskAddress} {next level at last : ℕ}
-      (address : DiskAddress) → next + (g .height - 1) ≤ length list → address ≡ levelAddress g slot (level + 1) →
-      SoFar (g .blockSize) (lowestStores g number slot bytes) (g .height - 1) disk list next diskNow listNow level at →
+      (address : DiskAddress) → next + (g .height - 1) ≤ length list →
+      address ≡ levelAddress g slot (level + 1) →
+      SoFar (g .blockSize) (lowestStores g number slot bytes)
+      (g .height - 1) disk list next diskNow listNow level at →
       level < g .height - 1 →
       Made (g .blockSize)
       (store address
@@ -112,7 +116,8 @@ module _ (g : Geometry) (number slot : ℕ) (bytes : Bytes) where
       (drop ((g .height - 1 - level) * g .blockSize) bytes))) ∷ [])
       diskNow listNow at after entered last →
       length after ≡ length diskNow → length entered ≡ length listNow →
-      SoFar (g .blockSize) (lowestStores g number slot bytes) (g .height - 1) disk list next after entered (level + 1)
+      SoFar (g .blockSize) (lowestStores g number slot bytes) (g .height - 1) disk list next after entered
+      (level + 1)
       last
   one-more-node {level = level} address room to so h m d l =
       let e : g .height - 1 - level ≡ g .height - suc level = omega arith in

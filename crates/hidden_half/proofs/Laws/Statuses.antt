@@ -49,20 +49,27 @@ module _ (g : Geometry) (disk : Bytes) (slot number : ℕ) (e : number ≡ owner
 
 -- the last entry of the slot's leaf
 pub owner-read :
-    (g : Geometry) (disk : Bytes) (slot address : ℕ) (block : Bytes) (entry : ℕ) → address ≡ levelAddress g slot 1 →
-    block ≡ blockAt (g .blockSize) disk address → entry ≡ entryAt (fanout g - 1) block → entry ≡ ownerOf g disk slot
+    (g : Geometry) (disk : Bytes) (slot address : ℕ) (block : Bytes) (entry : ℕ) →
+    address ≡ levelAddress g slot 1 →
+    block ≡ blockAt (g .blockSize) disk address → entry ≡ entryAt (fanout g - 1) block →
+    entry ≡ ownerOf g disk slot
 unfolding ownerOf
 owner-read g disk slot address block entry a b e =
     e ∙ ap (entryAt (fanout g - 1)) (b ∙ ap (blockAt (g .blockSize) disk) a)
 
 -- the next number's path, by how its walk ends
 pub next-read :
-    {path : Walk} {answer : Reached} {nodes : Bytes} (known : Reached) → WholePath path answer nodes → answer ≡ known →
+    {path : Walk} {answer : Reached} {nodes : Bytes} (known : Reached) → WholePath path answer nodes →
+    answer ≡ known →
     NextRead path (isDamaged (endOf known)) nodes
 next-read known read e =
-    record { damaged = ap (λ (a : Reached). isDamaged (endOf a)) (sym e) ∙ ap isDamaged (read .end-is); nodes-are = read .nodes-are }
+    record {
+      damaged = ap (λ (a : Reached). isDamaged (endOf a)) (sym e) ∙ ap isDamaged (read .end-is);
+      nodes-are = read .nodes-are;
+    }
 
-module _ (g : Geometry) (disk : Bytes) (slot : ℕ) (owner : HiddenNumber) (e : owner .0 ≡ ownerOf g disk slot) where
+module _ (g : Geometry) (disk : Bytes) (slot : ℕ) (owner : HiddenNumber)
+    (e : owner .0 ≡ ownerOf g disk slot) where
   pub judged-unowned : (nodes : Bytes) → g .hidden ≤ owner .0 → Judged Stale g disk slot nodes
   judged-unowned nodes h =
       let shown = shows-unowned g disk slot (owner .0) e h in
@@ -76,7 +83,8 @@ module _ (g : Geometry) (disk : Bytes) (slot : ℕ) (owner : HiddenNumber) (e : 
         shows-walk g disk slot (owner .0) e h (endOf known) (ap endOf (sym q) ∙ path .end-is)
 
     pub judged-here :
-        (address : DiskAddress) (own : ℕ) → answer ≡ Found address → own ≡ levelAddress g slot 0 → address .0 ≡ own →
+        (address : DiskAddress) (own : ℕ) → answer ≡ Found address → own ≡ levelAddress g slot 0 →
+        address .0 ≡ own →
         Judged (Live owner) g disk slot nodes
     judged-here address own q o p =
         let shown = shown-by (Found address) q in
@@ -87,7 +95,8 @@ module _ (g : Geometry) (disk : Bytes) (slot : ℕ) (owner : HiddenNumber) (e : 
         }
 
     pub judged-elsewhere :
-        (address : DiskAddress) (own : ℕ) → answer ≡ Found address → own ≡ levelAddress g slot 0 → address .0 ≢ own →
+        (address : DiskAddress) (own : ℕ) → answer ≡ Found address → own ≡ levelAddress g slot 0 →
+        address .0 ≢ own →
         Judged Stale g disk slot nodes
     judged-elsewhere address own q o p =
         let shown = shown-by (Found address) q in

@@ -1,21 +1,17 @@
+-- `level_address` meets its contract: hidden data stands at A + k, a node at A + level. Assumes nothing.
 use mathlib.Core.Path.{ap, _∙_}
 use Prim.Native.Nat.{ℕ, _+_}
 use native.Mathlib.Omega.{arith}
+use borrow.Author.Needs.{needs}
 use Rattle.model.proofs.Laws.Geometry.{slot-block-lt}
 use Rattle.layout.specs.Geometries.{geometryOf}
 use Rattle.hidden_half.proofs.Laws.Nodes.{levelAddress-data, levelAddress-node}
-use borrow.Author.Needs.{needs}
 use Rattle.hidden_half.proofs.nodes.level_address.Statement.{statement}
 use Rattle.hidden_half.proofs.nodes.level_address.Tie as tie
-use Rattle.hidden_half.proofs.nodes.level_address.Reads as reads
-use Rattle.hidden_half.proofs.nodes.level_address.Lts as lts
-use Rattle.layout.proofs.geometry.slot_start.Reads as slot-start-reads
 
--- src/nodes.rt:27:9
 slot-start-requires : tie.Need-slot-start-requires
 slot-start-requires c κs = search needs
 
--- src/nodes.rt:29:28
 add-t6 : tie.Need-add-t6
 add-t6 c =
     let start = c .before .before .before .before in
@@ -26,7 +22,6 @@ add-t6 c =
       start .pre .0 .blocks-high,
     )
 
--- src/nodes.rt:29:9
 returns : tie.Need-returns
 returns c =
     let started = c .before .before .before in
@@ -35,18 +30,17 @@ returns c =
     ap (λ (n : ℕ). n + g .height) (started .slot-start .ensures)
     ∙ levelAddress-data g (start .args .slot) (start .args .level) (c .before .before .if1 .taken)
 
--- src/nodes.rt:31:17
 add-t7 : tie.Need-add-t7
 add-t7 c =
     let start = c .before .before .before in
     let g = geometryOf (start .args .g) in
     omega (
       arith,
-      slot-block-lt g (start .args .slot) (start .args .level) (start .pre .1 .0) (omega (arith, start .pre .1 .1)),
+      slot-block-lt g (start .args .slot) (start .args .level) (start .pre .1 .0)
+          (omega (arith, start .pre .1 .1)),
       start .pre .0 .blocks-high,
     )
 
--- src/nodes.rt:21:1
 returns-2 : tie.Need-returns-2
 returns-2 c =
     let started = c .before .before in

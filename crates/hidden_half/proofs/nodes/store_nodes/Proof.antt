@@ -1,7 +1,7 @@
--- `store_nodes` meets its contract. The invariant: the lowest nodes are stored, and the buffer keeps its length. The
--- measure: the nodes that are left. Assumes nothing.
+-- `store_nodes` meets its contract. The invariant: the lowest nodes are stored, and the buffer keeps its
+-- length. The measure: the nodes that are left. Assumes nothing.
 use mathlib.Core.Path.{_≡_, refl, _∙_, subst}
-use Prim.Native.Nat.{_-_, _+_, _*_}
+use Prim.Native.Nat.{_-_, _+_}
 use native.Mathlib.Omega.{arith}
 use borrow.Author.Needs.{needs}
 use lib.ListN.{length}
@@ -10,14 +10,16 @@ use Rattle.layout.specs.Geometries.{geometryOf}
 use Rattle.stores.specs.Made.{Made}
 use Rattle.hidden_half.proofs.Laws.Loops.{drive-kept, SoFar, none-so-far, all-made}
 use Rattle.hidden_half.proofs.Laws.Runs.{block-of-run}
-use Rattle.hidden_half.proofs.Laws.Nodes.{levelAddress-lt, lowestStores, lowestStores-none, lowestStores-top}
+use Rattle.hidden_half.proofs.Laws.Nodes.{levelAddress-lt, lowestStores, lowestStores-none}
+use Rattle.hidden_half.proofs.Laws.Nodes.{lowestStores-top}
 use Rattle.hidden_half.proofs.Laws.Nodes.{one-more-node}
 use Rattle.hidden_half.proofs.nodes.store_nodes.Statement.{statement}
 use Rattle.hidden_half.proofs.nodes.store_nodes.Tie as tie
 
 abbrev Inv-loop : tie.InvT-loop
 Inv-loop disk₀ list₀ next g number slot nodes block₀ width top level₀ at₀ disk list block level at =
-    SoFar (g .«block_size») (lowestStores (geometryOf g) (number .0) slot nodes) (g .height - 1) disk₀ list₀ next disk
+    SoFar (g .«block_size») (lowestStores (geometryOf g) (number .0) slot nodes)
+    (g .height - 1) disk₀ list₀ next disk
     list level at × (length block ≡ length block₀)
 
 abbrev μ-loop : tie.MeasureT-loop
@@ -33,7 +35,8 @@ loop-holds : tie.Need-loop-holds Inv-loop μ-loop
 loop-holds c =
     let start = c .before .before .before .before .before .before in
     let g = geometryOf (start .args .g) in (
-      none-so-far (g .blockSize) (lowestStores g (start .args .number .0) (start .args .slot) (start .args .nodes .now))
+      none-so-far (g .blockSize) (lowestStores g (start .args .number .0) (start .args .slot)
+          (start .args .nodes .now))
           (g .height - 1) (start .pre .1 .1 .1 .1)
           (lowestStores-none g (start .args .number .0) (start .args .slot) (start .args .nodes .now)),
       refl,
@@ -132,9 +135,11 @@ loop-again c =
     let test = addressed .before in
     let turn = test .before in
     let start = turn .before .before .before .before .before .before .before in (
-      one-more-node (geometryOf (start .args .g)) (start .args .number .0) (start .args .slot) (start .args .nodes .now)
+      one-more-node (geometryOf (start .args .g)) (start .args .number .0) (start .args .slot)
+          (start .args .nodes .now)
           (addressed .level-address .result .0) (start .pre .1 .1 .1 .1) (addressed .level-address .ensures)
-          (turn .loop .inv .0) (test .loop-test .taken) (stored .store-linked .ensures) (stored .store-linked .kept .0)
+          (turn .loop .inv .0) (test .loop-test .taken) (stored .store-linked .ensures)
+          (stored .store-linked .kept .0)
           (stored .store-linked .kept .1 .0),
       stored .store-linked .kept .1 .1 .1 .1 .1 .1 .1 .1 .1 .0 ∙ turn .loop .inv .1,
     )
@@ -155,10 +160,13 @@ returns c =
     let g = geometryOf (start .args .g) in
     let stores = lowestStores g (start .args .number .0) (start .args .slot) (start .args .nodes .now) in
     subst
-    (λ (trace : Trace). Made (g .blockSize) trace (start .args .disk .now) (start .args .list .now) (start .args .next)
+    (λ (trace : Trace). Made (g .blockSize) trace (start .args .disk .now) (start .args .list .now)
+    (start .args .next)
     (end .loop .disk) (end .loop .list) (end .loop .at))
-    (lowestStores-top g (start .args .number .0) (start .args .slot) (start .args .nodes .now) (start .pre .0 .fits))
-    (all-made (g .blockSize) stores (g .height - 1) (start .pre .1 .1 .1 .1) (end .loop .inv .0) (c .loop-test .left))
+    (lowestStores-top g (start .args .number .0) (start .args .slot) (start .args .nodes .now)
+    (start .pre .0 .fits))
+    (all-made (g .blockSize) stores (g .height - 1) (start .pre .1 .1 .1 .1) (end .loop .inv .0)
+    (c .loop-test .left))
 
 pub store-nodes-spec : {M : Type 1} → statement M
 store-nodes-spec =

@@ -1,23 +1,16 @@
+-- `fill_random` meets its contract: the random blocks leave the root as it was. Assumes nothing.
 use Prim.Native.Nat.{_+_}
 use native.Mathlib.Omega.{arith}
+use borrow.Author.Needs.{needs}
 use Rattle.model.proofs.Laws.Geometry.{slot-block-lt, rootAddress-lt}
 use Rattle.layout.specs.Geometries.{geometryOf}
 use Rattle.hidden_half.proofs.Laws.Halves.{length-randomBlocks, filled}
-use borrow.Author.Needs.{needs}
 use Rattle.hidden_half.proofs.paths.fill_random.Statement.{statement}
 use Rattle.hidden_half.proofs.paths.fill_random.Tie as tie
-use Rattle.hidden_half.proofs.paths.fill_random.Reads as reads
-use Rattle.hidden_half.proofs.paths.fill_random.Lts as lts
-use Rattle.hidden_half.proofs.runs.random_blocks.Reads as random-blocks-reads
-use Rattle.layout.proofs.geometry.root_address.Reads as root-address-reads
-use Rattle.layout.proofs.geometry.slot_start.Reads as slot-start-reads
-use Rattle.stores.proofs.blocks.store_changed.Reads as store-changed-reads
 
--- src/paths.rt:43:9
 slot-start-requires : tie.Need-slot-start-requires
 slot-start-requires c κs = search needs
 
--- src/paths.rt:44:61
 add-t13 : tie.Need-add-t13
 add-t13 c =
     let start = c .before .before .before .before .before .before .before in
@@ -30,7 +23,6 @@ add-t13 c =
       start .pre .0 .fits .height-low,
     )
 
--- src/paths.rt:44:9
 random-blocks-requires : tie.Need-random-blocks-requires
 random-blocks-requires c κs =
     let start = c .before .before .before .before .before .before .before in
@@ -38,23 +30,21 @@ random-blocks-requires c κs =
       start .pre .0,
       (
         omega (
-            arith,
-            c .before .before .before .slot-start .ensures,
-            slot-block-lt g (start .args .slot) (g .height) (start .pre .1 .0) (omega arith),
-          ),
+          arith,
+          c .before .before .before .slot-start .ensures,
+          slot-block-lt g (start .args .slot) (g .height) (start .pre .1 .0) (omega arith),
+        ),
         (omega (arith, start .pre .1 .1 .0), start .pre .1 .1 .1),
       ),
     )
 
--- src/paths.rt:45:38
 root-address-requires : tie.Need-root-address-requires
 root-address-requires c κs = search needs
 
--- src/paths.rt:45:5
 store-changed-requires : tie.Need-store-changed-requires
 store-changed-requires c κs =
     let ran = c .before .before .before .before .before .before .before in
-    let start = c .before .before .before .before .before .before .before .before .before .before .before .before .before .before .before in
+    let start = ran .before .before .before .before .before .before .before .before in
     let g = geometryOf (start .args .g) in (
       search needs,
       (
@@ -64,7 +54,8 @@ store-changed-requires c κs =
           omega (
             arith,
             ran .random-blocks .ensures .counted,
-            length-randomBlocks g (c .before .before .before .before .before .before .before .before .before .before .before .slot-start .result .0 + 1) (g .height) (start .args .random .now),
+            length-randomBlocks g
+                (c .before .before .before .before .before .before .before .before .before .before .before .slot-start .result .0 + 1) (g .height) (start .args .random .now),
             ran .random-blocks .kept .1 .0,
             start .pre .1 .1 .0,
           ),
@@ -72,35 +63,27 @@ store-changed-requires c κs =
       ),
     )
 
--- src/paths.rt:36:1
 same-length : tie.Need-same-length
 same-length c = search needs
 
--- src/paths.rt:36:1
 same-length-2 : tie.Need-same-length-2
 same-length-2 c = search needs
 
--- src/paths.rt:36:1
 returns : tie.Need-returns
 returns c =
     let stored = c .before .before .before .before in
-    let rooted = c .before .before .before .before .before in
-    let ran = c .before .before .before .before .before .before .before .before .before .before .before .before in
-    let started = c .before .before .before .before .before .before .before .before .before .before .before .before .before .before .before .before in
-    let start = c .before .before .before .before .before .before .before .before .before .before .before .before .before .before .before .before .before .before .before .before in
+    let rooted = stored .before in
+    let ran = rooted .before .before .before .before .before .before .before in
+    let started = ran .before .before .before .before in
+    let start = started .before .before .before .before in
     filled (geometryOf (start .args .g)) (start .args .slot) (started .slot-start .result .0)
-    (rooted .root-address .result .0) (start .pre .0) (start .pre .1 .0) (start .pre .1 .1 .0) (started .slot-start .ensures)
-    (rooted .root-address .ensures) (start .args .random .now) (start .pre .1 .1 .1) (ran .random-blocks .ensures) (stored .store-changed .ensures)
+    (rooted .root-address .result .0) (start .pre .0) (start .pre .1 .0) (start .pre .1 .1 .0)
+    (started .slot-start .ensures)
+    (rooted .root-address .ensures) (start .args .random .now) (start .pre .1 .1 .1)
+    (ran .random-blocks .ensures) (stored .store-changed .ensures)
 
 pub fill-random-spec : {M : Type 1} → statement M
 fill-random-spec =
     tie.close
-    (tie.spec
-    slot-start-requires
-    add-t13
-    random-blocks-requires
-    root-address-requires
-    store-changed-requires
-    same-length
-    same-length-2
-    returns)
+    (tie.spec slot-start-requires add-t13 random-blocks-requires root-address-requires
+    store-changed-requires same-length same-length-2 returns)

@@ -1,5 +1,5 @@
--- `keep_blocks` meets its contract. The invariant: so many blocks are stored, and the disk is as it was, since each was
--- stored as it is. The measure: the blocks that are left. Assumes nothing.
+-- `keep_blocks` meets its contract. The invariant: so many blocks are stored, and the disk is as it was,
+-- since each was stored as it is. The measure: the blocks that are left. Assumes nothing.
 use Prim.Native.Nat.{_-_}
 use borrow.Author.Needs.{needs}
 use Rattle.layout.specs.Geometries.{geometryOf}

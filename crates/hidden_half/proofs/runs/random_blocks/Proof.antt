@@ -1,5 +1,5 @@
--- `random_blocks` meets its contract. The invariant: so many blocks are stored. The measure: the blocks that are left.
--- Assumes nothing.
+-- `random_blocks` meets its contract. The invariant: so many blocks are stored. The measure: the blocks that
+-- are left. Assumes nothing.
 use Prim.Native.Nat.{_-_}
 use native.Mathlib.Omega.{arith}
 use borrow.Author.Needs.{needs}
@@ -12,7 +12,8 @@ use Rattle.hidden_half.proofs.runs.random_blocks.Tie as tie
 
 abbrev Inv-loop : tie.InvT-loop
 Inv-loop disk₀ list₀ next g address count random width done₀ at₀ disk list done at =
-    SoFar (g .«block_size») (λ n. randomBlocks (geometryOf g) (address .0) n random) count disk₀ list₀ next disk list
+    SoFar (g .«block_size») (λ n. randomBlocks (geometryOf g)
+    (address .0) n random) count disk₀ list₀ next disk list
     done at
 
 abbrev μ-loop : tie.MeasureT-loop
@@ -33,25 +34,27 @@ cast-from : tie.Need-cast-from Inv-loop μ-loop
 cast-from c = search needs
 
 mul-from : tie.Need-mul-from Inv-loop μ-loop
-mul-from c = 
+mul-from c =
     let test = c in
     let turn = test .before in
     let start = turn .before .before .before .before .before in
     omega (
       arith,
-      block-of-run (start .args .g .«block_size») (start .args .count) (turn .loop .done) (test .loop-test .taken),
+      block-of-run (start .args .g .«block_size») (start .args .count) (turn .loop .done)
+          (test .loop-test .taken),
       start .pre .1 .1 .1,
       start .good,
     )
 
 add-to : tie.Need-add-to Inv-loop μ-loop
-add-to c = 
+add-to c =
     let test = c in
     let turn = test .before in
     let start = turn .before .before .before .before .before in
     omega (
       arith,
-      block-of-run (start .args .g .«block_size») (start .args .count) (turn .loop .done) (test .loop-test .taken),
+      block-of-run (start .args .g .«block_size») (start .args .count) (turn .loop .done)
+          (test .loop-test .taken),
       start .pre .1 .1 .1,
       start .good,
     )
@@ -66,13 +69,14 @@ part-store-block-start : tie.Need-part-store-block-start Inv-loop μ-loop
 part-store-block-start c = search needs
 
 part-store-block-end : tie.Need-part-store-block-end Inv-loop μ-loop
-part-store-block-end c = 
+part-store-block-end c =
     let test = c .before .before .before in
     let turn = test .before in
     let start = turn .before .before .before .before .before in
     omega (
       arith,
-      block-of-run (start .args .g .«block_size») (start .args .count) (turn .loop .done) (test .loop-test .taken),
+      block-of-run (start .args .g .«block_size») (start .args .count) (turn .loop .done)
+          (test .loop-test .taken),
       start .pre .1 .1 .1,
       start .good,
     )
@@ -87,7 +91,7 @@ loop-less : tie.Need-loop-less Inv-loop μ-loop
 loop-less c = search needs
 
 loop-again : tie.Need-loop-again Inv-loop μ-loop
-loop-again c = 
+loop-again c =
     let stored = c .before .before .before .before in
     let test = stored .before .before .before .before .before in
     let turn = test .before in

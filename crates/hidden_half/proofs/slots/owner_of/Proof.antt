@@ -1,5 +1,7 @@
+-- `owner_of` meets its contract: the leaf is A + 1, and its last entry stands inside it. Assumes nothing.
 use mathlib.Core.Path.{ap, _∙_}
 use native.Mathlib.Omega.{arith}
+use borrow.Author.Needs.{needs}
 use lib.ListN.{length}
 use Rattle.model.specs.Geometry.{blockCount}
 use Rattle.model.proofs.Laws.Geometry.{fanout-low}
@@ -7,28 +9,18 @@ use Rattle.model.proofs.Laws.Blocks.{length-blockAt}
 use Rattle.layout.specs.Geometries.{geometryOf}
 use Rattle.hidden_half.proofs.Laws.Nodes.{levelAddress-lt}
 use Rattle.hidden_half.proofs.Laws.Statuses.{owner-read}
-use borrow.Author.Needs.{needs}
 use Rattle.hidden_half.proofs.slots.owner_of.Statement.{statement}
 use Rattle.hidden_half.proofs.slots.owner_of.Tie as tie
-use Rattle.hidden_half.proofs.slots.owner_of.Reads as reads
-use Rattle.hidden_half.proofs.slots.owner_of.Lts as lts
-use Rattle.hidden_half.proofs.nodes.level_address.Reads as level-address-reads
-use Rattle.layout.proofs.blocks.block_at.Reads as block-at-reads
-use Rattle.layout.proofs.entries.entry_at.Reads as entry-at-reads
 
--- src/slots.rt:31:16
 cast-last : tie.Need-cast-last
 cast-last c = search needs
 
--- src/slots.rt:31:16
 sub-last : tie.Need-sub-last
 sub-last c = search needs
 
--- src/slots.rt:32:34
 level-address-requires : tie.Need-level-address-requires
 level-address-requires c κs = search needs
 
--- src/slots.rt:32:9
 block-at-requires : tie.Need-block-at-requires
 block-at-requires c κs =
     let start = c .before .before .before in
@@ -37,15 +29,15 @@ block-at-requires c κs =
       omega (
         arith,
         c .level-address .ensures,
-        levelAddress-lt g (start .args .slot) 1 (start .pre .1) (omega (arith, start .pre .0 .fits .height-low)),
+        levelAddress-lt g (start .args .slot) 1 (start .pre .1)
+            (omega (arith, start .pre .0 .fits .height-low)),
       ),
     )
 
--- src/slots.rt:33:18
 entry-at-requires : tie.Need-entry-at-requires
 entry-at-requires c κs =
     let addressed = c .before in
-    let start = c .before .before .before .before in
+    let start = addressed .before .before .before in
     let g = geometryOf (start .args .g) in
     omega (
       arith,
@@ -55,18 +47,18 @@ entry-at-requires c κs =
           (omega (
             arith,
             addressed .level-address .ensures,
-            levelAddress-lt g (start .args .slot) 1 (start .pre .1) (omega (arith, start .pre .0 .fits .height-low)),
+            levelAddress-lt g (start .args .slot) 1 (start .pre .1)
+                (omega (arith, start .pre .0 .fits .height-low)),
           )),
       start .pre .0 .fits .size-entries,
       fanout-low g (start .pre .0 .fits),
     )
 
--- src/slots.rt:26:1
 returns : tie.Need-returns
 returns c =
     let taken = c .before in
     let addressed = taken .before in
-    let start = c .before .before .before .before .before in
+    let start = taken .before .before .before .before in
     owner-read (geometryOf (start .args .g)) (start .args .disk .now) (start .args .slot)
     (addressed .level-address .result .0) (taken .block-at .result .now) (c .entry-at .result)
     (addressed .level-address .ensures) (taken .block-at .ensures) (c .entry-at .ensures)
@@ -74,10 +66,4 @@ returns c =
 pub owner-of-spec : {M : Type 1} → statement M
 owner-of-spec =
     tie.close
-    (tie.spec
-    cast-last
-    sub-last
-    level-address-requires
-    block-at-requires
-    entry-at-requires
-    returns)
+    (tie.spec cast-last sub-last level-address-requires block-at-requires entry-at-requires returns)

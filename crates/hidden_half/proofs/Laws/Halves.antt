@@ -10,7 +10,7 @@ use lib.ListN.{length, take, drop, length-drop}
 use Rattle.model.specs.Geometry.{Geometry, Fits, rootAddress, blockCount}
 use Rattle.model.specs.Blocks.{Bytes, DiskAddress, blockAt}
 use Rattle.model.specs.Layout.{Drive, slotStart, levelAddress}
-use Rattle.model.specs.Stores.{Store, Trace, store, addresses}
+use Rattle.model.specs.Stores.{Trace, store, addresses}
 use Rattle.model.specs.Paths.{linkedNode, nodeStores, pathStores, keptBlock, keptBlocks, writtenBack}
 use Rattle.model.specs.Paths.{randomBlocks, dummyStores}
 use Rattle.model.specs.Simulator.{addressesFrom}

@@ -3,7 +3,7 @@
 use mathlib.Core.Path.{_≡_, refl, ap, ap₂, _∙_, subst}
 use mathlib.Core.List.{List, [], _∷_}
 use Prim.Native.Nat.{ℕ, zero, suc, _*_, _-_, _≤_}
-use native.Mathlib.Nat.{suc-mul}
+use native.Mathlib.Nat.{suc-mul, mul-le-mul-right}
 use native.Mathlib.Omega.{arith}
 use lib.ListN.{length, take, drop, length-drop}
 use lib.Seq.{length-take-le, take-at, drop-at}
@@ -31,6 +31,14 @@ blocksIn-whole width (suc count) bytes h =
       length-take-le width bytes l,
       blocksIn-whole width count (drop width bytes) (simp length-drop (omega (arith, suc-mul count width))),
     )
+
+-- the first block is whole
+pub length-first :
+    (g : Geometry) → Fits g → (bytes : Bytes) → length bytes ≡ g .height * g .blockSize →
+    length (take (g .blockSize) bytes) ≡ g .blockSize
+length-first g f bytes e =
+    let h : 1 ≤ g .height = omega (arith, f .height-low) in
+    length-take-le (g .blockSize) bytes (omega (arith, mul-le-mul-right (g .blockSize) h))
 
 -- the first block and the others
 pub blocksIn-first :

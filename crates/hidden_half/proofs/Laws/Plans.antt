@@ -7,8 +7,8 @@ use native.Mathlib.Omega.{arith}
 use Rattle.model.specs.Geometry.{Geometry, Fits, rootAddress}
 use Rattle.model.specs.Blocks.{Bytes, DiskAddress, blockAt}
 use Rattle.model.specs.Layout.{slotStart}
-use Rattle.model.specs.Stores.{Store, Trace, store}
-use Rattle.model.specs.Paths.{keptBlock, keptBlocks, pathStores, randomBlocks}
+use Rattle.model.specs.Stores.{Trace, store}
+use Rattle.model.specs.Paths.{keptBlocks, pathStores, randomBlocks}
 use Rattle.stores.specs.Made.{Made}
 use Rattle.hidden_half.specs.declared.halves.Plan.{Plan}
 use Rattle.hidden_half.specs.declared.halves.Plan.the-variants.{Back, Keep, Place, Fill}

@@ -122,8 +122,10 @@ KeptSoFar g address count disk list next diskNow listNow done at =
 module _ (g : Geometry) (address count : ℕ) {disk : Bytes} {list : List DiskAddress} {next : ℕ}
     (drive : Drive g disk) (inside : address + count ≤ blockCount g) (room : next + count ≤ length list) where
   pub none-kept : KeptSoFar g address count disk list next disk list 0 next
-  none-kept =
-      (none-so-far (g .blockSize) (keptBlocks g disk address) count room (keptBlocks-none g disk address), refl)
+  none-kept = (
+    none-so-far (g .blockSize) (keptBlocks g disk address) count room (keptBlocks-none g disk address),
+    refl,
+  )
 
   pub one-more-kept :
       {diskNow after : Bytes} {listNow entered : List DiskAddress} {done at last : ℕ} →

@@ -38,14 +38,13 @@ same-length-2 c = search needs
 
 returns : tie.Need-returns
 returns c =
-    let start =
-    c .before .before .before .before .before .before .before .before .before .before .before .before .before .before .before in
+    let stored = c .before .before .before .before in
+    let told = stored .before .before .before in
+    let start = told .before .before .before .before .before .before .before .before in
     let g = geometryOf (start .args .g) in
     made-plan g (start .args .slot) (start .args .number .0) (start .args .content .now)
-    (start .args .random .now)
-    (blocksIn (g .blockSize) (g .height) (start .args .nodes .now))
-    (c .before .before .before .before .before .before .before .enum-told .given .1)
-    (c .before .before .before .before .write-back .ensures)
+    (start .args .random .now) (blocksIn (g .blockSize) (g .height) (start .args .nodes .now))
+    (told .enum-told .given .1) (stored .write-back .ensures)
 
 same-length-3 : tie.Need-same-length-3
 same-length-3 c = search needs
@@ -58,13 +57,13 @@ same-length-5 c = search needs
 
 returns-2 : tie.Need-returns-2
 returns-2 c =
-    let start =
-    c .before .before .before .before .before .before .before .before .before .before .before .before .before .before .before .before .before .before .before in
+    let stored = c .before .before .before .before .before .before in
+    let told = stored .before .before .before .before .before in
+    let start = told .before .before .before .before .before .before .before .before in
     let g = geometryOf (start .args .g) in
     made-plan g (start .args .slot) (start .args .number .0) (start .args .content .now)
-    (start .args .random .now)
-    (blocksIn (g .blockSize) (g .height) (start .args .nodes .now))
-    (c .before .before .before .before .before .before .before .before .before .before .before .plan .given .1) (c .before .before .before .before .before .before .keep-path .ensures)
+    (start .args .random .now) (blocksIn (g .blockSize) (g .height) (start .args .nodes .now))
+    (told .plan .given .1) (stored .keep-path .ensures)
 
 same-length-6 : tie.Need-same-length-6
 same-length-6 c = search needs
@@ -77,13 +76,13 @@ same-length-8 c = search needs
 
 returns-3 : tie.Need-returns-3
 returns-3 c =
-    let start =
-    c .before .before .before .before .before .before .before .before .before .before .before .before .before .before .before .before .before .before in
+    let stored = c .before .before .before .before .before .before in
+    let told = stored .before .before .before .before in
+    let start = told .before .before .before .before .before .before .before .before in
     let g = geometryOf (start .args .g) in
     made-plan g (start .args .slot) (start .args .number .0) (start .args .content .now)
-    (start .args .random .now)
-    (blocksIn (g .blockSize) (g .height) (start .args .nodes .now))
-    (c .before .before .before .before .before .before .before .before .before .before .enum-told2 .given .1) (c .before .before .before .before .before .before .store-path .ensures)
+    (start .args .random .now) (blocksIn (g .blockSize) (g .height) (start .args .nodes .now))
+    (told .enum-told2 .given .1) (stored .store-path .ensures)
 
 same-length-9 : tie.Need-same-length-9
 same-length-9 c = search needs
@@ -93,14 +92,13 @@ same-length-10 c = search needs
 
 returns-4 : tie.Need-returns-4
 returns-4 c =
-    let start =
-    c .before .before .before .before .before .before .before .before .before .before .before .before .before .before .before in
+    let stored = c .before .before .before .before in
+    let told = stored .before .before .before in
+    let start = told .before .before .before .before .before .before .before .before in
     let g = geometryOf (start .args .g) in
     made-plan g (start .args .slot) (start .args .number .0) (start .args .content .now)
-    (start .args .random .now)
-    (blocksIn (g .blockSize) (g .height) (start .args .nodes .now))
-    (c .before .before .before .before .before .before .before .enum-told3 .given .1)
-    (c .before .before .before .before .fill-random .ensures)
+    (start .args .random .now) (blocksIn (g .blockSize) (g .height) (start .args .nodes .now))
+    (told .enum-told3 .given .1) (stored .fill-random .ensures)
 
 pub store-hidden-spec : {M : Type 1} → statement M
 store-hidden-spec =

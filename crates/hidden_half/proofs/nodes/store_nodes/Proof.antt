@@ -171,6 +171,6 @@ returns c =
 pub store-nodes-spec : {M : Type 1} → statement M
 store-nodes-spec =
     tie.close
-    (tie.spec Inv-loop μ-loop cast-width sub-top loop-holds sub-from cast-from mul-from add-to add-level-address
-    level-address-requires sub-store-linked part-store-linked-start part-store-linked-end store-linked-requires
-    add-level loop-less loop-again same-length same-length-2 same-length-3 returns)
+    (tie.spec Inv-loop μ-loop cast-width sub-top loop-holds sub-from cast-from mul-from add-to
+    add-level-address level-address-requires sub-store-linked part-store-linked-start part-store-linked-end
+    store-linked-requires add-level loop-less loop-again same-length same-length-2 same-length-3 returns)

@@ -2,10 +2,10 @@
 use mathlib.Core.Path.{refl, sym}
 use native.Mathlib.Omega.{arith}
 use borrow.Author.Needs.{needs}
-use lib.Seq.{length-take-le}
 use Rattle.model.proofs.Laws.Geometry.{rootAddress-lt}
 use Rattle.layout.specs.Geometries.{geometryOf}
-use Rattle.hidden_half.proofs.Laws.Runs.{made-same, block-of-run}
+use Rattle.hidden_half.proofs.Laws.Runs.{made-same}
+use Rattle.hidden_half.proofs.Laws.NodeBlocks.{length-first}
 use Rattle.hidden_half.proofs.paths.store_root.Statement.{statement}
 use Rattle.hidden_half.proofs.paths.store_root.Tie as tie
 
@@ -22,13 +22,7 @@ slice-aggregate-store-linked : tie.Need-slice-aggregate-store-linked
 slice-aggregate-store-linked c =
     let start = c .before .before .before .before .before .before .before .before .before .before in
     let g = geometryOf (start .args .g) in
-    sym
-    (length-take-le (g .blockSize) (start .args .nodes .now)
-    (omega (
-      arith,
-      start .pre .1 .1 .0,
-      block-of-run (g .blockSize) (g .height) 0 (omega (arith, start .pre .0 .fits .height-low)),
-    )))
+    sym (length-first g (start .pre .0 .fits) (start .args .nodes .now) (start .pre .1 .1 .0))
 
 store-linked-requires : tie.Need-store-linked-requires
 store-linked-requires c κs =
@@ -42,12 +36,7 @@ store-linked-requires c κs =
           (
             omega (arith, c .before .before .root-address .ensures, rootAddress-lt g),
             (
-              length-take-le (g .blockSize) (start .args .nodes .now)
-                  (omega (
-                    arith,
-                    start .pre .1 .1 .0,
-                    block-of-run (g .blockSize) (g .height) 0 (omega (arith, start .pre .0 .fits .height-low)),
-                  )),
+              length-first g (start .pre .0 .fits) (start .args .nodes .now) (start .pre .1 .1 .0),
               (start .pre .1 .1 .1 .0, start .pre .1 .1 .1 .1),
             ),
           ),

@@ -44,7 +44,8 @@ root-address-requires c κs = search needs
 store-changed-requires : tie.Need-store-changed-requires
 store-changed-requires c κs =
     let ran = c .before .before .before .before .before .before .before in
-    let start = ran .before .before .before .before .before .before .before in
+    let started = ran .before .before .before .before in
+    let start = started .before .before .before in
     let g = geometryOf (start .args .g) in (
       search needs,
       (
@@ -55,7 +56,7 @@ store-changed-requires c κs =
             arith,
             ran .keep-blocks .ensures .counted,
             length-keptBlocks g (start .args .disk .now)
-                (c .before .before .before .before .before .before .before .before .before .before .before .slot-start .result .0 + 1) (g .height),
+                (started .slot-start .result .0 + 1) (g .height),
             ran .keep-blocks .kept .1 .0,
             start .pre .1 .1,
           ),

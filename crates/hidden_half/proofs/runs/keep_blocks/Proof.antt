@@ -57,5 +57,5 @@ returns c =
 pub keep-blocks-spec : {M : Type 1} → statement M
 keep-blocks-spec =
     tie.close
-    (tie.spec Inv-loop μ-loop loop-holds add-t14 store-changed-requires add-done loop-less loop-again same-length
-    same-length-2 returns)
+    (tie.spec Inv-loop μ-loop loop-holds add-t14 store-changed-requires add-done loop-less loop-again
+    same-length same-length-2 returns)

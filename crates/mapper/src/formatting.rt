@@ -1,30 +1,19 @@
-// Formatting: header (head 0), map, bitmap and root, all zero but for the header's entries; the data area stays.
+// Formatting: header (head 0), map, bitmap and root, all zero but for the header's entries; the data area
+// stays.
+use copies::clear_at;
 use layout::entries::put_entry;
 use layout::geometry::Geometry;
 use layout::geometry::area_start;
 use layout::refusals::size_fault;
 ghost use mathlib.Core.Path.{_≡_};
-ghost use mathlib.Core.List.{_∷_, []};
 ghost use Prim.Native.Nat.{_≤_};
-ghost use lib.ListN.{length, replicate};
+ghost use lib.ListN.{length};
 ghost use Rattle.laws.specs.Lists.{over};
 ghost use Rattle.model.specs.Blocks.{packed};
 ghost use Rattle.model.specs.Refusals.{formatRefusal};
 ghost use Rattle.model.specs.Calls.{formatted};
 ghost use Rattle.layout.specs.Geometries.{geometryOf};
 ghost use Rattle.mapper.specs.Headers.{headerEntries};
-
-// Sets so many bytes from the first one on to 0; the other bytes stay.
-fn clear_front(bytes: &mut [u8], size: usize)
-    requires { ⌜ size ≤ length (now bytes) ⌝ }
-    ensures { λ _. ⌜ now (bytes .exit) ≡ over 0 (replicate size 0) (now (bytes .entry)) ⌝ }
-{
-    let mut i = 0;
-    while i < size {
-        bytes[i] = 0;
-        i += 1;
-    }
-}
 
 // Puts B, k, P, H, M and the head 0 into the first six entries; the other bytes stay.
 fn put_header(disk: &mut [u8], g: Geometry)
@@ -49,7 +38,7 @@ pub fn format_drive(disk: &mut [u8], geometry: Geometry) -> u8
         return fault;
     }
     let start = area_start(geometry);
-    clear_front(disk, (start.0 as usize) * (geometry.block_size as usize));
+    clear_at(disk, 0, (start.0 as usize) * (geometry.block_size as usize));
     put_header(disk, geometry);
     0
 }

@@ -1,4 +1,5 @@
 -- The proofs of the promises that specs/Promises states.
+pub mod Computing
 pub mod Figures
 pub mod Limits
 pub mod Refusals

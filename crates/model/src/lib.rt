@@ -14,5 +14,4 @@ pub fn promises()
     ensures noninterference { λ _. ⌜ Noninterference ⌝ }
     ensures read_after_write { λ _. ⌜ ReadAfterWrite ⌝ }
     ensures buffer_bounds { λ _. ⌜ BufferBounds ⌝ }
-{
-}
+{}

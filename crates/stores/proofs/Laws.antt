@@ -1,3 +1,2 @@
 -- The laws of the stores' record.
 pub mod Made
-pub mod Copies

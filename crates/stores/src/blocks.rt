@@ -30,7 +30,7 @@ pub fn store_block(
     ensures { λ r. ⌜ Made (geometryOf g .blockSize) (store (address .0) (now (block .entry)) ∷ []) (now (disk .entry)) (now (list .entry)) next (now (disk .exit)) (now (list .exit)) r ⌝ }
 {
     let at = (address.0 as usize) * (g.block_size as usize);
-    crate::copies::copy_to(disk, at, block);
+    copies::copy_at(disk, at, block);
     list[next] = address.0;
     next + 1
 }
@@ -52,7 +52,7 @@ fn store_through(
     requires { ⌜ next < length (now list) ⌝ }
     ensures { λ r. ⌜ Made (geometryOf g .blockSize) (store (address .0) (changed change (blockAt (geometryOf g .blockSize) (now (disk .entry)) (address .0))) ∷ []) (now (disk .entry)) (now (list .entry)) next (now (disk .exit)) (now (list .exit)) r ⌝ }
 {
-    crate::copies::copy_to(own, 0, layout::blocks::block_at(disk, g, address));
+    copies::copy_at(own, 0, layout::blocks::block_at(disk, g, address));
     crate::changes::change_block(own, change);
     store_block(disk, list, next, g, address, own)
 }

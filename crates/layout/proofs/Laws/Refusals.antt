@@ -1,14 +1,12 @@
 -- Laws of refusals 1 to 3, one for each way through their tests. Assumes nothing.
-use mathlib.Core.Path.{_≡_, refl, sym, ap, _∙_}
+use mathlib.Core.Path.{_≡_, sym, ap, _∙_}
 use mathlib.Core.Logic.{_≢_}
-use mathlib.Core.Bool.{Bool, true, false, not, _||_}
-use mathlib.Core.List.{List, [], _∷_, _++_}
+use mathlib.Core.Bool.{true, false, not, _||_}
+use mathlib.Core.List.{[]}
 use Prim.Native.Nat.{ℕ, _≤_, _<_}
-use native.Mathlib.Omega.{arith}
-use lib.Dec.{ltb, leb, eqb}
+use lib.Dec.{ltb}
 use lib.ListN.{length}
 use borrow.Author.Tests.{lt-ltb, le-ltb, le-leb, eq-eqb, ne-eqb}
-use Rattle.laws.specs.Checks.{check, firstOf}
 use Rattle.laws.proofs.Cases.{or-left, or-right, or-neither}
 use Rattle.laws.proofs.Checks.{firstOf-nil, firstOf-stop, firstOf-pass, firstOf-append-stop}
 use Rattle.model.specs.Geometry.{Geometry, driveSize, isGeometry}
@@ -35,7 +33,8 @@ module _ (bytes : ℕ) (g : Geometry) where
     pub size-whole : bytes ≡ driveSize g → 0 ≡ sizeRefusal bytes g
     unfolding sizeRefusal sizeChecks
     size-whole e =
-        sym (firstOf-pass 1 _ first-passes ∙ firstOf-pass 2 [] (ap not (eq-eqb bytes (driveSize g) e)) ∙ firstOf-nil)
+        sym (firstOf-pass 1 _ first-passes ∙ firstOf-pass 2 [] (ap not (eq-eqb bytes (driveSize g) e))
+        ∙ firstOf-nil)
 
     pub size-other : bytes ≢ driveSize g → 2 ≡ sizeRefusal bytes g
     unfolding sizeRefusal sizeChecks
@@ -47,9 +46,11 @@ module _ (bytes : ℕ) (g : Geometry) where
 module _ (disk : Bytes) where
   pub drive-short : length disk < 24 → 1 ≡ driveRefusal disk
   unfolding driveRefusal driveChecks sizeChecks
-  drive-short h = sym (firstOf-stop 1 _ (or-left (not (isGeometry (geometryIn disk))) (lt-ltb (length disk) 24 h)))
+  drive-short h = sym (firstOf-stop 1 _ (or-left (not (isGeometry (geometryIn disk)))
+      (lt-ltb (length disk) 24 h)))
 
-  pub drive-sized : (fault : ℕ) → fault ≡ sizeRefusal (length disk) (geometryIn disk) → fault ≢ 0 → fault ≡ driveRefusal disk
+  pub drive-sized : (fault : ℕ) → fault ≡ sizeRefusal (length disk) (geometryIn disk) → fault ≢ 0 →
+      fault ≡ driveRefusal disk
   unfolding sizeRefusal driveRefusal driveChecks
   drive-sized fault e f =
       e ∙ sym (firstOf-append-stop (sizeChecks (length disk) (geometryIn disk)) _ (λ z. f (e ∙ z)))

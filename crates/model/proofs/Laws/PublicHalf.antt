@@ -20,10 +20,12 @@ use Rattle.model.specs.Invariants.{bitmapBit}
 use Rattle.model.proofs.Laws.Geometry.{bitAddress-lt}
 use Rattle.model.proofs.Laws.Blocks.{length-setBlock}
 use Rattle.model.proofs.Laws.Slots.{SlotBlock}
-use Rattle.model.proofs.Laws.Places.{OldPlace, entry-not-zero}
 use Rattle.model.proofs.Laws.Bitmap.{length-bitmapWith, marked, areaPlace-apart}
 use Rattle.model.proofs.Laws.Bitmap.{bitmapBit-marked-other, bitmapBit-marked-same}
 use Rattle.model.proofs.Laws.Stores.{Stored}
+-- what it says of old places, and of each member of a list
+pub use Rattle.laws.proofs.Members.{all-map}
+pub use Rattle.model.proofs.Laws.Places.{OldPlace, entry-not-zero}
 
 -- ---- the bitmap's stores ----
 

@@ -1,28 +1,13 @@
 -- What is computed at the limits: each field by computation. Assumes nothing.
 use mathlib.Core.Path.{refl}
-use Rattle.laws.specs.Checks.{firstOf}
-use Rattle.laws.specs.Lists.{part, over}
-use Rattle.laws.specs.Numbers.{numberOf, littleEndian}
-use Rattle.laws.specs.Bits.{bitOf, withBit, bitAt, setBit}
-use Rattle.laws.proofs.Lists.{isSame, same-of-isSame}
-use Rattle.model.specs.Geometry.{isGeometry}
-use Rattle.model.specs.Blocks.{blockAt, setBlock, entryAt, setEntry, packed}
-use Rattle.model.specs.Layout.{isSlotBlock, isAllocated, bitmapWith, mapEntry, isPlace}
-use Rattle.model.specs.HiddenTree.{branchAt, walkFrom}
-use Rattle.model.specs.Stores.{apply, addresses}
-use Rattle.model.specs.Table.{table, rowAt}
-use Rattle.model.specs.Paths.{linkedNode, nodeStores, pathStores, keptBlocks, randomBlocks}
-use Rattle.model.specs.HiddenHalf.{ownerOf, isLive, isOwnerDamaged, isNextDamaged, hiddenBy, hiddenHalf}
-use Rattle.model.specs.Rounds.{publicStore, bitStores, mapStores, roundTrace, runFrom}
-use Rattle.model.specs.Refusals.{sizeChecks, sizeRefusal, driveChecks, placeChecks, roundsTo}
-use Rattle.model.specs.Refusals.{roundChecks, hiddenChecks, walkChecks, driveRefusal, publicReadRefusal}
-use Rattle.model.specs.Refusals.{writeRefusal, hiddenReadRefusal, hiddenWriteRefusal}
-use Rattle.model.specs.Calls.{headerBlock, freshFront, formatted, publicRead, outcomeOf, offerRefusal}
-use Rattle.model.specs.Calls.{offeredWrites, writeRun, written}
-use Rattle.model.specs.Promises.Limits.{Limits, threeLines, listedDrive}
+use Rattle.laws.proofs.Lists.{same-of-isSame}
+use Rattle.model.specs.Calls.{hiddenRead}
+use Rattle.model.proofs.Theorems.Computing.{computing}
+use Rattle.model.specs.Promises.Limits.{Limits, threeLines, listedDrive, sixLines, agedDrive}
+use Rattle.model.specs.Promises.Figures.{filled}
 
 pub limits : Limits
-unfolding isSame firstOf part over numberOf littleEndian bitOf withBit bitAt setBit isGeometry blockAt setBlock entryAt setEntry packed isSlotBlock isAllocated bitmapWith mapEntry isPlace branchAt walkFrom apply addresses table rowAt ownerOf isLive isOwnerDamaged isNextDamaged linkedNode nodeStores pathStores keptBlocks randomBlocks hiddenBy hiddenHalf publicStore bitStores mapStores roundTrace runFrom sizeChecks sizeRefusal driveChecks placeChecks roundsTo roundChecks hiddenChecks walkChecks driveRefusal publicReadRefusal writeRefusal hiddenReadRefusal hiddenWriteRefusal headerBlock freshFront formatted publicRead outcomeOf offerRefusal offeredWrites writeRun written
+unfolding computing
 limits =
     record {
       hidden-is-slots = refl;
@@ -61,4 +46,6 @@ limits =
       list-rest = same-of-isSame _ _ refl;
       format-leaves = same-of-isSame _ _ refl;
       three-lines = same-of-isSame threeLines listedDrive refl;
+      six-lines = same-of-isSame sixLines agedDrive refl;
+      hidden-zero-kept = same-of-isSame (hiddenRead sixLines 0 (filled 0)) (filled 5) refl;
     }

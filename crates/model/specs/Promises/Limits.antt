@@ -1,5 +1,5 @@
 -- What is computed at document 01's limits: each geometry limit at and past it, the example of each refusal,
--- what formatting leaves, and every byte of the drive after the three lines of the listing, worked out by
+-- what formatting leaves, and every byte of the drive after the three lines of the listing and after three more, worked out by
 -- hand from document 01 (docs/ON-DISK-FORMAT.md has the working). Assumes nothing.
 use mathlib.Core.Path.{_≡_}
 use mathlib.Core.List.{List, [], _∷_, _++_}
@@ -11,7 +11,7 @@ use Rattle.model.specs.Blocks.{Bytes, DiskAddress, setEntry, setBlock}
 use Rattle.model.specs.HiddenHalf.{HiddenWrite}
 use Rattle.model.specs.Refusals.{sizeRefusal, driveRefusal, publicReadRefusal, hiddenReadRefusal}
 use Rattle.model.specs.Refusals.{writeRefusal}
-use Rattle.model.specs.Calls.{formatted, written, writtenDisk, writtenList}
+use Rattle.model.specs.Calls.{formatted, hiddenRead, written, writtenDisk, writtenList}
 use Rattle.model.specs.Promises.Figures.{geometry, small, formatAnswer, fresh, filled}
 
 -- ---- geometries at the limit ----
@@ -77,6 +77,31 @@ listedDrive =
     filled 3 ++ filled 165 ++ filled 165 ++
     filled 0 ++ filled 0 ++ filled 0
 
+-- three lines more: 2 -, then 2 0, then 0 -, whose three rounds pass slot 1, live for hidden number 1
+abbrev pub sixLines : Bytes
+sixLines = lineOf (lineOf (lineOf threeLines 4 2 none) 5 2 (offerOf 0 5)) 6 0 none
+
+abbrev pub agedHeader : Bytes
+agedHeader = small4 32 ++ small4 2 ++ small4 3 ++ small4 2 ++ small4 4 ++ small4 0 ++ replicate 8 0
+
+abbrev pub agedMap : Bytes
+agedMap = small4 13 ++ small4 10 ++ small4 4 ++ replicate 20 0
+
+abbrev pub agedBitmap : Bytes
+agedBitmap = 65 ∷ 2 ∷ replicate 30 0
+
+-- both leaves hold both hidden numbers; slot 1's is the current one again
+abbrev pub agedLeaf : (owner : ℕ) → Bytes
+agedLeaf owner = small4 6 ++ small4 9 ++ replicate 20 0 ++ small4 owner
+
+abbrev pub agedDrive : Bytes
+agedDrive =
+    agedHeader ++ agedMap ++ agedBitmap ++ listedRoot ++
+    filled 5 ++ agedLeaf 0 ++ filled 5 ++
+    filled 2 ++ agedLeaf 1 ++ filled 2 ++
+    filled 3 ++ filled 165 ++ filled 165 ++
+    filled 6 ++ filled 165 ++ filled 165
+
 -- ---- the limits ----
 
 pub record Limits : Type 0 where
@@ -131,3 +156,6 @@ pub record Limits : Type 0 where
       small4 32 ++ small4 2 ++ small4 3 ++ small4 2 ++ small4 4 ++ replicate 108 0 ++ replicate 384 170
   -- the drive after the three lines of the listing
   pub three-lines : threeLines ≡ listedDrive
+  -- and after three more, a live slot's path stored again among them
+  pub six-lines : sixLines ≡ agedDrive
+  pub hidden-zero-kept : hiddenRead sixLines 0 (filled 0) ≡ filled 5

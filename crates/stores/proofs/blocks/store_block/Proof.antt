@@ -25,8 +25,8 @@ mul-at c =
           (start .args .address .0) (start .pre .1 .0),
     )
 
-copy-to-requires : tie.Need-copy-to-requires
-copy-to-requires c κs =
+copy-at-requires : tie.Need-copy-at-requires
+copy-at-requires c κs =
     let start = c .before .before .before .before .before .before in
     let g = geometryOf (start .args .g) in
     omega (
@@ -57,11 +57,11 @@ returns c =
     let start = copied .before .before .before .before .before .before .before in
     made-one (start .args .g .«block_size») (start .args .address .0) (start .args .block .now)
     (start .args .disk .now)
-    (copied .copy-to .last .0) (start .args .list .now) (start .args .next) (start .pre .1 .1 .1)
-    (copied .copy-to .ensures)
+    (copied .copy-at .last .0) (start .args .list .now) (start .args .next) (start .pre .1 .1 .1)
+    (copied .copy-at .ensures)
 
 pub store-block-spec : {M : Type 1} → statement M
 store-block-spec =
     tie.close
-    (tie.spec cast-at cast-at-2 mul-at copy-to-requires mul-list slice-write-list add-result same-length same-length-2
+    (tie.spec cast-at cast-at-2 mul-at copy-at-requires mul-list slice-write-list add-result same-length same-length-2
     returns)

@@ -33,15 +33,15 @@ taken c =
     (start .pre .1 .0)
     ∙ sym (start .pre .1 .1 .1 .0)
 
-copy-to-requires : tie.Need-copy-to-requires
-copy-to-requires c κs = omega (arith, taken c)
+copy-at-requires : tie.Need-copy-at-requires
+copy-at-requires c κs = omega (arith, taken c)
 
 change-block-requires : tie.Need-change-block-requires
 change-block-requires c κs =
     let copied = c .before .before .before in
     let start = copied .before .before .before .before .before .before .before in
     subst (λ (n : ℕ). Inside n (start .args .change))
-    (sym (copied .copy-to .kept .0 ∙ start .pre .1 .1 .1 .0))
+    (sym (copied .copy-at .kept .0 ∙ start .pre .1 .1 .1 .0))
     (start .pre .1 .1 .0)
 
 store-block-requires : tie.Need-store-block-requires
@@ -68,7 +68,7 @@ made c =
     let start = copied .before .before .before .before .before .before .before in
     c .change-block .ensures
     ∙ ap (changed (start .args .change))
-    (copied .copy-to .ensures
+    (copied .copy-at .ensures
     ∙ over-whole (copied .before .block-at .result .now) (start .args .own .now) (taken (copied .before))
     ∙ copied .before .block-at .ensures)
 
@@ -90,5 +90,5 @@ returns c =
 pub store-through-spec : {M : Type 1} → statement M
 store-through-spec =
     tie.close
-    (tie.spec block-at-requires copy-to-requires change-block-requires store-block-requires same-length same-length-2
+    (tie.spec block-at-requires copy-at-requires change-block-requires store-block-requires same-length same-length-2
     same-length-3 returns)

@@ -1,0 +1,23 @@
+-- Document 03's definitions are ours, a file for each idea.
+pub mod Congruence
+pub mod Entries
+pub mod Marks
+pub mod Walks
+pub mod Traces
+pub mod Halves
+pub mod RoundStores
+pub mod Rounds
+pub mod Chains
+pub mod Refusals
+pub mod RoundCount
+pub mod CallRefusals
+pub mod Answers
+pub mod Outcomes
+pub mod ReadCalls
+pub mod WriteCalls
+pub mod Formatting
+pub mod Views
+pub mod CallLists
+pub mod Books
+pub mod BookCalls
+pub mod BookStart

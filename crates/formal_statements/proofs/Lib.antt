@@ -1,0 +1,3 @@
+pub mod Translation
+pub mod Equations
+pub mod Implications

@@ -1,0 +1,5 @@
+pub mod Branches
+pub mod Steps
+pub mod Answers
+pub mod Trees
+pub mod Paths

@@ -1,0 +1,78 @@
+/* pddm.h: the PD-DM block mapper, proved. Document 01 gives the rules; docs/MANUAL.md what the numbers mean.
+ *
+ * A drive is one run of bytes that the caller lends to every call; the mapper keeps no state of its own and allocates
+ * nothing. Every call ends on every input. A call that is refused changes neither disk nor list.
+ *
+ * What the caller sees to:
+ *  - disk and list overlap no other argument of the same call;
+ *  - a pointer may be null only where its length is 0, and points to that many elements otherwise;
+ *  - a block shown by a find is copied out before the drive is written;
+ *  - nobody else writes the drive during a call.
+ *
+ * Refusals: 1 bad geometry or under 24 bytes, 2 wrong length, 3 head outside, 4 public number outside, 5 public data or
+ * blank not one block, 6 bad map entry, 7 every slot allocated, 8 too few random bytes, 9 list too short, 10 hidden number
+ * outside, 11 hidden data or blank not one block, 12 damaged tree. 0: not refused.
+ */
+#ifndef PDDM_H
+#define PDDM_H
+
+#include <stdbool.h>
+#include <stddef.h>
+#include <stdint.h>
+
+#ifdef __cplusplus
+extern "C" {
+#endif
+
+/* Writes an empty drive: header, public map, bitmap and root. The data area stays as it was: fill it with random bytes
+ * first. Answers 0, or refusal 1 or 2 for this geometry; refused, no byte is changed.
+ * block_size: bytes a block, a power of two from 32 to 4,096; height: levels of the hidden tree, 2 to 4;
+ * publics, hidden: blocks of the two volumes; slots: more than either. */
+uint32_t pddm_format(uint8_t *disk, size_t disk_len, uint32_t block_size, uint32_t height, uint32_t publics,
+                     uint32_t hidden, uint32_t slots);
+
+#define PDDM_REFUSED 0 /* answer says why */
+#define PDDM_BLANK 1   /* never placed: the caller's blank block */
+#define PDDM_BLOCK 2   /* the block at address, counted in blocks from the disk's start */
+
+typedef struct {
+    uint32_t answer, kind, address; /* address is 0 where kind is not PDDM_BLOCK */
+} pddm_found;
+
+/* Finds the block of a public number. Refusals 1 to 6. */
+pddm_found pddm_public_find(const uint8_t *disk, size_t disk_len, uint32_t number, const uint8_t *blank,
+                            size_t blank_len);
+
+/* Finds the block of a hidden number. Refusals 1 to 3, 10 to 12. */
+pddm_found pddm_hidden_find(const uint8_t *disk, size_t disk_len, uint32_t number, const uint8_t *blank,
+                            size_t blank_len);
+
+#define PDDM_NONE 0      /* nothing was offered */
+#define PDDM_PLACED 1    /* the hidden block is on the drive */
+#define PDDM_WAITING 2   /* not yet: offer it again with a later write */
+#define PDDM_NOT_TRIED 3 /* the write was refused */
+                         /* or 10, 11: the offer is bad; 12: the tree is damaged */
+
+typedef struct {
+    uint32_t answer, rounds, stores, outcome; /* stores: how many entries of the list were written */
+} pddm_written;
+
+/* Writes one public block and, if offered, tries to carry one hidden block along. Refusals 1 to 9; a bad offer never
+ * refuses the write. random: fresh random bytes, rounds x height x block_size of them (pddm_write_needs says how many);
+ * list: takes the disk address of every block stored, in order. hidden and hidden_number are not looked at unless offered. */
+pddm_written pddm_write(uint8_t *disk, size_t disk_len, uint32_t number, const uint8_t *data, size_t data_len,
+                        bool offered, uint32_t hidden_number, const uint8_t *hidden, size_t hidden_len,
+                        const uint8_t *random, size_t random_len, uint32_t *list, size_t list_len);
+
+typedef struct {
+    uint32_t answer, rounds, stores, random_blocks; /* random_blocks x block_size bytes; all 0 where answer is not 0 */
+} pddm_needs;
+
+/* What a good write of this number takes now: refusal 1 to 4, 6 or 7, or 0 and the buffers to lend. */
+pddm_needs pddm_write_needs(const uint8_t *disk, size_t disk_len, uint32_t number);
+
+#ifdef __cplusplus
+}
+#endif
+
+#endif

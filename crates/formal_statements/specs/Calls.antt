@@ -67,7 +67,7 @@ hiddenFault d n c =
 abbrev pub publicRead : (disk : List ℕ) → (number : ℕ) → (blank : List ℕ) → List ℕ
 publicRead d n c =
     pick (eqb (publicFault d n c) 0)
-      (pick (eqb (mapEntry (geometryIn d) d n) 0) c (block (geometryIn d) d (mapEntry (geometryIn d) d n))) []
+    (pick (eqb (mapEntry (geometryIn d) d n) 0) c (block (geometryIn d) d (mapEntry (geometryIn d) d n))) []
 
 abbrev pub shownBy : (disk blank : List ℕ) → End → List ℕ
 shownBy d c (found a) = block (geometryIn d) d a
@@ -110,7 +110,7 @@ refusal n d = record { number = n; rounds = 0; outcome = 3; stores = []; disk = 
 abbrev pub write : (disk : List ℕ) → (number : ℕ) → (content random : List ℕ) → (room : ℕ) → Option Offer → Result
 write d n c rs l o =
     pick (eqb (writeFault d n c (length rs) l) 0)
-      (resultOf (geometryIn d) o (writes (geometryIn d) d n c rs (goodOffer (geometryIn d) o))) (refusal (writeFault d n c (length rs) l) d)
+    (resultOf (geometryIn d) o (writes (geometryIn d) d n c rs (goodOffer (geometryIn d) o))) (refusal (writeFault d n c (length rs) l) d)
 
 -- FORMATTING leaves the data area
 abbrev pub headerFor : Geometry → List ℕ

@@ -71,8 +71,12 @@ seenBy d (reads n b) =
 seenBy d (hiddenReads n b) = []
 seenBy d (writesTo n c rs l o) =
     record {
-      answer = resultBy d n c rs l o .number; shown = []; rounds = resultBy d n c rs l o .rounds; stores = resultBy d n c rs l o .stores;
-      view = viewOf (resultBy d n c rs l o .disk) } ∷ []
+      answer = resultBy d n c rs l o .number;
+      shown = [];
+      rounds = resultBy d n c rs l o .rounds;
+      stores = resultBy d n c rs l o .stores;
+      view = viewOf (resultBy d n c rs l o .disk);
+    } ∷ []
 
 unfoldable pub seen : (disk : List ℕ) → List Call → List Seen
 seen d [] = []
@@ -102,8 +106,12 @@ marksOf g d s (suc k) = isMarked g d s ∷ marksOf g d (suc s) k
 abbrev pub bookOf : (disk : List ℕ) → Book
 bookOf d =
     record {
-      geometry = geometryIn d; size = length d; head = headIn d; entries = entriesOf (geometryIn d) d 0 (geometryIn d .publics);
-      marks = marksOf (geometryIn d) d 0 (geometryIn d .slots) }
+      geometry = geometryIn d;
+      size = length d;
+      head = headIn d;
+      entries = entriesOf (geometryIn d) d 0 (geometryIn d .publics);
+      marks = marksOf (geometryIn d) d 0 (geometryIn d .slots);
+    }
 
 abbrev pub markAt : Book → (slot : ℕ) → Bool
 markAt k s = getD (k .marks) s false
@@ -137,7 +145,7 @@ slotStores g s = slotRun g (slotStart g s) (suc (g .height)) ++ (rootBlock g ∷
 abbrev pub lastOnes : Book → (number slot : ℕ) → List ℕ
 lastOnes k n s =
     mapBlock (k .geometry) n ∷ bitBlock (k .geometry) s ∷
-      pick (eqb (entryAt k n) 0) [] (bitBlock (k .geometry) (slotOf (k .geometry) (entryAt k n)) ∷ [])
+    pick (eqb (entryAt k n) 0) [] (bitBlock (k .geometry) (slotOf (k .geometry) (entryAt k n)) ∷ [])
 
 unfoldable pub bookStores : ℕ → Book → (number slot : ℕ) → List ℕ
 bookStores zero k n s = []
@@ -164,8 +172,12 @@ unmarkedOld k n = pick (eqb (entryAt k n) 0) (k .marks) (set (k .marks) (slotOf 
 abbrev pub bookWritten : Book → (number : ℕ) → Book
 bookWritten k n =
     record {
-      geometry = k .geometry; size = k .size; head = (lastSlot k + 1) % k .geometry .slots; entries = set (k .entries) n (slotStart (k .geometry) (lastSlot k));
-      marks = set (unmarkedOld k n) (lastSlot k) true }
+      geometry = k .geometry;
+      size = k .size;
+      head = (lastSlot k + 1) % k .geometry .slots;
+      entries = set (k .entries) n (slotStart (k .geometry) (lastSlot k));
+      marks = set (unmarkedOld k n) (lastSlot k) true;
+    }
 
 -- what the book says of a public call: answer, rounds, stores
 pub record Told : Type 0 where
@@ -247,11 +259,11 @@ ReadsBack =
     (d b : List ℕ) (g : Geometry) (cs : List Call) (n : ℕ) → areBytes d ≡ true → areBytes b ≡ true → formatFault d g ≡ 0 → callsFit cs ≡ true →
     (diskFault (diskAfter (formatted d g) cs) ≡ 0) ×
     (n < g .publics → length b ≡ g .size →
-      (publicFault (diskAfter (formatted d g) cs) n b ≡ 0) ×
-      (publicRead (diskAfter (formatted d g) cs) n b ≡ orBlank (lastPublic (formatted d g) n none cs) b)) ×
+    (publicFault (diskAfter (formatted d g) cs) n b ≡ 0) ×
+    (publicRead (diskAfter (formatted d g) cs) n b ≡ orBlank (lastPublic (formatted d g) n none cs) b)) ×
     (n < g .hidden → length b ≡ g .size →
-      (hiddenFault (diskAfter (formatted d g) cs) n b ≡ 0) ×
-      (hiddenRead (diskAfter (formatted d g) cs) n b ≡ orBlank (lastHidden (formatted d g) n none cs) b))
+    (hiddenFault (diskAfter (formatted d g) cs) n b ≡ 0) ×
+    (hiddenRead (diskAfter (formatted d g) cs) n b ≡ orBlank (lastHidden (formatted d g) n none cs) b))
 
 -- THE STARRED FIGURES
 abbrev pub geometry : (size height publics hidden slots : ℕ) → Geometry
@@ -285,5 +297,5 @@ Figures =
     (wrote fresh 0 256 23 none .stores ≡ 4 ∷ 5 ∷ 6 ∷ 3 ∷ 1 ∷ 2 ∷ 0 ∷ []) × (wrote fresh 0 256 23 offerTwo .stores ≡ 4 ∷ 5 ∷ 6 ∷ 3 ∷ 1 ∷ 2 ∷ 0 ∷ []) ×
     (wrote fresh 0 256 23 offerTwo .outcome ≡ 10) × (wrote fourWritten 2 192 18 none .rounds ≡ 3) ×
     (wrote fourWritten 2 192 18 none .stores ≡
-      (4 ∷ 5 ∷ 6 ∷ 3 ∷ 0 ∷ 7 ∷ 8 ∷ 9 ∷ 3 ∷ 0 ∷ []) ++ (10 ∷ 11 ∷ 12 ∷ 3 ∷ 1 ∷ 2 ∷ 2 ∷ 0 ∷ [])) × (wrote fourWritten 2 191 18 none .number ≡ 8) ×
+    (4 ∷ 5 ∷ 6 ∷ 3 ∷ 0 ∷ 7 ∷ 8 ∷ 9 ∷ 3 ∷ 0 ∷ []) ++ (10 ∷ 11 ∷ 12 ∷ 3 ∷ 1 ∷ 2 ∷ 2 ∷ 0 ∷ [])) × (wrote fourWritten 2 191 18 none .number ≡ 8) ×
     (wrote fourWritten 2 192 17 none .number ≡ 9) × (publicRead fresh 1 (filled 5) ≡ filled 5)

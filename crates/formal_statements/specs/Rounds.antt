@@ -115,8 +115,8 @@ abbrev pub hiddenHalf : Geometry → (disk : List ℕ) → (slot : ℕ) → (ran
 hiddenHalf g d s rs f =
     pick (ownerDamaged g d s) (half (keptStores g d s) (keepsFate f))
     (pick (isLive g d s)
-      (half (pathStores g (ownerOf g d s) s (block g d (slotStart g s + g .height)) (walk g d (ownerOf g d s) .nodes)) f)
-      (offerHalf g d s rs f (f .waiting)))
+    (half (pathStores g (ownerOf g d s) s (block g d (slotStart g s + g .height)) (walk g d (ownerOf g d s) .nodes)) f)
+    (offerHalf g d s rs f (f .waiting)))
 
 -- THE PUBLIC HALF: a marked block is written back, an unmarked one takes the call's content and ends the rounds
 abbrev pub publicStore : Geometry → (disk : List ℕ) → (slot : ℕ) → (content : List ℕ) → Store
@@ -174,8 +174,8 @@ unfoldable pub roundsFrom : ℕ → Geometry → (number slot : ℕ) → (conten
 roundsFrom zero g n s c rs d f = written d 0 [] f
 roundsFrom (suc k) g n s c rs d f =
     roundBy g d n s c (hiddenHalf g d s rs f)
-      (λ (e : List ℕ) (x : Fate).
-        pick (isMarked g d s) (roundsFrom k g n ((s + 1) % g .slots) c (drop (g .height * g .size) rs) e x) (written e 0 [] x))
+    (λ (e : List ℕ) (x : Fate).
+    pick (isMarked g d s) (roundsFrom k g n ((s + 1) % g .slots) c (drop (g .height * g .size) rs) e x) (written e 0 [] x))
 
 abbrev pub fresh : Option Offer → Fate
 fresh o = record { waiting = o; isPlaced = false; wasKept = false }

@@ -6,5 +6,4 @@ pub fn implied()
     ensures figures { λ _. ⌜ Figures ⌝ }
     ensures nothing_shows { λ _. ⌜ NothingShows ⌝ }
     ensures reads_back { λ _. ⌜ ReadsBack ⌝ }
-{
-}
+{}

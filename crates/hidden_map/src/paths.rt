@@ -1,8 +1,8 @@
 // The nodes of a walk, read one after another, zeros for those that it did not reach.
-use copies::clear_at;
-use copies::copy_at;
 use crate::walks::Reached;
 use crate::walks::step;
+use copies::clear_at;
+use copies::copy_at;
 use layout::geometry::Geometry;
 use layout::geometry::area_start;
 use layout::numbers::DiskAddress;

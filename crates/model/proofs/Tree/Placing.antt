@@ -1,7 +1,7 @@
 -- Whole traces under the ghost tree: a current path stored in a slot plants it, and random blocks in a slot
 -- that is not live leave the tree. Assumes nothing.
 use mathlib.Core.Path.{_≡_, refl, sym, ap, _∙_}
-use mathlib.Core.Logic.{_≢_}
+use mathlib.Core.Logic.{_≢_, inl}
 use mathlib.Core.Bool.{true, false}
 use mathlib.Core.Option.{Option, some}
 use Prim.Native.Nat.{ℕ, suc, _*_, _-_, _<_}
@@ -19,7 +19,7 @@ use Rattle.model.proofs.Tree.Ghost.{blockIn-same, length-nodeAt}
 use Rattle.model.proofs.Tree.Walks.{walk-nodes}
 use Rattle.model.proofs.Tree.Live.{isLive-of-used, unused-of-not-isLive}
 use Rattle.model.proofs.Tree.Nodes.{entryAt-linkedNode-owner}
-use Rattle.model.proofs.Tree.Planted.{planted, Planted, planted-same, planted-other}
+use Rattle.model.proofs.Tree.Planted.{placedTree, Planted, planted-same, planted-other}
 use Rattle.model.proofs.Tree.Stored.{path-node, path-data, path-root, dummy-root, StoredBy}
 use Rattle.model.proofs.Tree.Planting.{ghost-planted}
 use Rattle.model.proofs.Tree.Unused.{ghost-unused, valueOf-unused}
@@ -63,23 +63,21 @@ module _ (g : Geometry) (f : Fits g) (disk after : Bytes) (tree : Tree)
       sym (ghost .owned other level slot h k e .below)
       ∙ ap (keyOf g level) (mine (isLive-of-used g f disk tree ghost other level slot h k e))
 
-  nodes : (level : ℕ) → suc level < g .height →
+  nodes : (level : ℕ) → level < g .height - 1 →
       blockAt (g .blockSize) after (levelAddress g slot (suc level)) ≡
       linkedNode g number slot level (nodeAt g disk tree (suc level) number)
   nodes level h =
       on-path .in-slot (suc level) (omega arith) (omega arith)
       ∙ path-node g disk tree number slot content (g .height - 1) top level _ (omega arith)
 
-  path-planted : Planted g disk after tree number slot
+  path-planted : Planted g disk after tree number slot (g .height - 1)
   unfolding ownerOf
   path-planted =
       record {
+        top-lt = omega (arith, f .height-low);
         ours = ours;
         nodes = nodes;
-        root = λ level e.
-            let same : g .height - 1 ≡ level = omega arith in
-            on-path .in-root ∙ path-root g disk tree number slot content (g .height - 1) top _
-            ∙ ap (λ (n : ℕ). linkedNode g number slot n (nodeAt g disk tree (suc n) number)) same;
+        above = λ level h k e. absurd (omega arith);
         apart = on-path .apart;
         owner =
             ap (entryAt (fanout g - 1)) (nodes 0 (omega (arith, f .height-low)))
@@ -87,17 +85,23 @@ module _ (g : Geometry) (f : Fits g) (disk after : Bytes) (tree : Tree)
             (length-nodeAt g disk tree whole (ghost .links) 1 number (omega (arith, f .height-low))
             (lt-treeCapacity g f number low))
             (omega (arith, low, f .hidden-high, f .blocks-high));
+        joined =
+            inl (
+              top,
+              on-path .in-root ∙ path-root g disk tree number slot content (g .height - 1) top _
+                  ∙ ap (λ (n : ℕ). linkedNode g number slot (g .height - 1) (nodeAt g disk tree n number)) top,
+            );
       }
 
   abbrev new : Tree
-  new = planted g tree number slot
+  new = placedTree g tree number slot
 
   slot-same : slotAt g new 0 number ≡ some slot
-  slot-same = planted-same g tree number slot 0 number refl
+  slot-same = planted-same g tree number slot (g .height - 1) 0 number (omega arith) refl
 
   slot-other : (other : ℕ) → other ≢ number → slotAt g new 0 other ≡ slotAt g tree 0 other
   slot-other other ne =
-      planted-other g tree number slot 0 other
+      planted-other g tree number slot (g .height - 1) 0 other
       (λ e. ne (sym (keyOf-zero g other) ∙ e ∙ keyOf-zero g number))
 
   value-same : valueOf g after new number ≡ some content
@@ -122,10 +126,11 @@ module _ (g : Geometry) (f : Fits g) (disk after : Bytes) (tree : Tree)
       shared : slotAt g tree 0 other ≡ some slot → other ≡ number
       shared e = sym (keyOf-zero g other) ∙ ours other 0 h positive e ∙ keyOf-zero g number
 
-  pub placement : Placement g disk after tree (planted g tree number slot) number slot content
+  pub placement : Placement g disk after tree (placedTree g tree number slot) number slot content
   placement =
       record {
-        ghost = ghost-planted g f disk after tree whole ghost number slot low here path-planted;
+        ghost = ghost-planted g f disk after tree whole ghost number slot
+            (g .height - 1) low here path-planted;
         value-same = value-same;
         value-other = value-other;
       }

@@ -20,7 +20,7 @@ use Rattle.model.proofs.Laws.Accepted.{GoodWrite}
 use Rattle.model.proofs.Laws.HiddenHalf.{rowOf-hidden}
 use Rattle.model.proofs.Tree.Ghost.{Tree, Ghost, blockIn, valueOf}
 use Rattle.model.proofs.Tree.Live.{owner-lt-of-isLive, holds-of-isLive, isBlocked-false}
-use Rattle.model.proofs.Tree.Planted.{planted}
+use Rattle.model.proofs.Tree.Planted.{placedTree}
 use Rattle.model.proofs.Tree.Stored.{StoredBy}
 use Rattle.model.proofs.Tree.Placing.{placement, ghost-dummy, valueOf-dummy}
 
@@ -56,12 +56,12 @@ module _ (g : Geometry) (f : Fits g) (disk : Bytes) (tree : Tree)
   turns-live live after stored =
       let placed = placement g f disk after tree whole start owner slot _ low here (λ e. refl) stored in
       record {
-        grown = planted g tree owner slot;
+        grown = placedTree g tree owner slot;
         ghost = placed .ghost;
         turn = still refl (λ number h.
             ⊎-elim
             (λ e.
-            ap (valueOf g after (planted g tree owner slot)) e ∙ placed .value-same
+            ap (valueOf g after (placedTree g tree owner slot)) e ∙ placed .value-same
             ∙ sym (ap (blockIn g disk) (holds-of-isLive g f disk tree start slot live))
             ∙ ap (valueOf g disk tree) (sym e))
             (placed .value-other number h) (eq-cases number owner));
@@ -91,7 +91,7 @@ module _ (g : Geometry) (f : Fits g) (disk : Bytes) (tree : Tree)
       let placed = placement g f disk after tree whole start (write .number) slot (write .content) low here
       (λ live. true-is-not-false live free) stored in
       record {
-        grown = planted g tree (write .number) slot;
+        grown = placedTree g tree (write .number) slot;
         ghost = placed .ghost;
         turn = places write later e refl (placed .value-same) (placed .value-other);
       }

@@ -44,9 +44,11 @@ geometry-in-requires c κs =
 
 map-entry-requires : tie.Need-map-entry-requires
 map-entry-requires c κs =
-    let a = startOf (c .before) .args in
-    (drive c, number-inside (a .disk .now) (a .number .0) (a .blank .now) (unrefused (c .before))
-    (geometryOf (c .geometry-in .result)) (c .geometry-in .ensures))
+    let a = startOf (c .before) .args in (
+      drive c,
+      number-inside (a .disk .now) (a .number .0) (a .blank .now) (unrefused (c .before))
+          (geometryOf (c .geometry-in .result)) (c .geometry-in .ensures),
+    )
 
 returns-2 : tie.Need-returns-2
 returns-2 c =
@@ -60,9 +62,11 @@ block-at-requires : tie.Need-block-at-requires
 block-at-requires c κs =
     let s = c .before .before .before in
     let a = startOf (s .before) .args in
-    let entry = c .before .before .map-entry in
-    (drive s, entry-inside (a .disk .now) (a .number .0) (a .blank .now) (unrefused (s .before))
-    (geometryOf (s .geometry-in .result)) (s .geometry-in .ensures) (entry .result .0) (entry .ensures) (c .if2 .left))
+    let entry = c .before .before .map-entry in (
+      drive s,
+      entry-inside (a .disk .now) (a .number .0) (a .blank .now) (unrefused (s .before))
+          (geometryOf (s .geometry-in .result)) (s .geometry-in .ensures) (entry .result .0) (entry .ensures) (c .if2 .left),
+    )
 
 returns-3 : tie.Need-returns-3
 returns-3 c =

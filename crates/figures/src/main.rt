@@ -1,5 +1,5 @@
-// Prints document 01's figures of geometry, formatting and both reads ("Figures to hold against"): a line for each,
-// with the number that the document gives and the number that the code gives.
+// Prints document 01's figures of geometry, formatting and both reads ("Figures to hold against"): a line for
+// each, with the number that the document gives and the number that the code gives.
 mod reads; // reads of both volumes
 
 use layout::geometry::Geometry;
@@ -94,37 +94,12 @@ fn print_answers() {
 
 // The header of a fresh drive, the last byte before its data area and the first byte in it.
 fn print_fresh() {
-    let header = [
-        32u8,
-        0,
-        0,
-        0,
-        2,
-        0,
-        0,
-        0,
-        3,
-        0,
-        0,
-        0,
-        2,
-        0,
-        0,
-        0,
-        4,
-        0,
-        0,
-        0,
-        0,
-        0,
-        0,
-        0,
-    ];
     let mut disk = [170u8; 512];
     format_drive(&mut disk, two_high(32, 3, 2, 4));
-    io::write_all(STDOUT_FILENO, b"header expected");
-    print_bytes(&header);
-    io::write_all(STDOUT_FILENO, b" got");
+    io::write_all(
+        STDOUT_FILENO,
+        b"header expected 32 0 0 0 2 0 0 0 3 0 0 0 2 0 0 0 4 0 0 0 0 0 0 0 got",
+    );
     print_bytes(&disk[..24]);
     io::write_all(STDOUT_FILENO, b"\nbyte 127 expected 0 got");
     print_byte(disk[127]);

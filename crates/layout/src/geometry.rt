@@ -1,4 +1,5 @@
-// The geometry of a drive: read from its header, held to document 01's limits, and the areas that it lays out.
+// The geometry of a drive: read from its header, held to document 01's limits, and the areas that it lays
+// out.
 use crate::entries::entry_at;
 use crate::numbers::DiskAddress;
 ghost use mathlib.Core.Path.{_≡_};
@@ -6,7 +7,8 @@ ghost use mathlib.Core.Bool.{true};
 ghost use Prim.Native.Nat.{_+_, _*_, _-_, _/_, _≤_, _<_, _^_};
 ghost use lib.ListN.{length};
 ghost use Rattle.laws.specs.Division.{ceilDiv};
-ghost use Rattle.model.specs.Geometry.{Fits, mapBlocks, areaBlocks, bitmapBlocks, rootAddress, areaStart, blockCount, treeCapacity, blockSizes, isOneOf, isGeometry};
+ghost use Rattle.model.specs.Geometry.{Fits, mapBlocks, areaBlocks, bitmapBlocks, rootAddress, areaStart};
+ghost use Rattle.model.specs.Geometry.{blockCount, treeCapacity, blockSizes, isOneOf, isGeometry};
 ghost use Rattle.model.specs.Layout.{geometryIn, headIn, slotStart};
 ghost use Rattle.layout.specs.Geometries.{geometryOf, Bounded};
 

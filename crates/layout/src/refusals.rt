@@ -1,4 +1,5 @@
-// Refusals 1 to 3 (document 01, "Public numbers and hidden outcomes"): the number that a disk is refused for, or 0.
+// Refusals 1 to 3 (document 01, "Public numbers and hidden outcomes"): the number that a disk is refused for,
+// or 0.
 use crate::geometry::Geometry;
 use crate::geometry::block_count;
 use crate::geometry::geometry_in;

@@ -1,10 +1,10 @@
-// Formatting: header (head 0), map, bitmap and root, all zero but for the header's entries; the data area stays.
+// Formatting: header (head 0), map, bitmap and root, all zero but for the header's entries; the data area
+// stays.
 use layout::entries::put_entry;
 use layout::geometry::Geometry;
 use layout::geometry::area_start;
 use layout::refusals::size_fault;
 ghost use mathlib.Core.Path.{_≡_};
-ghost use mathlib.Core.List.{_∷_, []};
 ghost use Prim.Native.Nat.{_≤_};
 ghost use lib.ListN.{length, replicate};
 ghost use Rattle.laws.specs.Lists.{over};

@@ -1,5 +1,5 @@
-// The calls of the mapper (document 01, "Public numbers and hidden outcomes"). None has a `requires`: each contract
-// fixes the answer and the bytes that the call leaves, for every input.
+// The calls of the mapper (document 01, "Public numbers and hidden outcomes"). None has a `requires`: each
+// contract fixes the answer and the bytes that the call leaves, for every input.
 mod formatting; // header, map, bitmap and root of a fresh drive
 mod public; // refusals 4 to 6, and the public read
 mod hidden; // refusals 10 to 12, and the hidden read

@@ -21,8 +21,13 @@ slice-aggregate-write-all c = search needs
 write-all-requires : tie.Need-write-all-requires
 write-all-requires c κs = search needs
 
+array-share-prefix-disk : tie.Need-array-share-prefix-disk
+array-share-prefix-disk c = search needs
+
 slice-aggregate-print-bytes : tie.Need-slice-aggregate-print-bytes
-slice-aggregate-print-bytes c = search needs
+slice-aggregate-print-bytes c =
+    let disk = c .before .before .before .before .format-drive in
+    sym (length-take-le 24 (disk .last .0) (omega (arith, disk .kept .0)))
 
 print-bytes-requires : tie.Need-print-bytes-requires
 print-bytes-requires c κs = search needs
@@ -33,16 +38,11 @@ slice-aggregate-write-all-2 c = search needs
 write-all-requires-2 : tie.Need-write-all-requires-2
 write-all-requires-2 c κs = search needs
 
-array-share-prefix-disk : tie.Need-array-share-prefix-disk
-array-share-prefix-disk c = search needs
+array-read-print-byte : tie.Need-array-read-print-byte
+array-read-print-byte c = search needs
 
-slice-aggregate-print-bytes-2 : tie.Need-slice-aggregate-print-bytes-2
-slice-aggregate-print-bytes-2 c =
-    let disk = c .before .before .before .before .before .before .before .before .format-drive in
-    sym (length-take-le 24 (disk .last .0) (omega (arith, disk .kept .0)))
-
-print-bytes-requires-2 : tie.Need-print-bytes-requires-2
-print-bytes-requires-2 c κs = search needs
+print-byte-requires : tie.Need-print-byte-requires
+print-byte-requires c κs = search needs
 
 slice-aggregate-write-all-3 : tie.Need-slice-aggregate-write-all-3
 slice-aggregate-write-all-3 c = search needs
@@ -50,29 +50,17 @@ slice-aggregate-write-all-3 c = search needs
 write-all-requires-3 : tie.Need-write-all-requires-3
 write-all-requires-3 c κs = search needs
 
-array-read-print-byte : tie.Need-array-read-print-byte
-array-read-print-byte c = search needs
-
-print-byte-requires : tie.Need-print-byte-requires
-print-byte-requires c κs = search needs
-
-slice-aggregate-write-all-4 : tie.Need-slice-aggregate-write-all-4
-slice-aggregate-write-all-4 c = search needs
-
-write-all-requires-4 : tie.Need-write-all-requires-4
-write-all-requires-4 c κs = search needs
-
 array-read-print-byte-2 : tie.Need-array-read-print-byte-2
 array-read-print-byte-2 c = search needs
 
 print-byte-requires-2 : tie.Need-print-byte-requires-2
 print-byte-requires-2 c κs = search needs
 
-slice-aggregate-write-all-5 : tie.Need-slice-aggregate-write-all-5
-slice-aggregate-write-all-5 c = search needs
+slice-aggregate-write-all-4 : tie.Need-slice-aggregate-write-all-4
+slice-aggregate-write-all-4 c = search needs
 
-write-all-requires-5 : tie.Need-write-all-requires-5
-write-all-requires-5 c κs = search needs
+write-all-requires-4 : tie.Need-write-all-requires-4
+write-all-requires-4 c κs = search needs
 
 returns : tie.Need-returns
 returns c = search needs
@@ -86,21 +74,17 @@ print-fresh-spec =
     format-drive-requires
     slice-aggregate-write-all
     write-all-requires
+    array-share-prefix-disk
     slice-aggregate-print-bytes
     print-bytes-requires
     slice-aggregate-write-all-2
     write-all-requires-2
-    array-share-prefix-disk
-    slice-aggregate-print-bytes-2
-    print-bytes-requires-2
-    slice-aggregate-write-all-3
-    write-all-requires-3
     array-read-print-byte
     print-byte-requires
-    slice-aggregate-write-all-4
-    write-all-requires-4
+    slice-aggregate-write-all-3
+    write-all-requires-3
     array-read-print-byte-2
     print-byte-requires-2
-    slice-aggregate-write-all-5
-    write-all-requires-5
+    slice-aggregate-write-all-4
+    write-all-requires-4
     returns)

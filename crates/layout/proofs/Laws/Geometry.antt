@@ -1,16 +1,14 @@
 -- Laws of the geometry's test, one for each way through it, and of the numbers that it counts with: bounds
--- that keep
--- them inside a machine number, and the powers of the tree. Assumes nothing.
-use mathlib.Core.Path.{_≡_, refl, sym, ap, _∙_, subst}
-use mathlib.Core.Logic.{_⊎_, inl, inr, ⊎-elim}
-use mathlib.Core.Bool.{Bool, true, false, _&&_, and-false}
+-- that keep them inside a machine number, and the powers of the tree. Assumes nothing.
+use mathlib.Core.Path.{_≡_, refl, sym, subst}
+use mathlib.Core.Logic.{_⊎_, ⊎-elim}
+use mathlib.Core.Bool.{true, false, and-false}
 use mathlib.Core.List.{List, [], _∷_}
-use Prim.Native.Nat.{ℕ, zero, suc, _+_, _*_, _-_, _/_, _^_, _≤_, _<_}
+use Prim.Native.Nat.{ℕ, _+_, _*_, _-_, _≤_, _<_}
 use native.Mathlib.Nat.{mul-le-mul, mul-le-mul-left, div-le-self}
 use native.Mathlib.Omega.{arith}
-use lib.Dec.{ltb, leb, eqb}
+use lib.Dec.{leb, eqb}
 use borrow.Author.Tests.{lt-ltb, le-ltb, le-leb, lt-leb, eqb-true}
-use Rattle.laws.specs.Division.{ceilDiv}
 use Rattle.laws.proofs.Cases.{or-cases, true-is-not-false}
 use Rattle.laws.proofs.Division.{pow-one, pow-two, pow-three}
 use Rattle.model.specs.Geometry.{Geometry, Fits, fanout, mapBlocks, areaBlocks, bitmapBlocks, blockCount}

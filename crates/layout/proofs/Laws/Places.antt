@@ -1,11 +1,11 @@
--- Where things lie on a drive: its slots, bits and map entries stand inside it. Assumes nothing.
+-- Where an entry of the public map lies: inside its drive. Assumes nothing.
 use mathlib.Core.Path.{_≡_, ap}
-use Prim.Native.Nat.{ℕ, _+_, _*_, _/_, _≤_, _<_}
+use Prim.Native.Nat.{ℕ, _+_, _*_, _≤_, _<_}
 use native.Mathlib.Nat.{mul-le-mul-right, add-mul, mul-left-comm}
 use native.Mathlib.Omega.{arith}
 use lib.ListN.{length}
 use Rattle.laws.proofs.Division.{ceilDiv-covers}
-use Rattle.model.specs.Geometry.{Geometry, Fits, fanout, mapBlocks, blockCount}
+use Rattle.model.specs.Geometry.{Geometry, fanout, mapBlocks, blockCount}
 use Rattle.model.specs.Blocks.{Bytes}
 use Rattle.model.specs.Layout.{Drive}
 use Rattle.model.proofs.Laws.Geometry.{fanout-low}

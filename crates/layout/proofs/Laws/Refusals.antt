@@ -1,14 +1,12 @@
 -- Laws of refusals 1 to 3, one for each way through their tests. Assumes nothing.
-use mathlib.Core.Path.{_≡_, refl, sym, ap, _∙_}
+use mathlib.Core.Path.{_≡_, sym, ap, _∙_}
 use mathlib.Core.Logic.{_≢_}
-use mathlib.Core.Bool.{Bool, true, false, not, _||_}
-use mathlib.Core.List.{List, [], _∷_, _++_}
+use mathlib.Core.Bool.{true, false, not, _||_}
+use mathlib.Core.List.{[]}
 use Prim.Native.Nat.{ℕ, _≤_, _<_}
-use native.Mathlib.Omega.{arith}
-use lib.Dec.{ltb, leb, eqb}
+use lib.Dec.{ltb}
 use lib.ListN.{length}
 use borrow.Author.Tests.{lt-ltb, le-ltb, le-leb, eq-eqb, ne-eqb}
-use Rattle.laws.specs.Checks.{check, firstOf}
 use Rattle.laws.proofs.Cases.{or-left, or-right, or-neither}
 use Rattle.laws.proofs.Checks.{firstOf-nil, firstOf-stop, firstOf-pass, firstOf-append-stop}
 use Rattle.model.specs.Geometry.{Geometry, driveSize, isGeometry}

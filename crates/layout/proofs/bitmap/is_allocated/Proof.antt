@@ -1,19 +1,16 @@
 -- `layout::bitmap::is_allocated` meets its contract: the bitmap block stands in the disk, and the bit in the
--- block.
--- Assumes nothing.
-use mathlib.Core.Bool.{Bool}
+-- block. Assumes nothing.
 use mathlib.Core.Path.{_≡_, sym, ap, ap₂, _∙_}
-use Prim.Native.Nat.{ℕ, _/_, _<_}
+use Prim.Native.Nat.{ℕ, _<_}
 use native.Mathlib.Omega.{arith}
-use lib.ListN.{length}
 use borrow.Author.Needs.{needs}
 use Rattle.laws.specs.Bits.{bitAt}
 use Rattle.model.proofs.Laws.Bitmap.{isAllocated-is, bitPlace-byte-lt}
 use Rattle.model.proofs.Laws.Blocks.{length-blockAt}
 use Rattle.model.proofs.Laws.Geometry.{bitAddress-lt}
-use Rattle.model.specs.Blocks.{Bytes, blockAt}
-use Rattle.model.specs.Geometry.{blockCount, rootAddress}
-use Rattle.model.specs.Layout.{bitAddress, bitPlace}
+use Rattle.model.specs.Blocks.{blockAt}
+use Rattle.model.specs.Geometry.{blockCount}
+use Rattle.model.specs.Layout.{bitAddress}
 use Rattle.layout.specs.Geometries.{geometryOf}
 use Rattle.layout.proofs.bitmap.is_allocated.Statement.{statement}
 use Rattle.layout.proofs.bitmap.is_allocated.Tie as tie

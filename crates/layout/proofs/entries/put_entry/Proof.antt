@@ -1,6 +1,5 @@
 -- `layout::entries::put_entry` meets its contract: four bytes set make an entry, and no store changes the
--- length.
--- Assumes nothing.
+-- length. Assumes nothing.
 use native.Mathlib.Omega.{arith}
 use lib.ListN.{length-set}
 use borrow.Author.Needs.{needs}

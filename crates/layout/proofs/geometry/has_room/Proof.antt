@@ -1,6 +1,5 @@
 -- `layout::geometry::has_room` meets its contract: one law for each way through the tests. Assumes nothing.
-use mathlib.Core.Bool.{Bool}
-use mathlib.Core.Path.{_≡_, sym, ap, _∙_}
+use mathlib.Core.Path.{ap, _∙_}
 use Prim.Native.Nat.{ℕ}
 use native.Mathlib.Omega.{arith}
 use lib.Dec.{leb}
@@ -42,12 +41,12 @@ block-count-requires c κs = bounded (c .before .before .before .before .before 
 
 returns-6 : tie.Need-returns-6
 returns-6 c =
-    let s = c .before .before .before .before .before .before .before in
+    let e = c .before .before .before in
+    let s = e .before .before .before .before in
     ap (λ (n : ℕ). leb n 2147483647) (c .block-count .ensures)
     ∙ left-to-blocks (geometryOf (s .args .g)) (s .pre .0) (s .pre .1 .0) (s .pre .1 .1)
-    (c .before .before .before .before .before .before .if1 .left)
-    (c .before .before .before .before .before .if2 .left)
-    (c .before .before .before .before .if3 .left) (c .before .before .before .if4 .left)
+    (e .before .before .before .if1 .left) (e .before .before .if2 .left) (e .before .if3 .left)
+    (e .if4 .left)
     (omega (arith, c .before .before .tree-capacity .ensures, c .before .if5 .left))
 
 pub has-room-spec : {M : Type 1} → statement M

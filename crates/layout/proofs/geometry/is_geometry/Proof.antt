@@ -1,6 +1,5 @@
 -- `layout::geometry::is_geometry` meets its contract: block size and height are tested first, the rest by
--- `has_room`.
--- Assumes nothing.
+-- `has_room`. Assumes nothing.
 use mathlib.Core.Path.{sym, _∙_}
 use borrow.Author.Needs.{needs}
 use borrow.Author.Tests.{not-true, not-false}

@@ -1,7 +1,6 @@
 -- `layout::geometry::tree_capacity` meets its contract, height by height: a fanout of at most 1,024 keeps
--- every product in
--- 64 bits. Assumes nothing.
-use Prim.Native.Nat.{_*_, _≤_}
+-- every product in 64 bits. Assumes nothing.
+use Prim.Native.Nat.{_*_}
 use native.Mathlib.Omega.{arith}
 use borrow.Author.Needs.{needs}
 use Rattle.model.specs.Geometry.{fanout}

@@ -1,6 +1,5 @@
 -- `layout::public_map::map_entry` meets its contract: the map's entries stand one after another from block 1
--- on, so the
--- entry is one of the whole disk's. Assumes nothing.
+-- on, so the entry is one of the whole disk's. Assumes nothing.
 use mathlib.Core.Path.{sym, _∙_}
 use borrow.Author.Needs.{needs}
 use Rattle.model.proofs.Laws.PublicMap.{mapEntry-bytes}

@@ -56,17 +56,17 @@ mul-if3 c =
 
 returns-3 : tie.Need-returns-3
 returns-3 c =
-    size-whole (c .before .before .before .before .before .before .args .len)
-    (geometryOf (c .before .before .before .before .before .before .args .g))
-    (c .before .before .before .before .before .if1 .left) (good (c .before .before .before))
+    let e = c .before .before .before in
+    let s = e .before .before .before .args in
+    size-whole (s .len) (geometryOf (s .g)) (e .before .before .if1 .left) (good e)
     (c .if3 .taken ∙ bytes (c .before .before))
 
 returns-4 : tie.Need-returns-4
 returns-4 c =
-    size-other (c .before .before .before .before .before .before .args .len)
-    (geometryOf (c .before .before .before .before .before .before .args .g))
-    (c .before .before .before .before .before .if1 .left) (good (c .before .before .before))
-    (λ e. c .if3 .left (e ∙ sym (bytes (c .before .before))))
+    let e = c .before .before .before in
+    let s = e .before .before .before .args in
+    size-other (s .len) (geometryOf (s .g)) (e .before .before .if1 .left) (good e)
+    (λ q. c .if3 .left (q ∙ sym (bytes (c .before .before))))
 
 pub size-fault-spec : {M : Type 1} → statement M
 size-fault-spec =

@@ -1,14 +1,12 @@
 -- `mapper::formatting::clear_front` meets its contract. Invariant: the first i bytes are 0, the others as
--- they were. The
--- measure is what is left of the size. Assumes nothing.
-use mathlib.Core.Path.{sym, ap, _∙_}
+-- they were. The measure is what is left of the size. Assumes nothing.
+use mathlib.Core.Path.{ap, _∙_}
 use Prim.Native.Nat.{ℕ, _-_}
 use native.Mathlib.Nat.{le-antisymm}
 use native.Mathlib.Omega.{arith}
-use lib.ListN.{set, replicate}
+use lib.ListN.{replicate}
 use borrow.Author.Needs.{needs}
 use Rattle.laws.specs.Lists.{over}
-use Rattle.model.specs.Blocks.{Bytes}
 use Rattle.mapper.proofs.Laws.Formatting.{Cleared, cleared-none, cleared-next, cleared-length}
 use Rattle.mapper.proofs.formatting.clear_front.Statement.{statement}
 use Rattle.mapper.proofs.formatting.clear_front.Tie as tie

@@ -1,16 +1,14 @@
 -- `mapper::formatting::format_drive` meets its contract: a refusal leaves the disk, and the header written
--- over zeros is
--- the front of a fresh drive. Assumes nothing.
-use mathlib.Core.Path.{_≡_, sym, ap, ap₂, _∙_}
+-- over zeros is the front of a fresh drive. Assumes nothing.
+use mathlib.Core.Path.{_≡_, sym, ap, _∙_}
 use Prim.Native.Nat.{ℕ, _*_, _≤_}
 use native.Mathlib.Omega.{arith}
 use lib.ListN.{length, replicate}
 use borrow.Author.Needs.{needs}
 use Rattle.laws.specs.Lists.{over}
+use Rattle.model.specs.Refusals.{formatRefusal}
 use Rattle.model.proofs.Laws.Refusals.{Sized, sized-of-refusal}
-use Rattle.model.specs.Blocks.{Bytes, packed}
-use Rattle.model.specs.Geometry.{areaStart}
-use Rattle.model.specs.Layout.{Drive}
+use Rattle.model.specs.Blocks.{packed}
 use Rattle.layout.specs.Geometries.{geometryOf}
 use Rattle.mapper.specs.Headers.{headerEntries}
 use Rattle.mapper.proofs.Laws.Formatting.{front-inside, header-over-zeros, formatted-refused}
@@ -18,25 +16,37 @@ use Rattle.mapper.proofs.Laws.Formatting.{formatted-accepted}
 use Rattle.mapper.proofs.formatting.format_drive.Statement.{statement}
 use Rattle.mapper.proofs.formatting.format_drive.Tie as tie
 
+-- the places before: the zeros written, the area's start asked for, and the size accepted
+abbrev after-zeros : tie.After-slice-known3 → tie.After-clear-front
+after-zeros c = c .before .before .before .before .before .before
+
+abbrev after-start : tie.After-clear-front → tie.After-area-start
+after-start c = c .before .before .before .before
+
+abbrev start : tie.Else1 → tie.Start
+start c = c .before .before .before
+
 -- a length and a geometry that are not refused
-sized : (c : tie.Else1) → Sized (length (c .before .before .before .args .disk .now))
-    (geometryOf (c .before .before .before .args .geometry))
+accepted :
+    (c : tie.Else1) → formatRefusal (start c .args .disk .now) (geometryOf (start c .args .geometry)) ≡ 0
+accepted c = sym (c .before .size-fault .ensures) ∙ c .if1 .left
+
+sized : (c : tie.Else1) → Sized (length (start c .args .disk .now)) (geometryOf (start c .args .geometry))
 sized c =
-    let s = c .before .before .before .args in
-    sized-of-refusal (length (s .disk .now)) (geometryOf (s .geometry))
-    (sym (c .before .size-fault .ensures) ∙ c .if1 .left)
+    let s = start c .args in
+    sized-of-refusal (length (s .disk .now)) (geometryOf (s .geometry)) (accepted c)
 
 -- the bytes before the data area are the disk's
 front :
     (c : tie.After-area-start) →
-    c .area-start .result .0 * c .before .before .before .before .args .geometry .«block_size» ≤ length
-    (c .before .before .before .before .args .disk .now)
+    c .area-start .result .0 * start (c .before) .args .geometry .«block_size» ≤
+    length (start (c .before) .args .disk .now)
 front c =
-    let s = c .before .before .before .before .args in
-    let g = geometryOf (s .geometry) in
+    let s = start (c .before) .args in
+    let z = sized (c .before) in
     rw (c .area-start .ensures)
-    (front-inside g (sized (c .before) .fits) (s .disk .now)
-    (record { fits = sized (c .before) .fits; whole = sized (c .before) .whole }))
+    (front-inside (geometryOf (s .geometry)) (z .fits) (s .disk .now)
+    (record { fits = z .fits; whole = z .whole }))
 
 size-fault-requires : tie.Need-size-fault-requires
 size-fault-requires c κs = search needs
@@ -63,33 +73,27 @@ clear-front-requires : tie.Need-clear-front-requires
 clear-front-requires c κs = front (c .before .before .before)
 
 put-header-requires : tie.Need-put-header-requires
-put-header-requires c κs = omega (
-  arith,
-  sized (c .before .before .before .before .before .before .before .before) .long,
-  c .before .before .before .clear-front .kept .0,
-)
+put-header-requires c κs =
+    let z = c .before .before .before in
+    omega (arith, sized (after-start z .before) .long, z .clear-front .kept .0)
 
 same-length : tie.Need-same-length
 same-length c = search needs
 
 returns-2 : tie.Need-returns-2
 returns-2 c =
-    let s = c .before .before .before .before .before .before .before .before .before .before .before .before .before .before .args in
+    let z = after-zeros c in
+    let a = after-start z in
+    let s = start (a .before) .args in
     let g = geometryOf (s .geometry) in
-    let told =
-    c .before .before .before .before .before .before .before .before .before .before .before .before .size-fault .ensures in
-    let accepted =
-    sym told
-    ∙ c .before .before .before .before .before .before .before .before .before .before .before .if1 .left in (
-      sym accepted,
+    let e = accepted (a .before) in
+    let zeros =
+    ap (λ (n : ℕ). over 0 (replicate (n * g .blockSize) 0) (s .disk .now)) (a .area-start .ensures) in (
+      sym e,
       c .before .before .put-header .ensures
-          ∙ ap (over 0 (packed (headerEntries g)))
-          (c .before .before .before .before .before .before .clear-front .ensures
-          ∙ ap (λ (n : ℕ). over 0 (replicate (n * g .blockSize) 0) (s .disk .now))
-          (c .before .before .before .before .before .before .before .before .before .before .area-start .ensures))
-          ∙ header-over-zeros g (sized
-          (c .before .before .before .before .before .before .before .before .before .before .before) .fits)
-          (s .disk .now) ∙ formatted-accepted (s .disk .now) g accepted,
+          ∙ ap (over 0 (packed (headerEntries g))) (z .clear-front .ensures ∙ zeros)
+          ∙ header-over-zeros g (sized (a .before) .fits) (s .disk .now)
+          ∙ formatted-accepted (s .disk .now) g e,
     )
 
 pub format-drive-spec : {M : Type 1} → statement M

@@ -1,11 +1,20 @@
 -- `mapper::formatting::put_header` meets its contract: six entries one after another are the packed ones.
 -- Assumes nothing.
-use mathlib.Core.Path.{_∙_}
 use borrow.Author.Needs.{needs}
 use Rattle.layout.specs.Geometries.{geometryOf}
 use Rattle.mapper.proofs.Laws.Formatting.{header-put}
 use Rattle.mapper.proofs.formatting.put_header.Statement.{statement}
 use Rattle.mapper.proofs.formatting.put_header.Tie as tie
+
+-- the places before: the fourth and the second entry put, and the start
+abbrev after-fourth : tie.After-slice-known7 → tie.After-put-entry4
+after-fourth c = c .before .before .before .before .before .before .before .before .before .before
+
+abbrev after-second : tie.After-put-entry4 → tie.After-put-entry2
+after-second c = c .before .before .before .before .before .before .before .before
+
+abbrev start : tie.After-put-entry2 → tie.Start
+start c = c .before .before .before .before .before .before .before
 
 put-entry-requires : tie.Need-put-entry-requires
 put-entry-requires c κs = search needs
@@ -30,7 +39,7 @@ same-length c = search needs
 
 returns : tie.Need-returns
 returns c =
-    let s = c .before .before .before .before .before .before .before .before .before .before .before .before .before .before .before .before .before .before .before .before .before .before .before .before .before in
+    let s = start (after-second (after-fourth c)) in
     cc (header-put (geometryOf (s .args .g)) (s .args .disk .now) (s .pre))
 
 pub put-header-spec : {M : Type 1} → statement M

@@ -1,5 +1,5 @@
-// Reads of both volumes on small drives of the program's own making: for each what document 01 says and what the
-// code gives, the answer and then the first byte that is shown.
+// Reads of both volumes on small drives of the program's own making: for each what document 01 says and what
+// the code gives, the answer and then the first byte that is shown.
 use crate::print_figure;
 use crate::two_high;
 use layout::entries::put_entry;
@@ -14,8 +14,8 @@ ghost use mathlib.Core.Path.{_≡_};
 ghost use Prim.Native.Nat.{_+_, _*_, _≤_};
 ghost use lib.ListN.{length};
 
-// The examples' drive with public number 0 and hidden number 0 in slot 0: its block A starts with a 7, its hidden
-// data with an 8. One more entry takes the value given.
+// The examples' drive with public number 0 and hidden number 0 in slot 0: its block A starts with a 7, its
+// hidden data with an 8. One more entry takes the value given.
 fn make_drive(disk: &mut [u8], index: usize, value: u32)
     requires { ⌜ (length (now disk) ≡ 512) × (4 * index + 4 ≤ 512) ⌝ }
 {
@@ -45,15 +45,45 @@ fn first_of(bytes: &[u8]) -> u64 {
 }
 
 // A public read: its answer and the first byte shown.
-fn print_public(name: &[u8], answer: u64, first: u64, disk: &[u8], number: u32, blank: &[u8]) {
-    print_figure(name, answer, public_fault(disk, PublicNumber(number), blank) as u64);
-    print_figure(b"  shows", first, first_of(public_read(disk, PublicNumber(number), blank)));
+fn print_public<'a>(
+    name: &[u8],
+    answer: u64,
+    first: u64,
+    disk: &'a [u8],
+    number: u32,
+    blank: &'a [u8],
+) {
+    print_figure(
+        name,
+        answer,
+        public_fault(disk, PublicNumber(number), blank) as u64,
+    );
+    print_figure(
+        b"  shows",
+        first,
+        first_of(public_read(disk, PublicNumber(number), blank)),
+    );
 }
 
 // A hidden read: its answer and the first byte shown.
-fn print_hidden(name: &[u8], answer: u64, first: u64, disk: &[u8], number: u32, blank: &[u8]) {
-    print_figure(name, answer, hidden_fault(disk, HiddenNumber(number), blank) as u64);
-    print_figure(b"  shows", first, first_of(hidden_read(disk, HiddenNumber(number), blank)));
+fn print_hidden<'a>(
+    name: &[u8],
+    answer: u64,
+    first: u64,
+    disk: &'a [u8],
+    number: u32,
+    blank: &'a [u8],
+) {
+    print_figure(
+        name,
+        answer,
+        hidden_fault(disk, HiddenNumber(number), blank) as u64,
+    );
+    print_figure(
+        b"  shows",
+        first,
+        first_of(hidden_read(disk, HiddenNumber(number), blank)),
+    );
 }
 
 // Reads of the drive as it is.

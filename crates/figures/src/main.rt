@@ -1,5 +1,7 @@
-// Prints document 01's figures of geometry and formatting ("Figures to hold against"): a line for each, with
-// the number that the document gives and the number that the code gives.
+// Prints document 01's figures of geometry, formatting and both reads ("Figures to hold against"): a line for
+// each, with the number that the document gives and the number that the code gives.
+mod reads; // reads of both volumes
+
 use layout::geometry::Geometry;
 use layout::geometry::area_start;
 use layout::geometry::block_count;
@@ -110,4 +112,5 @@ fn main() {
     print_areas();
     print_answers();
     print_fresh();
+    reads::print_reads();
 }

@@ -3,7 +3,7 @@
 -- nothing.
 use mathlib.Core.Path.{_≡_, refl, sym, ap, _∙_}
 use mathlib.Core.Logic.{_≢_}
-use mathlib.Core.Bool.{Bool, true, false}
+use mathlib.Core.Bool.{false}
 use Prim.Native.Nat.{ℕ, zero, suc, _+_, _*_, _-_, _/_, _%_, _^_, _≤_, _<_}
 use native.Mathlib.Nat.{mod-lt, div-one, mul-le-mul, mul-le-mul-right, mul-left-comm, pow-zero}
 use native.Mathlib.Omega.{arith}
@@ -12,8 +12,8 @@ use lib.ListN.{length}
 use Rattle.laws.specs.Lists.{part}
 use Rattle.laws.specs.Numbers.{numberOf}
 use Rattle.laws.proofs.Division.{pow-one, pow-two}
-use Rattle.model.specs.Geometry.{Geometry, Fits, fanout, areaStart, blockCount}
-use Rattle.model.specs.Blocks.{Bytes, DiskAddress, blockAt, entryAt}
+use Rattle.model.specs.Geometry.{Geometry, Fits, fanout, blockCount}
+use Rattle.model.specs.Blocks.{Bytes, blockAt, entryAt}
 use Rattle.model.specs.Layout.{isWellFormed, levelPlace}
 use Rattle.model.specs.HiddenTree.{branchAt, leafOf}
 use Rattle.model.proofs.Laws.Geometry.{fanout-low}

@@ -1,9 +1,9 @@
 -- Laws of a path read into one run of bytes: the lengths of its nodes, and the three ways of reading it, at
 -- the leaf, where the walk stops and where it goes on. Assumes nothing.
 use mathlib.Core.Path.{_≡_, refl, sym, ap, _∙_}
-use mathlib.Core.Bool.{Bool, false, cond}
+use mathlib.Core.Bool.{false}
 use mathlib.Core.Logic.{_≢_}
-use mathlib.Core.List.{List, [], _∷_, _++_, append-nil}
+use mathlib.Core.List.{_++_, append-nil}
 use Prim.Native.Nat.{ℕ, zero, suc, _+_, _*_, _-_, _≤_, _<_}
 use native.Mathlib.Nat.{suc-mul, zero-mul, add-comm}
 use native.Mathlib.Omega.{arith}
@@ -13,7 +13,7 @@ use Rattle.laws.specs.Lists.{over}
 use Rattle.laws.proofs.Cases.{cond-cases}
 use Rattle.laws.proofs.Lists.{over-append, over-whole}
 use Rattle.model.specs.Geometry.{Geometry, rootAddress, blockCount}
-use Rattle.model.specs.Blocks.{Bytes, DiskAddress, blockAt, entryAt, zeroBlock}
+use Rattle.model.specs.Blocks.{Bytes, blockAt, entryAt, zeroBlock}
 use Rattle.model.specs.Layout.{Drive, isWellFormed}
 use Rattle.model.specs.HiddenTree.{branchAt, walkFrom, walk, Walk, ended, passing, End, found, unmapped}
 use Rattle.model.specs.HiddenTree.{damaged}

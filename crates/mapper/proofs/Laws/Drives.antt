@@ -1,9 +1,9 @@
 -- Laws of what every call knows of a drive: refusals 1 to 3 of a geometry that was read from the header, and
 -- the chain of a call's own checks after them. Assumes nothing.
-use mathlib.Core.Path.{_≡_, sym, ap, _∙_, subst}
-use mathlib.Core.Logic.{_≢_, _⊎_, inl, inr, ⊎-elim}
+use mathlib.Core.Path.{_≡_, sym, _∙_, subst}
+use mathlib.Core.Logic.{_≢_, ⊎-elim}
 use mathlib.Core.List.{List, _++_}
-use Prim.Native.Nat.{ℕ, _≤_}
+use Prim.Native.Nat.{_≤_}
 use lib.ListN.{length}
 use Rattle.laws.specs.Checks.{Check, firstOf}
 use Rattle.laws.proofs.Cases.{eq-cases}

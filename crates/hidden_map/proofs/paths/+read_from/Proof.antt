@@ -1,17 +1,14 @@
 -- `hidden_map::paths::read_from` meets its contract: the node is copied, and what follows it is the rest of
 -- the path, or zeros where the first step leads nowhere. The measure is the level. Assumes nothing.
-use mathlib.Core.Path.{_≡_, sym, ap, _∙_}
-use Prim.Native.Nat.{ℕ, suc, _+_, _*_, _-_, _≤_, _<_}
+use mathlib.Core.Path.{sym, ap, _∙_}
+use Prim.Native.Nat.{ℕ, _<_}
 use native.Mathlib.Nat.{suc-mul}
 use native.Mathlib.Omega.{arith}
-use lib.ListN.{length}
 use borrow.Author.Needs.{needs}
 use borrow.Fn.Kinds.{In}
 use borrow.Fn.PlainCycle.{Measures, is, falls, and}
 use Rattle.model.specs.Blocks.{blockAt}
-use Rattle.model.specs.Geometry.{Geometry}
 use Rattle.hidden_map.specs.Ends.{endOf}
-use Rattle.hidden_map.specs.Trees.{TreeOf}
 use Rattle.hidden_map.proofs.Laws.Answers.{isFound-endOf}
 use Rattle.hidden_map.proofs.Laws.Paths.{node-inside, room-below, pathRead-leaf, pathRead-stop}
 use Rattle.hidden_map.proofs.Laws.Paths.{pathRead-goes}

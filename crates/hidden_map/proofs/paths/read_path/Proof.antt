@@ -1,6 +1,5 @@
 -- `hidden_map::paths::read_path` meets its contract: the nodes from the root down are all that the bytes have
 -- room for. Assumes nothing.
-use mathlib.Core.Path.{_≡_}
 use Prim.Native.Nat.{_-_}
 use native.Mathlib.Omega.{arith}
 use borrow.Author.Needs.{needs}

@@ -3,14 +3,14 @@
 -- Assumes nothing.
 use mathlib.Core.Path.{_≡_, sym, ap, _∙_}
 use mathlib.Core.Bool.{false}
-use Prim.Native.Nat.{ℕ, _-_, _<_}
+use Prim.Native.Nat.{ℕ, _<_}
 use native.Mathlib.Omega.{arith}
 use borrow.Author.Needs.{needs}
 use borrow.Fn.Kinds.{In}
 use borrow.Fn.PlainCycle.{Measures, is, falls, and}
 use Rattle.model.specs.Blocks.{Bytes, blockAt}
 use Rattle.model.specs.Geometry.{Geometry}
-use Rattle.model.specs.HiddenTree.{End, Walk, walkFrom}
+use Rattle.model.specs.HiddenTree.{End, Walk}
 use Rattle.hidden_map.specs.Ends.{endOf, stepOf}
 use Rattle.hidden_map.specs.Trees.{TreeOf}
 use Rattle.hidden_map.proofs.Laws.Answers.{isFound-endOf}

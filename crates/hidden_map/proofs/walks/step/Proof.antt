@@ -13,11 +13,6 @@ use Rattle.hidden_map.proofs.Laws.Steps.{stepOf-unmapped, stepOf-found,
 use borrow.Author.Needs.{needs}
 use Rattle.hidden_map.proofs.walks.step.Statement.{statement}
 use Rattle.hidden_map.proofs.walks.step.Tie as tie
-use Rattle.hidden_map.proofs.walks.step.Reads as reads
-use Rattle.hidden_map.proofs.walks.step.Lts as lts
-use Rattle.hidden_map.proofs.branches.branch_at.Reads as branch-at-reads
-use Rattle.hidden_map.proofs.branches.is_well_formed.Reads as is-well-formed-reads
-use Rattle.layout.proofs.entries.entry_at.Reads as entry-at-reads
 
 -- the entry ends inside the disk
 entry-inside :
@@ -45,11 +40,9 @@ entry-is c g t =
     (a .address .0) (branch .result) (branch .ensures g (t .size-is)) (c .entry-at .result)
     (c .entry-at .ensures)
 
--- src/walks.rt:29:19
 cast-before : tie.Need-cast-before
 cast-before c = search needs
 
--- src/walks.rt:29:18
 mul-before : tie.Need-mul-before
 mul-before c =
     let s = c .before .before in
@@ -59,11 +52,9 @@ mul-before c =
       s .good,
     )
 
--- src/walks.rt:30:41
 branch-at-requires : tie.Need-branch-at-requires
 branch-at-requires c κs = search needs
 
--- src/walks.rt:30:32
 add-entry-at : tie.Need-add-entry-at
 add-entry-at c =
     let s = c .before .before .before in
@@ -73,25 +64,21 @@ add-entry-at c =
           (c .branch-at .ensures (s .pre .0 .geometry) (s .pre .0 .tree .size-is)),
     )
 
--- src/walks.rt:30:9
 entry-at-requires : tie.Need-entry-at-requires
 entry-at-requires c κs =
     let s = c .before .before .before in
     entry-inside s (c .branch-at .result) (c .branch-at .ensures (s .pre .0 .geometry)
     (s .pre .0 .tree .size-is))
 
--- src/walks.rt:32:9
 returns : tie.Need-returns
 returns c =
     let a = c .before .before .before .before .before .args in
     λ g t. stepOf-unmapped g (a .number .0) (a .level) (blockAt (g .blockSize) (a .disk .now) (a .address .0))
     (c .before .entry-at .result) (entry-is (c .before) g t) (c .if1 .taken)
 
--- src/walks.rt:34:8
 is-well-formed-requires : tie.Need-is-well-formed-requires
 is-well-formed-requires c κs = search needs
 
--- src/walks.rt:35:9
 returns-2 : tie.Need-returns-2
 returns-2 c =
     let a = c .before .before .before .before .before .before .before .args in
@@ -100,7 +87,6 @@ returns-2 c =
     (c .before .before .if1 .left) (c .before .is-well-formed .result)
     (c .before .is-well-formed .ensures g (t .area)) (c .if2 .taken)
 
--- src/walks.rt:24:1
 returns-3 : tie.Need-returns-3
 returns-3 c =
     let a = c .before .before .before .before .before .before .before .args in

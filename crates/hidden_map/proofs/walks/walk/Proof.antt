@@ -1,6 +1,6 @@
 -- `hidden_map::walks::walk` meets its contract: the numbers that it hands on are those of its geometry.
 -- Assumes nothing.
-use mathlib.Core.Path.{_≡_, ap, _∙_}
+use mathlib.Core.Path.{ap, _∙_}
 use Prim.Native.Nat.{ℕ, _-_}
 use native.Mathlib.Omega.{arith}
 use borrow.Author.Needs.{needs}

@@ -1,5 +1,5 @@
--- `mapper::hidden::hidden_fault` meets its contract: the drive's refusals, then the number's, then the walk's.
--- Assumes nothing.
+-- `mapper::hidden::hidden_fault` meets its contract: the drive's refusals, then the number's, then the
+-- walk's. Assumes nothing.
 use mathlib.Core.Path.{_≡_, sym, ap, _∙_}
 use borrow.Author.Needs.{needs}
 use Rattle.model.specs.HiddenTree.{isDamaged}
@@ -29,7 +29,8 @@ returns : tie.Need-returns
 returns c =
     let a = c .before .before .before .before .args in
     let fault = c .before .drive-fault in
-    hidden-drive (a .disk .now) (a .number .0) (a .blank .now) (fault .result) (fault .ensures) (c .if1 .taken)
+    hidden-drive (a .disk .now) (a .number .0) (a .blank .now) (fault .result) (fault .ensures)
+    (c .if1 .taken)
 
 geometry-in-requires : tie.Need-geometry-in-requires
 geometry-in-requires c κs = long-enough (startOf c .args .disk .now) (accepted c)
@@ -43,7 +44,8 @@ returns-2 c =
     let geometry = c .before .before in
     let a = startOf (geometry .before) .args in
     hidden-number (a .disk .now) (a .number .0) (a .blank .now) (accepted (geometry .before))
-    (geometryOf (geometry .geometry-in .result)) (geometry .geometry-in .ensures) (number .result) (number .ensures)
+    (geometryOf (geometry .geometry-in .result)) (geometry .geometry-in .ensures) (number .result)
+    (number .ensures)
     (c .if2 .taken)
 
 walk-requires : tie.Need-walk-requires
@@ -62,7 +64,8 @@ returns-3 c =
     let a = startOf (geometry .before) .args in
     let number = s .before .before .number-fault in
     hidden-damaged (a .disk .now) (a .number .0) (a .blank .now) (accepted (geometry .before))
-    (geometryOf (geometry .geometry-in .result)) (geometry .geometry-in .ensures) (number .result) (number .ensures)
+    (geometryOf (geometry .geometry-in .result)) (geometry .geometry-in .ensures) (number .result)
+    (number .ensures)
     (s .before .if2 .left) (endOf (s .walk .result)) (s .walk .ensures)
     (ap (λ (answer : Reached). isDamaged (endOf answer)) (c .enum-told .given .1))
 
@@ -73,7 +76,8 @@ returns-4 c =
     let a = startOf (geometry .before) .args in
     let number = s .before .before .number-fault in
     hidden-passes (a .disk .now) (a .number .0) (a .blank .now) (accepted (geometry .before))
-    (geometryOf (geometry .geometry-in .result)) (geometry .geometry-in .ensures) (number .result) (number .ensures)
+    (geometryOf (geometry .geometry-in .result)) (geometry .geometry-in .ensures) (number .result)
+    (number .ensures)
     (s .before .if2 .left) (endOf (s .walk .result)) (s .walk .ensures)
     (isDamaged-endOf (s .walk .result) (c .match .keys2))
 

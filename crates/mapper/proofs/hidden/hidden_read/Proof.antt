@@ -1,8 +1,7 @@
--- `mapper::hidden::hidden_read` meets its contract: what is shown is the block that the walk ends at, the blank, or
--- nothing. Assumes nothing.
+-- `mapper::hidden::hidden_read` meets its contract: what is shown is the block that the walk ends at, the
+-- blank, or nothing. Assumes nothing.
 use mathlib.Core.Path.{_≡_, refl, sym, ap, _∙_}
-use mathlib.Core.Bool.{true, false}
-use mathlib.Core.List.{[]}
+use mathlib.Core.Bool.{false}
 use Prim.Native.Nat.{_-_, _<_}
 use native.Mathlib.Omega.{arith}
 use borrow.Author.Needs.{needs}
@@ -15,7 +14,8 @@ use Rattle.layout.specs.Geometries.{geometryOf}
 use Rattle.hidden_map.specs.Ends.{endOf}
 use Rattle.hidden_map.proofs.Laws.Steps.{found-inside}
 use Rattle.mapper.proofs.Laws.Drives.{long-enough, drive-read}
-use Rattle.mapper.proofs.Laws.HiddenReads.{hidden-drive, hidden-number, hidden-damaged, end-shown, nothing-shown}
+use Rattle.mapper.proofs.Laws.HiddenReads.{hidden-drive, hidden-number, hidden-damaged, end-shown}
+use Rattle.mapper.proofs.Laws.HiddenReads.{nothing-shown}
 use Rattle.mapper.proofs.hidden.hidden_read.Statement.{statement}
 use Rattle.mapper.proofs.hidden.hidden_read.Tie as tie
 
@@ -60,7 +60,8 @@ refused :
 refused s e =
     let a = startOf (at-geometry s .before) .args in
     let number = s .before .before .number-fault in
-    hidden-damaged (a .disk .now) (a .number .0) (a .blank .now) (accepted (at-geometry s .before)) (geometryAt s)
+    hidden-damaged (a .disk .now) (a .number .0) (a .blank .now) (accepted (at-geometry s .before))
+    (geometryAt s)
     (at-geometry s .geometry-in .ensures) (number .result) (number .ensures) (s .before .if2 .left) damaged
     (sym e ∙ s .walk .ensures) refl
 
@@ -97,7 +98,8 @@ returns-2 c =
     let f = c .before .if2 .taken in
     nothing-shown (a .disk .now) (a .number .0) (a .blank .now) (number .result)
     (hidden-number (a .disk .now) (a .number .0) (a .blank .now) (accepted (geometry .before))
-    (geometryOf (geometry .geometry-in .result)) (geometry .geometry-in .ensures) (number .result) (number .ensures) f) f
+    (geometryOf (geometry .geometry-in .result)) (geometry .geometry-in .ensures) (number .result)
+    (number .ensures) f) f
 
 walk-requires : tie.Need-walk-requires
 walk-requires c κs =
@@ -131,7 +133,8 @@ slice-aggregate-result-3 c = search needs
 returns-3 : tie.Need-returns-3
 returns-3 c =
     let address = c .before .before .address .given in
-    c .block-at .ensures ∙ shown (c .before .before .before .before) (found (address .0 .0 .0)) (ap endOf (address .1)) refl
+    c .block-at .ensures ∙ shown (c .before .before .before .before) (found (address .0 .0 .0))
+    (ap endOf (address .1)) refl
 
 returns-4 : tie.Need-returns-4
 returns-4 c = shown (c .before .before) unmapped (ap endOf (c .enum-told .given .1)) refl

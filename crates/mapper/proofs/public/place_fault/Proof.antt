@@ -1,6 +1,5 @@
 -- `mapper::public::place_fault` meets its contract: one law for each way through its checks. Assumes nothing.
-use mathlib.Core.Path.{_∙_, sym, ap}
-use Prim.Native.Nat.{ℕ}
+use mathlib.Core.Path.{_∙_, sym}
 use borrow.Author.Needs.{needs}
 use Rattle.layout.specs.Geometries.{geometryOf}
 use Rattle.mapper.proofs.Laws.Places.{number-refused, size-refused, unplaced-passes, placed-passes}

@@ -1,0 +1,140 @@
+// Reads of both volumes on small drives of the program's own making: for each what document 01 says and what
+// the code gives, the answer and then the first byte that is shown.
+use crate::print_figure;
+use crate::two_high;
+use layout::entries::put_entry;
+use layout::numbers::HiddenNumber;
+use layout::numbers::PublicNumber;
+use mapper::format_drive;
+use mapper::hidden_fault;
+use mapper::hidden_read;
+use mapper::public_fault;
+use mapper::public_read;
+ghost use mathlib.Core.Path.{_≡_};
+ghost use Prim.Native.Nat.{_+_, _*_, _≤_};
+ghost use lib.ListN.{length};
+
+// The examples' drive with public number 0 and hidden number 0 in slot 0: its block A starts with a 7, its
+// hidden data with an 8. One more entry takes the value given.
+fn make_drive(disk: &mut [u8], index: usize, value: u32)
+    requires { ⌜ (length (now disk) ≡ 512) × (4 * index + 4 ≤ 512) ⌝ }
+{
+    format_drive(disk, two_high(32, 3, 2, 4));
+    put_entry(disk, 8, 4);
+    put_entry(disk, 16, 1);
+    put_entry(disk, 24, 5);
+    make_slot(disk, index, value);
+}
+
+// Slot 0 of that drive.
+fn make_slot(disk: &mut [u8], index: usize, value: u32)
+    requires { ⌜ (length (now disk) ≡ 512) × (4 * index + 4 ≤ 512) ⌝ }
+{
+    put_entry(disk, 32, 7);
+    put_entry(disk, 40, 6);
+    put_entry(disk, 48, 8);
+    put_entry(disk, index, value);
+}
+
+// The first byte, or 256 where there is none.
+fn first_of(bytes: &[u8]) -> u64 {
+    if 0 < bytes.len() {
+        return bytes[0] as u64;
+    }
+    256
+}
+
+// A public read: its answer and the first byte shown.
+fn print_public<'a>(
+    name: &[u8],
+    answer: u64,
+    first: u64,
+    disk: &'a [u8],
+    number: u32,
+    blank: &'a [u8],
+) {
+    print_figure(
+        name,
+        answer,
+        public_fault(disk, PublicNumber(number), blank) as u64,
+    );
+    print_figure(
+        b"  shows",
+        first,
+        first_of(public_read(disk, PublicNumber(number), blank)),
+    );
+}
+
+// A hidden read: its answer and the first byte shown.
+fn print_hidden<'a>(
+    name: &[u8],
+    answer: u64,
+    first: u64,
+    disk: &'a [u8],
+    number: u32,
+    blank: &'a [u8],
+) {
+    print_figure(
+        name,
+        answer,
+        hidden_fault(disk, HiddenNumber(number), blank) as u64,
+    );
+    print_figure(
+        b"  shows",
+        first,
+        first_of(hidden_read(disk, HiddenNumber(number), blank)),
+    );
+}
+
+// Reads of the drive as it is.
+fn print_good(disk: &mut [u8])
+    requires { ⌜ length (now disk) ≡ 512 ⌝ }
+{
+    make_drive(disk, 8, 4);
+    print_public(b"public read, placed", 0, 7, disk, 0, &[9u8; 32]);
+    print_public(b"public read, never placed", 0, 9, disk, 1, &[9u8; 32]);
+    print_hidden(b"hidden read, placed", 0, 8, disk, 0, &[9u8; 32]);
+    print_hidden(b"hidden read, never placed", 0, 9, disk, 1, &[9u8; 32]);
+}
+
+// Reads that the number or the blank is refused for.
+fn print_refused(disk: &mut [u8])
+    requires { ⌜ length (now disk) ≡ 512 ⌝ }
+{
+    make_drive(disk, 8, 4);
+    print_public(b"public number 3", 4, 256, disk, 3, &[9u8; 32]);
+    print_public(b"public blank of 31 bytes", 5, 256, disk, 0, &[9u8; 31]);
+    print_hidden(b"hidden number 2", 10, 256, disk, 2, &[9u8; 32]);
+    print_hidden(b"hidden blank of 33 bytes", 11, 256, disk, 0, &[9u8; 33]);
+}
+
+// Both reads of a drive that is refused, one entry of its header being another.
+fn print_drive(name: &[u8], answer: u64, disk: &mut [u8], index: usize, value: u32)
+    requires { ⌜ (length (now disk) ≡ 512) × (4 * index + 4 ≤ 512) ⌝ }
+{
+    make_drive(disk, index, value);
+    print_public(name, answer, 256, disk, 0, &[9u8; 32]);
+    print_hidden(name, answer, 256, disk, 0, &[9u8; 32]);
+}
+
+// Entries that are no place: of the map, and of the root.
+fn print_damaged(disk: &mut [u8])
+    requires { ⌜ length (now disk) ≡ 512 ⌝ }
+{
+    make_drive(disk, 8, 5);
+    print_public(b"map entry 5", 6, 256, disk, 0, &[9u8; 32]);
+    make_drive(disk, 8, 7);
+    print_public(b"map entry of a free slot", 6, 256, disk, 0, &[9u8; 32]);
+    make_drive(disk, 24, 6);
+    print_hidden(b"first root entry 6", 12, 256, disk, 0, &[9u8; 32]);
+}
+
+// All reads, each on a disk of zeros.
+pub fn print_reads() {
+    print_good(&mut [0u8; 512]);
+    print_drive(b"block size 48", 1, &mut [0u8; 512], 0, 48);
+    print_drive(b"slots 5", 2, &mut [0u8; 512], 4, 5);
+    print_drive(b"head 4", 3, &mut [0u8; 512], 5, 4);
+    print_refused(&mut [0u8; 512]);
+    print_damaged(&mut [0u8; 512]);
+}

@@ -12,7 +12,7 @@ use mapper::public_fault;
 use mapper::public_read;
 ghost use mathlib.Core.Path.{_≡_};
 ghost use Prim.Native.Nat.{_+_, _*_, _≤_};
-ghost use lib.ListN.{length};
+ghost use lib.ListN.{length, getD};
 
 // The examples' drive with public number 0 and hidden number 0 in slot 0: its block A starts with a 7, its
 // hidden data with an 8. One more entry takes the value given.
@@ -37,7 +37,9 @@ fn make_slot(disk: &mut [u8], index: usize, value: u32)
 }
 
 // The first byte, or 256 where there is none.
-fn first_of(bytes: &[u8]) -> u64 {
+fn first_of(bytes: &[u8]) -> u64
+    ensures { λ r. ⌜ r ≡ getD (now (bytes .entry)) 0 256 ⌝ }
+{
     if 0 < bytes.len() {
         return bytes[0] as u64;
     }

@@ -1,0 +1,3 @@
+-- The laws of texts and lines.
+pub mod Digits
+pub mod Lines

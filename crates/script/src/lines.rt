@@ -1,6 +1,6 @@
 // A line of input: public number, one space, and offered number or `-`, each number 1 to 9 digits.
 ghost use mathlib.Core.Path.{_≡_};
-ghost use Rattle.script.specs.Lines.{isDash, Split, fieldOf, fieldSaid, lineOf, lineSaid};
+ghost use Rattle.script.specs.Lines.{isDash, Split, fieldOf, fieldSaid, lineFrom, lineOf, lineSaid};
 
 // What the bytes before or after the space say: a number of 1 to 9 digits, `-`, or anything else.
 pub enum Field {
@@ -67,6 +67,21 @@ fn field_in(bytes: &[u8]) -> Field
     Field::Number(value)
 }
 
+// What two fields make of a line.
+fn line_from(first: Field, second: Field) -> Line
+    ensures { λ r. ⌜ lineSaid r ≡ lineFrom (fieldSaid first) (fieldSaid second) ⌝ }
+{
+    match first {
+        Field::Number(number) => match second {
+            Field::Number(offer) => Line::Offering(number, offer),
+            Field::Dash => Line::Bare(number),
+            Field::Other => Line::Bad,
+        },
+        Field::Dash => Line::Bad,
+        Field::Other => Line::Bad,
+    }
+}
+
 // What a line says, given without its newline; of any length.
 pub fn read_line(bytes: &[u8]) -> Line
     ensures { λ r. ⌜ lineSaid r ≡ lineOf (now (bytes .entry)) ⌝ }
@@ -76,12 +91,7 @@ pub fn read_line(bytes: &[u8]) -> Line
         return Line::Bad;
     }
     let after = space + 1;
-    let Field::Number(number) = field_in(&bytes[..space]) else {
-        return Line::Bad;
-    };
-    match field_in(&bytes[after..]) {
-        Field::Number(offer) => Line::Offering(number, offer),
-        Field::Dash => Line::Bare(number),
-        Field::Other => Line::Bad,
-    }
+    let first = field_in(&bytes[..space]);
+    let second = field_in(&bytes[after..]);
+    line_from(first, second)
 }

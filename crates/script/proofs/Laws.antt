@@ -1,3 +1,5 @@
 -- The laws of texts and lines.
 pub mod Digits
 pub mod Lines
+pub mod Texts
+pub mod Decimals

@@ -12,7 +12,7 @@ use Rattle.laws.proofs.Cases.{lt-cases, cond-true, cond-false}
 use Rattle.script.specs.Texts.{Bytes, digit, isDigits, digitsValue, valueAfter, decimalWithin, decimal}
 use Rattle.script.specs.Texts.{Put}
 use Rattle.script.proofs.Laws.Digits.{isDigits-one, isDigits-append, digitsValue-snoc}
-use Rattle.script.proofs.Laws.Texts.{put-one, put-length, put-append}
+use Rattle.script.proofs.Laws.Texts.{put-one, put-snoc}
 
 -- ---- equations ----
 
@@ -118,15 +118,9 @@ module _ (value : ℕ) (out : Bytes) (at : ℕ) (fits : at + length (decimal val
     pub decimal-fits-large : at + length (decimal (value / 10)) < length out
     decimal-fits-large = omega (arith, length-decimal-large value large)
 
-    module _ (after : Bytes) (last : ℕ) (put : Put (decimal (value / 10)) out at after last) where
-      pub last-inside : last < length out
-      last-inside = omega (arith, put .ended, decimal-fits-large)
-
-      pub put-large : Put (decimal value) out at (set after last (digit (value % 10))) (last + 1)
-      put-large =
-          let fits-front : at + length (decimal (value / 10)) ≤ length out = omega (arith, decimal-fits-large) in
-          let same : length after ≡ length out = put-length (decimal (value / 10)) out at after last put fits-front in
-          rw (decimal-large value large)
-          (put-append (decimal (value / 10)) out at after last put fits-front (digit (value % 10) ∷ [])
-          (set after last (digit (value % 10))) (last + 1)
-          (put-one after last (digit (value % 10)) (omega (arith, last-inside))) (omega (arith, last-inside)))
+    pub put-large :
+        (after : Bytes) (last : ℕ) → Put (decimal (value / 10)) out at after last →
+        Put (decimal value) out at (set after last (digit (value % 10))) (last + 1)
+    put-large after last put =
+        rw (decimal-large value large)
+        (put-snoc (decimal (value / 10)) out at after last put decimal-fits-large (digit (value % 10)))

@@ -4,12 +4,12 @@ use mathlib.Core.Path.{_≡_, refl, sym, ap, ap₂, _∙_}
 use mathlib.Core.Logic.{_≢_}
 use mathlib.Core.Bool.{Bool, true, false, cond, _&&_}
 use mathlib.Core.List.{List, [], _∷_, _++_}
-use Prim.Native.Nat.{ℕ, zero, suc, _+_, _-_, _≤_, _<_}
+use Prim.Native.Nat.{ℕ, zero, suc, _+_, _≤_, _<_}
 use native.Mathlib.Numerals.{add-one}
 use native.Mathlib.Omega.{arith}
 use lib.Dec.{eqb, ltb, leb}
-use lib.ListN.{length, getD, take, drop, length-drop, drop-of-length-le}
-use lib.Seq.{take-all, take-nil, drop-nil}
+use lib.ListN.{length, getD, take, drop, drop-of-length-le}
+use lib.Seq.{take-nil, drop-nil}
 use borrow.Author.Tests.{eq-eqb, ne-eqb, lt-ltb, le-ltb, le-leb, lt-leb}
 use Rattle.laws.proofs.Cases.{and-both, and-false-left, and-false-right, cond-true, cond-false}
 use Rattle.script.specs.Texts.{Bytes, space, dash, isDigits, digitsValue}
@@ -39,10 +39,6 @@ split-at-first (byte ∷ bytes) (suc at) h none-before here =
       before = rw e (ap (λ (xs : Bytes). byte ∷ xs) (later .before));
       after = rw (e, n) (later .after);
     }
-
--- all that is left after a place
-pub take-drop : (at : ℕ) (bytes : Bytes) → take (length bytes - at) (drop at bytes) ≡ drop at bytes
-take-drop at bytes = take-all (length bytes - at) (drop at bytes) (simp length-drop (omega arith))
 
 -- ---- fields ----
 

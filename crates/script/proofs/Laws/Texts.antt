@@ -2,17 +2,20 @@
 -- puts a text from its front. Assumes nothing.
 use mathlib.Core.Path.{_≡_, refl, sym, ap, _∙_}
 use mathlib.Core.List.{List, [], _∷_, _++_}
-use Prim.Native.Nat.{ℕ, _+_, _≤_, _<_}
+use Prim.Native.Nat.{ℕ, _+_, _-_, _≤_, _<_}
 use native.Mathlib.Nat.{le-antisymm}
 use native.Mathlib.Numerals.{add-one}
 use native.Mathlib.Omega.{arith}
-use lib.ListN.{length, getD, set, length-append}
-use lib.Seq.{paste, paste-suc, take-length}
+use lib.ListN.{length, getD, take, drop, set, length-append, length-drop}
+use lib.Seq.{paste, paste-suc, take-length, take-all}
 use Rattle.laws.specs.Lists.{over}
-use Rattle.laws.proofs.Lists.{over-is, over-one, over-append, length-over}
+use Rattle.laws.proofs.Lists.{over-is, over-nil, over-one, over-append, length-over}
 use Rattle.script.specs.Texts.{Bytes, Put}
 
 -- ---- texts ----
+
+pub put-nothing : (out : Bytes) (at : ℕ) → at ≤ length out → Put [] out at out at
+put-nothing out at h = record { placed = sym (over-nil at out h); ended = omega arith }
 
 pub put-one : (out : Bytes) (at byte : ℕ) → at < length out → Put (byte ∷ []) out at (set out at byte) (at + 1)
 put-one out at byte h = record { placed = sym (over-one out at byte h); ended = refl }
@@ -33,6 +36,31 @@ module _ (text out : Bytes) (at : ℕ) (after : Bytes) (next : ℕ) (put : Put t
           then .placed ∙ rw (put .placed, put .ended) (over-append text out at fits more room);
         ended = rw (length-append text more) (omega (arith, then .ended, put .ended));
       }
+
+-- a text after one byte
+pub put-cons :
+    (byte : ℕ) (text out : Bytes) (at : ℕ) (after : Bytes) (end : ℕ) → at + 1 + length text ≤ length out →
+    Put text (set out at byte) (at + 1) after end → Put (byte ∷ text) out at after end
+put-cons byte text out at after end h put =
+    put-append (byte ∷ []) out at (set out at byte) (at + 1) (put-one out at byte (omega arith)) (omega arith) text after
+    end put h
+
+-- one byte after a text
+module _ (text out : Bytes) (at : ℕ) (after : Bytes) (last : ℕ) (put : Put text out at after last)
+    (fits : at + length text < length out) where
+  pub last-inside : last < length out
+  last-inside = omega (arith, put .ended)
+
+  pub put-snoc : (byte : ℕ) → Put (text ++ (byte ∷ [])) out at (set after last byte) (last + 1)
+  put-snoc byte =
+      let room : at + length text ≤ length out = omega arith in
+      let same : length after ≡ length out = put-length text out at after last put room in
+      put-append text out at after last put room (byte ∷ []) (set after last byte) (last + 1)
+      (put-one after last byte (omega (arith, last-inside))) (omega (arith, last-inside))
+
+-- all that is left after a place
+pub take-drop : (at : ℕ) (xs : List ℕ) → take (length xs - at) (drop at xs) ≡ drop at xs
+take-drop at xs = take-all (length xs - at) (drop at xs) (simp length-drop (omega arith))
 
 -- ---- a loop over a text ----
 

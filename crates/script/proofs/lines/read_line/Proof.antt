@@ -5,7 +5,8 @@ use native.Mathlib.Omega.{arith}
 use lib.Seq.{length-take-le}
 use borrow.Author.Needs.{needs}
 use Rattle.script.specs.Lines.{fieldOf, lineFrom}
-use Rattle.script.proofs.Laws.Lines.{take-drop, lineOf-split, lineOf-whole}
+use Rattle.script.proofs.Laws.Texts.{take-drop}
+use Rattle.script.proofs.Laws.Lines.{lineOf-split, lineOf-whole}
 use Rattle.script.proofs.lines.read_line.Statement.{statement}
 use Rattle.script.proofs.lines.read_line.Tie as tie
 use Rattle.script.proofs.lines.read_line.Reads as reads

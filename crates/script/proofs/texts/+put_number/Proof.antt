@@ -5,7 +5,7 @@ use native.Mathlib.Omega.{arith}
 use borrow.Author.Needs.{needs}
 use borrow.Fn.Kinds.{In}
 use borrow.Fn.PlainCycle.{Measures, is, falls, and}
-use Rattle.script.proofs.Laws.Decimals.{decimal-fits-small, decimal-fits-large, put-small, put-large, last-inside}
+use Rattle.script.proofs.Laws.Decimals.{decimal-fits-small, decimal-fits-large, put-small, put-large}
 use Rattle.script.proofs.texts.put_number.Reads as put-number
 use Rattle.script.proofs.texts.put_number.Kinds as put-number-kinds
 use Rattle.script.proofs.texts.+put_number.Lts-put_number as put-number-lts
@@ -106,7 +106,7 @@ put-number-slice-write-out-2 : (t : ℕ) → put-number-lts.Need-slice-write-out
 ) (put-number-at t) put-number.Post
 put-number-slice-write-out-2 t c = 
     let start = c .before .before .before .before .before .before in
-    omega (arith, c .before .before .put-number .kept .0, last-inside (start .args .value) (start .args .out .now) (start .args .at) (start .pre .1) (c .before .before .before .before .if1 .left) (c .before .before .put-number .last .0) (c .before .before .put-number .result) (c .before .before .put-number .ensures))
+    omega (arith, c .before .before .put-number .kept .0, c .before .before .put-number .ensures .ended, decimal-fits-large (start .args .value) (start .args .out .now) (start .args .at) (start .pre .1) (c .before .before .before .before .if1 .left))
 
 put-number-add-result-2 : (t : ℕ) → put-number-lts.Need-add-result-2 (
   put-number-below t,
@@ -114,7 +114,7 @@ put-number-add-result-2 : (t : ℕ) → put-number-lts.Need-add-result-2 (
 ) (put-number-at t) put-number.Post
 put-number-add-result-2 t c = 
     let start = c .before .before .before .before .before .before in
-    omega (arith, last-inside (start .args .value) (start .args .out .now) (start .args .at) (start .pre .1) (c .before .before .before .before .if1 .left) (c .before .before .put-number .last .0) (c .before .before .put-number .result) (c .before .before .put-number .ensures))
+    omega (arith, c .before .before .put-number .ensures .ended, decimal-fits-large (start .args .value) (start .args .out .now) (start .args .at) (start .pre .1) (c .before .before .before .before .if1 .left))
 
 put-number-same-length-2 : (t : ℕ) → put-number-lts.Need-same-length-2 (
   put-number-below t,

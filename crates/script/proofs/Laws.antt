@@ -4,3 +4,4 @@ pub mod Lines
 pub mod Texts
 pub mod Decimals
 pub mod Reports
+pub mod ReportLines

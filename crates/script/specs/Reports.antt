@@ -56,11 +56,15 @@ storesText (store ∷ stores) = decimal store ++ laterText stores
 
 -- ---- lines ----
 
+-- a line of the listing up to its hidden outcome
+abbrev pub countsText : (line answer rounds : ℕ) → Bytes
+countsText line answer rounds = field line ++ field answer ++ field rounds
+
 -- a line of the listing, with its newline
 abbrev pub reportLine : (line answer rounds outcome head : ℕ) → (stores : List ℕ) → Bytes
 reportLine line answer rounds outcome head stores =
-    field line ++ field answer ++ field rounds ++ (outcomeText outcome ++ (space ∷ [])) ++ field head ++
-    storesText stores ++ (newline ∷ [])
+    countsText line answer rounds ++ (outcomeText outcome ++ (space ∷ [])) ++ field head ++ storesText stores ++
+    (newline ∷ [])
 
 -- ---- room ----
 

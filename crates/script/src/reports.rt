@@ -5,7 +5,7 @@ ghost use mathlib.Core.List.{[], _∷_, _++_};
 ghost use Prim.Native.Nat.{_+_, _*_, _≤_};
 ghost use lib.ListN.{length};
 ghost use Rattle.script.specs.Texts.{Put, space, comma, decimal};
-ghost use Rattle.script.specs.Reports.{heading, field, outcomeText, laterText, storesText, reportLine, storesRoom, reportRoom};
+ghost use Rattle.script.specs.Reports.{heading, field, outcomeText, laterText, storesText, countsText, reportLine, storesRoom, reportRoom};
 
 // Puts the heading.
 pub fn put_heading(out: &mut [u8]) -> usize
@@ -89,4 +89,36 @@ fn put_stores(out: &mut [u8], at: usize, stores: &[u32]) -> usize
     }
     let next = put_number(out, at, stores[0] as u64);
     put_later(out, next, &stores[1..])
+}
+
+// Puts a line's number, answer and rounds at the front.
+fn put_counts(out: &mut [u8], line: u64, answer: u8, rounds: u32) -> usize
+    requires { ⌜ 36 ≤ length (now out) ⌝ }
+    ensures { λ r. ⌜ Put (countsText line answer rounds) (now (out .entry)) 0 (now (out .exit)) r ⌝ }
+{
+    let after_line = put_field(out, 0, line);
+    let after_answer = put_field(out, after_line, answer as u64);
+    put_field(out, after_answer, rounds as u64)
+}
+
+// Puts a line of the listing at the front, with its newline; answers its length. The outcome is its number, and the
+// stores are all those of the slice. A line's number is as large as a u64, far more lines than any input has.
+pub fn put_report(
+    out: &mut [u8],
+    line: u64,
+    answer: u8,
+    rounds: u32,
+    outcome: u8,
+    head: u32,
+    stores: &[u32],
+) -> usize
+    requires { ⌜ reportRoom (length (now stores)) ≤ length (now out) ⌝ }
+    ensures { λ r. ⌜ Put (reportLine line answer rounds outcome head (now (stores .entry))) (now (out .entry)) 0 (now (out .exit)) r ⌝ }
+{
+    let after_rounds = put_counts(out, line, answer, rounds);
+    let after_outcome = put_outcome(out, after_rounds, outcome);
+    let after_head = put_field(out, after_outcome, head as u64);
+    let last = put_stores(out, after_head, stores);
+    out[last] = 10;
+    last + 1
 }

@@ -45,9 +45,25 @@ module _ (outcome : ℕ) where
 
 -- ---- lengths ----
 
-pub length-field : (most value : ℕ) → value < 10 ^ suc most → length (field value) ≤ suc most + 1
+length-field : (most value : ℕ) → value < 10 ^ suc most → length (field value) ≤ suc most + 1
 length-field most value h =
     omega (arith, length-append (decimal value) (space ∷ []), length-decimal most value h)
+
+-- the three widths of a number and the space after it
+pub length-field-line : (value : ℕ) → value < 2 ^ 64 → length (field value) ≤ 21
+length-field-line value h = length-field 19 value (omega arith)
+
+pub length-field-count : (value : ℕ) → value < 2 ^ 32 → length (field value) ≤ 11
+length-field-count value h = length-field 9 value (omega arith)
+
+pub length-field-answer : (value : ℕ) → value < 2 ^ 8 → length (field value) ≤ 4
+length-field-answer value h = length-field 2 value (omega arith)
+
+pub length-counts :
+    (line answer rounds : ℕ) → line < 2 ^ 64 → answer < 2 ^ 8 → rounds < 2 ^ 32 →
+    length (field line) + length (field answer) + length (field rounds) ≤ 36
+length-counts line answer rounds l a r =
+    omega (arith, length-field-line line l, length-field-answer answer a, length-field-count rounds r)
 
 abbrev short : Bytes → Type 0
 short text = length text ≤ 9

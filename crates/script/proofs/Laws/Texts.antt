@@ -37,6 +37,17 @@ module _ (text out : Bytes) (at : ℕ) (after : Bytes) (next : ℕ) (put : Put t
         ended = rw (length-append text more) (omega (arith, then .ended, put .ended));
       }
 
+-- three texts, one after another
+pub put-three :
+    (one two three out : Bytes) (at : ℕ) (after later last : Bytes) (next then end : ℕ) →
+    at + length one + length two + length three ≤ length out → Put one out at after next → Put two after next later then →
+    Put three later then last end → Put (one ++ two ++ three) out at last end
+put-three one two three out at after later last next then end h p q r =
+    let both : Put (one ++ two) out at later then =
+    put-append one out at after next p (omega arith) two later then q (omega (arith, p .ended)) in
+    put-append (one ++ two) out at later then both (simp length-append (omega arith)) three last end r
+    (omega (arith, p .ended, q .ended))
+
 -- a text after one byte
 pub put-cons :
     (byte : ℕ) (text out : Bytes) (at : ℕ) (after : Bytes) (end : ℕ) → at + 1 + length text ≤ length out →

@@ -5,3 +5,4 @@ pub mod Texts
 pub mod Decimals
 pub mod Reports
 pub mod ReportLines
+pub mod Feeding

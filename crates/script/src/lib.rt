@@ -3,3 +3,4 @@
 pub mod texts; // text and numbers put into a lent buffer
 pub mod reports; // the heading and a line of output
 pub mod lines; // a line of input: public number, one space, and offered number or `-`
+pub mod feeding; // the input byte by byte

@@ -1,7 +1,7 @@
 -- Laws of a line: where its first space stands, the fields that a loop reads, and what the fields make of the
 -- line. Assumes nothing.
 use mathlib.Core.Path.{_≡_, refl, sym, ap, ap₂, _∙_}
-use mathlib.Core.Logic.{_≢_}
+use mathlib.Core.Logic.{_≢_, _⊎_, inl, inr, ⊎-elim}
 use mathlib.Core.Bool.{Bool, true, false, cond, _&&_}
 use mathlib.Core.List.{List, [], _∷_, _++_}
 use Prim.Native.Nat.{ℕ, zero, suc, _+_, _≤_, _<_}
@@ -11,7 +11,7 @@ use lib.Dec.{eqb, ltb, leb}
 use lib.ListN.{length, getD, take, drop, drop-of-length-le}
 use lib.Seq.{take-nil, drop-nil}
 use borrow.Author.Tests.{eq-eqb, ne-eqb, lt-ltb, le-ltb, le-leb, lt-leb}
-use Rattle.laws.proofs.Cases.{and-both, and-false-left, and-false-right, cond-true, cond-false}
+use Rattle.laws.proofs.Cases.{bool-cases, lt-cases, and-both, and-false-left, and-false-right, cond-true, cond-false}
 use Rattle.script.specs.Texts.{Bytes, space, dash, isDigits, digitsValue}
 use Rattle.script.specs.Lines.{beforeSpace, afterSpace, Split, isDash, isNumber, Field, number, absent}
 use Rattle.script.specs.Lines.{other, fieldOf, Line, bad, lineFrom, lineOf}
@@ -104,3 +104,34 @@ module _ (bytes : Bytes) (at : ℕ) (split : Split bytes at) where
       lineOf-split ∙ ap (λ (xs : Bytes). lineFrom (fieldOf (take at bytes)) (fieldOf xs)) e
       ∙ ap (lineFrom (fieldOf (take at bytes))) (fieldOf-other [] (isDash-other [] (λ z. omega arith)) (isNumber-empty [] refl))
       ∙ lineFrom-other (fieldOf (take at bytes))
+
+-- ---- long lines ----
+
+length-fields : (bytes : Bytes) → length bytes ≤ length (beforeSpace bytes) + 1 + length (afterSpace bytes)
+unfolding beforeSpace afterSpace
+length-fields [] = omega arith
+length-fields (byte ∷ bytes) = by (bool-cases (eqb byte space)) (length-fields bytes)
+  where
+    by :
+        (eqb byte space ≡ true) ⊎ (eqb byte space ≡ false) →
+        length bytes ≤ length (beforeSpace bytes) + 1 + length (afterSpace bytes) →
+        length (byte ∷ bytes) ≤ length (beforeSpace (byte ∷ bytes)) + 1 + length (afterSpace (byte ∷ bytes))
+    by (inl e) h = rw e (omega arith)
+    by (inr e) h = rw e (omega arith)
+
+fieldOf-long : (bytes : Bytes) → 9 < length bytes → fieldOf bytes ≡ other
+fieldOf-long bytes h =
+    fieldOf-other bytes (isDash-other bytes (λ z. omega arith)) (isNumber-long bytes h)
+
+-- a line of a good form has at most 19 bytes
+pub lineOf-long : (bytes : Bytes) → 19 < length bytes → lineOf bytes ≡ bad
+unfolding lineOf
+lineOf-long bytes h = ⊎-elim front rest (lt-cases 9 (length (beforeSpace bytes)))
+  where
+    front : 9 < length (beforeSpace bytes) → lineFrom (fieldOf (beforeSpace bytes)) (fieldOf (afterSpace bytes)) ≡ bad
+    front l = rw (fieldOf-long (beforeSpace bytes) l)
+
+    rest : length (beforeSpace bytes) ≤ 9 → lineFrom (fieldOf (beforeSpace bytes)) (fieldOf (afterSpace bytes)) ≡ bad
+    rest l =
+        rw (fieldOf-long (afterSpace bytes) (omega (arith, length-fields bytes)))
+        (lineFrom-other (fieldOf (beforeSpace bytes)))

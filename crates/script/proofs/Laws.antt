@@ -6,3 +6,4 @@ pub mod Decimals
 pub mod Reports
 pub mod ReportLines
 pub mod Feeding
+pub mod Inputs

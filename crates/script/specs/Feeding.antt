@@ -10,7 +10,29 @@ use Rattle.script.specs.Texts.{Bytes, newline}
 use Rattle.script.specs.declared.feeding.Feed.{Feed}
 use Rattle.script.specs.declared.feeding.Feed.the-variants.{Names, Inside, Ended}
 
--- ---- whole lines ----
+-- ---- the input as a whole ----
+
+-- all after the line of names
+unfoldable pub afterNames : (input : Bytes) → Bytes
+afterNames [] = []
+afterNames (byte ∷ bytes) = cond (eqb byte newline) bytes (afterNames bytes)
+
+-- a last line without its newline, if there is any
+abbrev pub lastLine : (line : Bytes) → List Bytes
+lastLine [] = []
+lastLine (byte ∷ line) = (byte ∷ line) ∷ []
+
+-- the lines of bytes that go on after `line`
+unfoldable pub linesAfter : (line : Bytes) → Bytes → List Bytes
+linesAfter line [] = lastLine line
+linesAfter line (byte ∷ bytes) =
+    cond (eqb byte newline) (line ∷ linesAfter [] bytes) (linesAfter (line ++ (byte ∷ [])) bytes)
+
+-- the lines of values, each without its newline
+abbrev pub valueLines : (input : Bytes) → List Bytes
+valueLines input = linesAfter [] (afterNames input)
+
+-- ---- byte by byte ----
 
 -- where the bytes so far end: in the line of names, in a line of values, or with a line of values just ended
 pub data Reading : Type 0 where
@@ -51,3 +73,14 @@ abbrev pub readingIn : Feed → (buffer : Bytes) → Reading
 readingIn Names buffer = inNames
 readingIn (Inside held) buffer = inLine (take held buffer)
 readingIn (Ended held) buffer = atEnd (take held buffer)
+
+-- the line that has just ended, if any
+abbrev pub endedLine : Reading → List Bytes
+endedLine inNames = []
+endedLine (inLine line) = []
+endedLine (atEnd line) = line ∷ []
+
+-- the lines that end, as they are held, when bytes and then the end of the input are read
+unfoldable pub heldLines : Reading → Bytes → List Bytes
+heldLines reading [] = endedLine (finish reading)
+heldLines reading (byte ∷ bytes) = endedLine (cut (step reading byte)) ++ heldLines (cut (step reading byte)) bytes

@@ -60,3 +60,16 @@ pub feed-last :
 feed-last [] held room ne = absurd (omega arith)
 feed-last (byte ∷ buffer) zero room ne = absurd (ne refl)
 feed-last (byte ∷ buffer) (suc held) room ne = refl
+
+-- ---- what is held says what the line says ----
+
+pub lineOf-take : (line : Bytes) → lineOf (take lineRoom line) ≡ lineOf line
+lineOf-take line = ⊎-elim short long (lt-cases 19 (length line))
+  where
+    short : 19 < length line → lineOf (take lineRoom line) ≡ lineOf line
+    short h =
+        let l : 19 < length (take lineRoom line) = omega (arith, length-take lineRoom line) in
+        lineOf-long (take lineRoom line) l ∙ sym (lineOf-long line h)
+
+    long : length line ≤ 19 → lineOf (take lineRoom line) ≡ lineOf line
+    long h = ap lineOf (take-all lineRoom line (omega arith))

@@ -7,3 +7,4 @@ pub mod Reports
 pub mod ReportLines
 pub mod Feeding
 pub mod Inputs
+pub mod Samples

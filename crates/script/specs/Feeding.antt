@@ -1,6 +1,6 @@
--- Input read byte by byte (document 01, "Figures to hold against"): a line of names, passed over, then lines of
--- values; a line ends at its newline, the last one at the end of the input too. Of a line so many bytes are held
--- that a longer one is still of no good form. Assumes nothing.
+-- Input read byte by byte (document 01, "Figures to hold against"): a line of names, passed over, then lines
+-- of values; a line ends at its newline, the last one at the end of the input too. Of a line so many bytes
+-- are held that a longer one is still of no good form. Assumes nothing.
 use mathlib.Core.Bool.{cond}
 use mathlib.Core.List.{List, [], _∷_, _++_}
 use Prim.Native.Nat.{ℕ}
@@ -83,4 +83,5 @@ endedLine (atEnd line) = line ∷ []
 -- the lines that end, as they are held, when bytes and then the end of the input are read
 unfoldable pub heldLines : Reading → Bytes → List Bytes
 heldLines reading [] = endedLine (finish reading)
-heldLines reading (byte ∷ bytes) = endedLine (cut (step reading byte)) ++ heldLines (cut (step reading byte)) bytes
+heldLines reading (byte ∷ bytes) =
+    endedLine (cut (step reading byte)) ++ heldLines (cut (step reading byte)) bytes

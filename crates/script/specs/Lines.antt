@@ -1,8 +1,8 @@
--- What a line of the listing's input means (document 01, "Figures to hold against"): public number, one space,
--- and offered number or `-`, each number 1 to 9 digits. Assumes nothing.
+-- What a line of the listing's input means (document 01, "Figures to hold against"): public number, one
+-- space, and offered number or `-`, each number 1 to 9 digits. Assumes nothing.
 use mathlib.Core.Path.{_≡_}
-use mathlib.Core.Bool.{Bool, true, false, cond, _&&_}
-use mathlib.Core.List.{List, [], _∷_}
+use mathlib.Core.Bool.{Bool, false, cond, _&&_}
+use mathlib.Core.List.{[], _∷_}
 use mathlib.Core.Option.{Option, none, some}
 use Prim.Native.Nat.{ℕ, _+_, _≤_}
 use lib.Dec.{eqb, ltb, leb}

@@ -4,7 +4,6 @@ use mathlib.Core.Bool.{cond}
 use mathlib.Core.List.{List, [], _∷_, _++_}
 use Prim.Native.Nat.{ℕ, _+_, _*_}
 use lib.Dec.{eqb}
-use lib.ListN.{length}
 use Rattle.script.specs.Texts.{Bytes, newline, space, comma, dash, decimal}
 
 -- `line answer rounds hidden head stores` and a newline
@@ -63,7 +62,8 @@ countsText line answer rounds = field line ++ field answer ++ field rounds
 -- a line of the listing, with its newline
 abbrev pub reportLine : (line answer rounds outcome head : ℕ) → (stores : List ℕ) → Bytes
 reportLine line answer rounds outcome head stores =
-    countsText line answer rounds ++ (outcomeText outcome ++ (space ∷ [])) ++ field head ++ storesText stores ++
+    countsText line answer rounds ++ (outcomeText outcome ++ (space ∷ [])) ++ field head ++
+    storesText stores ++
     (newline ∷ [])
 
 -- ---- room ----
@@ -72,6 +72,7 @@ reportLine line answer rounds outcome head stores =
 abbrev pub storesRoom : (count : ℕ) → ℕ
 storesRoom count = 11 * count + 1
 
--- bytes that hold a line with so many stores: numbers below 2^32, the line's below 2^64, the answer's below 2^8
+-- bytes that hold a line with so many stores: numbers below 2^32, the line's below 2^64, the answer's below
+-- 2^8
 abbrev pub reportRoom : (count : ℕ) → ℕ
 reportRoom count = 58 + storesRoom count

@@ -1,5 +1,5 @@
-// The input byte by byte, so that it can be read in pieces of any size: the line of names is passed over, and each line of
-// values is held in a lent buffer until it has ended.
+// The input byte by byte, so that it can be read in pieces of any size: the line of names is passed over, and
+// each line of values is held in a lent buffer until it has ended.
 use crate::lines::Line;
 use crate::lines::read_line;
 ghost use mathlib.Core.Path.{_≡_};
@@ -7,8 +7,8 @@ ghost use lib.ListN.{length, take};
 ghost use Rattle.script.specs.Lines.{lineOf, lineSaid};
 ghost use Rattle.script.specs.Feeding.{step, stepIn, finish, lineRoom, cut, readingIn};
 
-// Where the bytes so far end: in the line of names, or in a line of values or just after it, with so many of its bytes
-// in the buffer.
+// Where the bytes so far end: in the line of names, or in a line of values or just after it, with so many of
+// its bytes in the buffer.
 pub enum Feed {
     Names,
     Inside(usize),

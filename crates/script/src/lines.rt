@@ -34,7 +34,11 @@ fn space_in(bytes: &[u8]) -> usize
 fn is_dash(bytes: &[u8]) -> bool
     ensures { λ r. ⌜ r ≡ isDash (now (bytes .entry)) ⌝ }
 {
-    if bytes.len() == 1 { bytes[0] == 45 } else { false }
+    if bytes.len() == 1 {
+        bytes[0] == 45
+    } else {
+        false
+    }
 }
 
 // What a field says.

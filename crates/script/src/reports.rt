@@ -5,7 +5,8 @@ ghost use mathlib.Core.List.{[], _∷_, _++_};
 ghost use Prim.Native.Nat.{_+_, _*_, _≤_};
 ghost use lib.ListN.{length};
 ghost use Rattle.script.specs.Texts.{Put, space, comma, decimal};
-ghost use Rattle.script.specs.Reports.{heading, field, outcomeText, laterText, storesText, countsText, reportLine, storesRoom, reportRoom};
+ghost use Rattle.script.specs.Reports.{heading, field, outcomeText, laterText, storesText, countsText};
+ghost use Rattle.script.specs.Reports.{reportLine, storesRoom, reportRoom};
 
 // Puts the heading.
 pub fn put_heading(out: &mut [u8]) -> usize
@@ -101,8 +102,8 @@ fn put_counts(out: &mut [u8], line: u64, answer: u8, rounds: u32) -> usize
     put_field(out, after_answer, rounds as u64)
 }
 
-// Puts a line of the listing at the front, with its newline; answers its length. The outcome is its number, and the
-// stores are all those of the slice. A line's number is as large as a u64, far more lines than any input has.
+// Puts a line of the listing at the front, with its newline, and answers its length. The outcome is given by its
+// number, and all stores of the slice are listed. Lines are counted in 64 bits: a large file has more than 2^32.
 pub fn put_report(
     out: &mut [u8],
     line: u64,

@@ -1,11 +1,11 @@
--- Laws of a number in decimal: both ways of its definition, length, and that its digits spell it. Assumes nothing.
-use mathlib.Core.Path.{_≡_, refl, sym, ap, _∙_}
+-- Laws of a number in decimal: both ways of its definition, length, and that its digits spell it. Assumes
+-- nothing.
+use mathlib.Core.Path.{_≡_, sym, ap, _∙_}
 use mathlib.Core.Logic.{_⊎_, inl, inr}
-use mathlib.Core.Bool.{Bool, true, false, cond}
-use mathlib.Core.List.{List, [], _∷_, _++_}
-use Prim.Native.Nat.{ℕ, zero, suc, _+_, _*_, _-_, _/_, _%_, _^_, _≤_, _<_}
+use mathlib.Core.Bool.{true}
+use mathlib.Core.List.{[], _∷_, _++_}
+use Prim.Native.Nat.{ℕ, zero, suc, _+_, _-_, _/_, _%_, _^_, _≤_, _<_}
 use native.Mathlib.Omega.{arith}
-use lib.Dec.{ltb}
 use lib.ListN.{length, set, length-append}
 use borrow.Author.Tests.{lt-ltb, le-ltb}
 use Rattle.laws.proofs.Cases.{lt-cases, cond-true, cond-false}
@@ -31,7 +31,8 @@ within-any :
     (most more value : ℕ) → value < most → value < more → decimalWithin most value ≡ decimalWithin more value
 within-any zero more value h k = absurd (omega arith)
 within-any (suc most) zero value h k = absurd (omega arith)
-within-any (suc most) (suc more) value h k = by (lt-cases value 10) (λ l. within-any most more (value / 10) (omega arith) (omega arith))
+within-any (suc most) (suc more) value h k =
+    by (lt-cases value 10) (λ l. within-any most more (value / 10) (omega arith) (omega arith))
   where
     by :
         (value < 10) ⊎ (10 ≤ value) →
@@ -46,7 +47,8 @@ pub decimal-small : (value : ℕ) → value < 10 → decimal value ≡ digit val
 unfolding decimal
 decimal-small value h = within-small value value h
 
-pub decimal-large : (value : ℕ) → 10 ≤ value → decimal value ≡ decimal (value / 10) ++ (digit (value % 10) ∷ [])
+pub decimal-large : (value : ℕ) → 10 ≤ value → decimal value ≡ decimal (value / 10) ++
+    (digit (value % 10) ∷ [])
 unfolding decimal
 decimal-large value h =
     within-large value value h
@@ -55,8 +57,10 @@ decimal-large value h =
 
 -- ---- length ----
 
-pub length-decimal-large : (value : ℕ) → 10 ≤ value → length (decimal value) ≡ length (decimal (value / 10)) + 1
-length-decimal-large value h = ap length (decimal-large value h) ∙ length-append (decimal (value / 10)) (digit (value % 10) ∷ [])
+pub length-decimal-large : (value : ℕ) → 10 ≤ value →
+    length (decimal value) ≡ length (decimal (value / 10)) + 1
+length-decimal-large value h =
+    ap length (decimal-large value h) ∙ length-append (decimal (value / 10)) (digit (value % 10) ∷ [])
 
 -- a number below a power of ten has no more digits than that
 pub length-decimal : (most value : ℕ) → value < 10 ^ suc most → length (decimal value) ≤ suc most
@@ -75,7 +79,8 @@ length-decimal (suc most) value h =
 -- what holds of one digit, and of one more digit after a tenth of the number, holds of every number
 module _ (P : ℕ → Bytes → Type 0)
     (one : (value : ℕ) → value < 10 → P value (digit value ∷ []))
-    (more : (value : ℕ) (bytes : Bytes) → P (value / 10) bytes → P value (bytes ++ (digit (value % 10) ∷ []))) where
+    (more : (value : ℕ) (bytes : Bytes) → P (value / 10) bytes →
+    P value (bytes ++ (digit (value % 10) ∷ []))) where
   within-induction : (most value : ℕ) → value < most → P value (decimalWithin most value)
   within-induction zero value h = absurd (omega arith)
   within-induction (suc most) value h =

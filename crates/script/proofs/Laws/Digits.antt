@@ -1,17 +1,16 @@
 -- Laws of digits: joined, one more, one that is none; and a loop that reads them from the front.
 -- Assumes nothing.
 use mathlib.Core.Path.{_≡_, refl, sym, ap, _∙_}
-use mathlib.Core.Logic.{_⊎_, inl, inr}
-use mathlib.Core.Bool.{Bool, true, false, _&&_}
-use mathlib.Core.List.{List, [], _∷_, _++_}
+use mathlib.Core.Bool.{true, false}
+use mathlib.Core.List.{[], _∷_, _++_}
 use Prim.Native.Nat.{ℕ, zero, suc, _+_, _*_, _-_, _^_, _≤_, _<_}
 use native.Mathlib.Nat.{pow-le-pow-right}
 use native.Mathlib.Numerals.{add-one}
 use native.Mathlib.Omega.{arith}
 use lib.Dec.{leb}
 use lib.ListN.{length, getD, take}
-use lib.Seq.{take-suc, take-all, length-take-le}
-use borrow.Author.Tests.{le-leb, lt-leb, leb-true}
+use lib.Seq.{take-suc, take-all}
+use borrow.Author.Tests.{le-leb, lt-leb}
 use Rattle.laws.proofs.Cases.{and-both, and-left, and-right, and-false-left, and-false-right}
 use Rattle.script.specs.Texts.{Bytes, digit, isDigit, isDigits, valueAfter, digitsValue}
 
@@ -28,12 +27,14 @@ pub isDigits-one : (byte : ℕ) → digit 0 ≤ byte → byte ≤ digit 9 → is
 unfolding isDigits
 isDigits-one byte l h = and-both (and-both (le-leb (digit 0) byte l) (le-leb byte (digit 9) h)) refl
 
-pub valueAfter-append : (before : ℕ) (xs ys : Bytes) → valueAfter before (xs ++ ys) ≡ valueAfter (valueAfter before xs) ys
+pub valueAfter-append : (before : ℕ) (xs ys : Bytes) →
+    valueAfter before (xs ++ ys) ≡ valueAfter (valueAfter before xs) ys
 unfolding valueAfter
 valueAfter-append before [] ys = refl
 valueAfter-append before (byte ∷ xs) ys = valueAfter-append (before * 10 + (byte - digit 0)) xs ys
 
-pub digitsValue-snoc : (xs : Bytes) (byte : ℕ) → digitsValue (xs ++ (byte ∷ [])) ≡ digitsValue xs * 10 + (byte - digit 0)
+pub digitsValue-snoc : (xs : Bytes) (byte : ℕ) → digitsValue (xs ++ (byte ∷ [])) ≡
+    digitsValue xs * 10 + (byte - digit 0)
 unfolding valueAfter
 digitsValue-snoc xs byte = valueAfter-append 0 xs (byte ∷ [])
 
@@ -73,11 +74,12 @@ module _ (bytes : Bytes) (value index : ℕ) (known : Digits bytes value index) 
       Digits bytes (value * 10 + (getD bytes index 0 - digit 0)) (index + 1)
   digits-more h low high = record {
     inside = omega arith;
-    digits = rw (add-one, take-suc bytes index 0) (isDigits-append _ _ (known .digits) (isDigits-one _ low high));
+    digits =
+        rw (add-one, take-suc bytes index 0) (isDigits-append _ _ (known .digits) (isDigits-one _ low high));
     spelt =
-      rw (add-one, take-suc bytes index 0)
-      (ap (λ (n : ℕ). n * 10 + (getD bytes index 0 - digit 0)) (known .spelt)
-      ∙ sym (digitsValue-snoc (take index bytes) (getD bytes index 0)));
+        rw (add-one, take-suc bytes index 0)
+        (ap (λ (n : ℕ). n * 10 + (getD bytes index 0 - digit 0)) (known .spelt)
+        ∙ sym (digitsValue-snoc (take index bytes) (getD bytes index 0)));
     small = rw add-one (omega (arith, known .small));
   }
 

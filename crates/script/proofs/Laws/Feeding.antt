@@ -1,27 +1,26 @@
--- Laws of input read byte by byte: what a line as it is held becomes with one more byte, that holding its front
--- loses nothing of what it means, and that the lines of an input are those that end as its bytes are read.
--- Assumes nothing.
+-- Laws of input read byte by byte: what a line as it is held becomes with one more byte, that holding its
+-- front loses nothing of what it means, and that the lines of an input are those that end as its bytes are
+-- read. Assumes nothing.
 use mathlib.Core.Path.{_≡_, refl, sym, ap, _∙_}
-use mathlib.Core.Logic.{_≢_, _⊎_, inl, inr, ⊎-elim}
-use mathlib.Core.Bool.{Bool, true, false, cond}
-use mathlib.Core.List.{List, [], _∷_, _++_}
+use mathlib.Core.Logic.{_≢_, _⊎_, ⊎-elim}
+use mathlib.Core.List.{[], _∷_, _++_}
 use Prim.Native.Nat.{ℕ, zero, suc, _+_, _≤_, _<_}
 use native.Mathlib.Numerals.{add-one}
 use native.Mathlib.Omega.{arith}
-use lib.Dec.{eqb}
 use lib.ListN.{length, take, set, length-append, length-take}
-use lib.Seq.{take-all, take-suc-set, take-append-le, length-take-le, take-take}
+use lib.Seq.{take-all, take-suc-set, take-append-le, length-take-le}
 use borrow.Author.Tests.{eq-eqb, ne-eqb}
-use Rattle.laws.proofs.Cases.{bool-cases, lt-cases, cond-true, cond-false}
+use Rattle.laws.proofs.Cases.{lt-cases, cond-true, cond-false}
 use Rattle.script.specs.Texts.{Bytes, newline}
-use Rattle.script.specs.Lines.{lineOf, bad, beforeSpace, afterSpace}
-use Rattle.script.specs.Feeding.{Reading, inNames, inLine, atEnd, stepIn, step, finish, lineRoom, cut}
+use Rattle.script.specs.Lines.{lineOf}
+use Rattle.script.specs.Feeding.{inLine, atEnd, stepIn, finish, lineRoom, cut}
 use Rattle.script.proofs.Laws.Lines.{lineOf-long}
 
 -- ---- one more byte of a line ----
 
 cut-newline : (line : Bytes) (byte : ℕ) → byte ≡ newline → cut (stepIn line byte) ≡ atEnd (take lineRoom line)
-cut-newline line byte e = ap cut (cond-true (atEnd line) (inLine (line ++ (byte ∷ []))) (eq-eqb byte newline e))
+cut-newline line byte e =
+    ap cut (cond-true (atEnd line) (inLine (line ++ (byte ∷ []))) (eq-eqb byte newline e))
 
 cut-other :
     (line : Bytes) (byte : ℕ) → byte ≢ newline →
@@ -35,7 +34,8 @@ module _ (buffer : Bytes) (held byte : ℕ) (room : length buffer ≡ lineRoom) 
 
   pub feed-newline : byte ≡ newline → atEnd (take held buffer) ≡ cut (stepIn (take held buffer) byte)
   feed-newline e =
-      ap atEnd (sym (take-all lineRoom (take held buffer) held-within)) ∙ sym (cut-newline (take held buffer) byte e)
+      ap atEnd (sym (take-all lineRoom (take held buffer) held-within))
+      ∙ sym (cut-newline (take held buffer) byte e)
 
   pub feed-more :
       byte ≢ newline → held < lineRoom →
@@ -52,7 +52,8 @@ module _ (buffer : Bytes) (held byte : ℕ) (room : length buffer ≡ lineRoom) 
   feed-full ne h =
       let whole : take held buffer ≡ buffer = take-all held buffer (omega arith) in
       rw whole
-      (ap inLine (sym (take-append-le lineRoom buffer (byte ∷ []) (omega arith))) ∙ sym (cut-other buffer byte ne))
+      (ap inLine (sym (take-append-le lineRoom buffer (byte ∷ []) (omega arith)))
+      ∙ sym (cut-other buffer byte ne))
 
 pub feed-last :
     (buffer : Bytes) (held : ℕ) → length buffer ≡ lineRoom → held ≢ 0 →

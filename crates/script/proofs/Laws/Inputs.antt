@@ -12,7 +12,8 @@ use lib.Seq.{take-all, take-append-le, length-take-le, take-take}
 use Rattle.laws.proofs.Cases.{bool-cases, lt-cases}
 use Rattle.script.specs.Texts.{Bytes, newline}
 use Rattle.script.specs.Lines.{Line, lineOf}
-use Rattle.script.specs.Feeding.{afterNames, linesAfter, valueLines, Reading, inNames, inLine, atEnd, lineRoom}
+use Rattle.script.specs.Feeding.{afterNames, linesAfter, valueLines, Reading, inNames, inLine, atEnd}
+use Rattle.script.specs.Feeding.{lineRoom}
 use Rattle.script.specs.Feeding.{cut, heldLines}
 use Rattle.script.proofs.Laws.Feeding.{lineOf-take}
 
@@ -44,13 +45,15 @@ line-on :
     meanings (heldLines (atEnd (take lineRoom (take lineRoom line))) bytes) ≡ meanings (linesAfter [] bytes) →
     meanings (heldLines (inLine (take lineRoom (line ++ (byte ∷ [])))) bytes) ≡
     meanings (linesAfter (line ++ (byte ∷ [])) bytes) →
-    meanings (heldLines (inLine (take lineRoom line)) (byte ∷ bytes)) ≡ meanings (linesAfter line (byte ∷ bytes))
+    meanings (heldLines (inLine (take lineRoom line)) (byte ∷ bytes)) ≡
+    meanings (linesAfter line (byte ∷ bytes))
 unfolding meanings heldLines linesAfter
 line-on line byte bytes ended going = by (bool-cases (eqb byte newline))
   where
     by :
         (eqb byte newline ≡ true) ⊎ (eqb byte newline ≡ false) →
-        meanings (heldLines (inLine (take lineRoom line)) (byte ∷ bytes)) ≡ meanings (linesAfter line (byte ∷ bytes))
+        meanings (heldLines (inLine (take lineRoom line)) (byte ∷ bytes)) ≡
+        meanings (linesAfter line (byte ∷ bytes))
     by (inl e) =
         rw e
         (ap₂ {C = List Line} (λ (said : Line) (later : List Line). said ∷ later)
@@ -58,7 +61,8 @@ line-on line byte bytes ended going = by (bool-cases (eqb byte newline))
     by (inr e) = rw (e, take-take-append lineRoom line (byte ∷ [])) going
 
 held-on :
-    (reading : Reading) (bytes : Bytes) → meanings (heldLines (cut reading) bytes) ≡ meanings (linesOn reading bytes)
+    (reading : Reading) (bytes : Bytes) → meanings (heldLines (cut reading) bytes) ≡
+    meanings (linesOn reading bytes)
 unfolding linesOn meanings heldLines linesAfter afterNames
 held-on inNames [] = refl
 held-on (inLine []) [] = refl
@@ -75,11 +79,13 @@ held-on inNames (byte ∷ bytes) =
     by (inl e) ended going = rw e ended
     by (inr e) ended going = rw e going
 held-on (inLine line) (byte ∷ bytes) =
-    line-on line byte bytes (held-on (atEnd (take lineRoom line)) bytes) (held-on (inLine (line ++ (byte ∷ []))) bytes)
+    line-on line byte bytes (held-on (atEnd (take lineRoom line)) bytes)
+    (held-on (inLine (line ++ (byte ∷ []))) bytes)
 held-on (atEnd line) (byte ∷ bytes) =
     line-on [] byte bytes (held-on (atEnd []) bytes) (held-on (inLine (byte ∷ [])) bytes)
 
 -- every line of values, as it is held when it ends, means what the whole line means
-pub lines-of-heldLines : (input : Bytes) → map lineOf (heldLines inNames input) ≡ map lineOf (valueLines input)
+pub lines-of-heldLines : (input : Bytes) → map lineOf (heldLines inNames input) ≡
+    map lineOf (valueLines input)
 unfolding linesOn meanings
 lines-of-heldLines input = held-on inNames input

@@ -1,20 +1,19 @@
 -- Laws of a line: where its first space stands, the fields that a loop reads, and what the fields make of the
 -- line. Assumes nothing.
-use mathlib.Core.Path.{_≡_, refl, sym, ap, ap₂, _∙_}
+use mathlib.Core.Path.{_≡_, refl, ap, _∙_}
 use mathlib.Core.Logic.{_≢_, _⊎_, inl, inr, ⊎-elim}
-use mathlib.Core.Bool.{Bool, true, false, cond, _&&_}
-use mathlib.Core.List.{List, [], _∷_, _++_}
+use mathlib.Core.Bool.{true, false, cond, _&&_}
+use mathlib.Core.List.{[], _∷_}
 use Prim.Native.Nat.{ℕ, zero, suc, _+_, _≤_, _<_}
-use native.Mathlib.Numerals.{add-one}
 use native.Mathlib.Omega.{arith}
 use lib.Dec.{eqb, ltb, leb}
 use lib.ListN.{length, getD, take, drop, drop-of-length-le}
 use lib.Seq.{take-nil, drop-nil}
 use borrow.Author.Tests.{eq-eqb, ne-eqb, lt-ltb, le-ltb, le-leb, lt-leb}
-use Rattle.laws.proofs.Cases.{bool-cases, lt-cases, and-both, and-false-left, and-false-right, cond-true, cond-false}
+use Rattle.laws.proofs.Cases.{bool-cases, lt-cases, and-both, and-false-right, cond-true, cond-false}
 use Rattle.script.specs.Texts.{Bytes, space, dash, isDigits, digitsValue}
 use Rattle.script.specs.Lines.{beforeSpace, afterSpace, Split, isDash, isNumber, Field, number, absent}
-use Rattle.script.specs.Lines.{other, fieldOf, Line, bad, lineFrom, lineOf}
+use Rattle.script.specs.Lines.{other, fieldOf, bad, lineFrom, lineOf}
 
 -- ---- the first space ----
 
@@ -73,7 +72,8 @@ module _ (bytes : Bytes) where
   unfolding fieldOf
   fieldOf-dash e = cond-true absent (cond (isNumber bytes) (number (digitsValue bytes)) other) e
 
-  pub fieldOf-number : isDash bytes ≡ false → isNumber bytes ≡ true → fieldOf bytes ≡ number (digitsValue bytes)
+  pub fieldOf-number : isDash bytes ≡ false → isNumber bytes ≡ true →
+      fieldOf bytes ≡ number (digitsValue bytes)
   unfolding fieldOf
   fieldOf-number e p =
       cond-false absent (cond (isNumber bytes) (number (digitsValue bytes)) other) e
@@ -102,7 +102,8 @@ module _ (bytes : Bytes) (at : ℕ) (split : Split bytes at) where
   lineOf-whole h =
       let e : drop (at + 1) bytes ≡ [] = drop-of-length-le bytes {i = at + 1} (omega arith) in
       lineOf-split ∙ ap (λ (xs : Bytes). lineFrom (fieldOf (take at bytes)) (fieldOf xs)) e
-      ∙ ap (lineFrom (fieldOf (take at bytes))) (fieldOf-other [] (isDash-other [] (λ z. omega arith)) (isNumber-empty [] refl))
+      ∙ ap (lineFrom (fieldOf (take at bytes))) (fieldOf-other [] (isDash-other [] (λ z. omega arith))
+      (isNumber-empty [] refl))
       ∙ lineFrom-other (fieldOf (take at bytes))
 
 -- ---- long lines ----
@@ -128,10 +129,12 @@ pub lineOf-long : (bytes : Bytes) → 19 < length bytes → lineOf bytes ≡ bad
 unfolding lineOf
 lineOf-long bytes h = ⊎-elim front rest (lt-cases 9 (length (beforeSpace bytes)))
   where
-    front : 9 < length (beforeSpace bytes) → lineFrom (fieldOf (beforeSpace bytes)) (fieldOf (afterSpace bytes)) ≡ bad
+    front : 9 < length (beforeSpace bytes) → lineFrom (fieldOf (beforeSpace bytes))
+        (fieldOf (afterSpace bytes)) ≡ bad
     front l = rw (fieldOf-long (beforeSpace bytes) l)
 
-    rest : length (beforeSpace bytes) ≤ 9 → lineFrom (fieldOf (beforeSpace bytes)) (fieldOf (afterSpace bytes)) ≡ bad
+    rest : length (beforeSpace bytes) ≤ 9 → lineFrom (fieldOf (beforeSpace bytes))
+        (fieldOf (afterSpace bytes)) ≡ bad
     rest l =
         rw (fieldOf-long (afterSpace bytes) (omega (arith, length-fields bytes)))
         (lineFrom-other (fieldOf (beforeSpace bytes)))

@@ -2,7 +2,6 @@
 -- Assumes nothing.
 use mathlib.Core.Path.{_≡_, refl, sym, ap, _∙_}
 use mathlib.Core.Logic.{_≢_}
-use mathlib.Core.Bool.{true, false, cond}
 use mathlib.Core.List.{List, [], _∷_, _++_, append-assoc, append-nil}
 use Prim.Native.Nat.{ℕ, suc, _+_, _*_, _^_, _≤_, _<_}
 use native.Mathlib.Numerals.{add-one}
@@ -10,7 +9,7 @@ use native.Mathlib.Omega.{arith}
 use lib.Dec.{eqb}
 use lib.ListN.{length, getD, take, drop, set, length-append, length-drop}
 use lib.Seq.{take-suc, take-all, getD-drop}
-use borrow.Author.Tests.{eq-eqb, ne-eqb}
+use borrow.Author.Tests.{ne-eqb}
 use Rattle.laws.proofs.Cases.{cond-cases}
 use Rattle.script.specs.Texts.{Bytes, Put, space, comma, dash, decimal}
 use Rattle.script.specs.Reports.{field, outcomeText, noneText, placedText, waitingText, notTriedText}
@@ -76,9 +75,11 @@ length-outcomeText outcome h =
     (λ e. cond-cases short (eqb outcome 2) (λ e. omega arith)
     (λ e. cond-cases short (eqb outcome 3) (λ e. omega arith)
     (λ e. omega (arith, length-decimal 2 outcome (omega arith))))))
+
 -- ---- stores ----
 
-laterText-snoc : (stores : List ℕ) (store : ℕ) → laterText (stores ++ (store ∷ [])) ≡ laterText stores ++ (comma ∷ decimal store)
+laterText-snoc : (stores : List ℕ) (store : ℕ) → laterText (stores ++ (store ∷ [])) ≡ laterText stores ++
+    (comma ∷ decimal store)
 unfolding laterText
 laterText-snoc [] store = append-nil (comma ∷ decimal store)
 laterText-snoc (first ∷ stores) store =
@@ -94,7 +95,8 @@ storesText-none [] e = refl
 storesText-none (store ∷ stores) e = absurd (omega arith)
 
 pub storesText-some :
-    (stores : List ℕ) → length stores ≢ 0 → storesText stores ≡ decimal (getD stores 0 0) ++ laterText (drop 1 stores)
+    (stores : List ℕ) → length stores ≢ 0 → storesText stores ≡ decimal (getD stores 0 0) ++
+    laterText (drop 1 stores)
 unfolding storesText
 storesText-some [] ne = absurd (ne refl)
 storesText-some (store ∷ stores) ne = refl
@@ -114,7 +116,8 @@ length-laterText (store ∷ stores) small =
       length-laterText stores (λ index. small (suc index)),
     )
 
-pub length-storesText : (stores : List ℕ) → Small stores → length (storesText stores) ≤ storesRoom (length stores)
+pub length-storesText : (stores : List ℕ) → Small stores →
+    length (storesText stores) ≤ storesRoom (length stores)
 unfolding storesText
 length-storesText [] small = omega arith
 length-storesText (store ∷ stores) small =
@@ -139,7 +142,8 @@ unfolding laterText
 listed-none stores out at h =
     record { inside = omega arith; near = omega arith; same = refl; put = put-nothing out at h }
 
-module _ (stores : List ℕ) (out : Bytes) (at : ℕ) (fits : at + 11 * length stores ≤ length out) (after : Bytes)
+module _ (stores : List ℕ) (out : Bytes) (at : ℕ) (fits : at + 11 * length stores ≤ length out)
+    (after : Bytes)
     (next count : ℕ) (listed : Listed stores out at after next count) where
   pub listed-more :
       (last : Bytes) (end : ℕ) → count < length stores → length last ≡ length after →
@@ -153,10 +157,10 @@ module _ (stores : List ℕ) (out : Bytes) (at : ℕ) (fits : at + 11 * length s
         near = omega (arith, put .ended, listed .near);
         same = same ∙ listed .same;
         put =
-          rw (add-one, take-suc stores count 0, laterText-snoc (take count stores) store)
-          (put-append (laterText (take count stores)) out at after next (listed .put)
-          (omega (arith, listed .put .ended, listed .near)) (comma ∷ decimal store) last end put
-          (omega (arith, listed .near)));
+            rw (add-one, take-suc stores count 0, laterText-snoc (take count stores) store)
+            (put-append (laterText (take count stores)) out at after next (listed .put)
+            (omega (arith, listed .put .ended, listed .near)) (comma ∷ decimal store) last end put
+            (omega (arith, listed .near)));
       }
 
   pub listed-all : length stores ≤ count → Put (laterText stores) out at after next
@@ -178,10 +182,12 @@ module _ (stores : List ℕ) (out : Bytes) (at : ℕ) (fits : at + storesRoom (l
           simp length-drop (omega (arith, first .ended, length-decimal-store (getD stores 0 0) (small 0)))
 
       pub put-some :
-          (last : Bytes) (end : ℕ) → Put (laterText (drop 1 stores)) after next last end → Put (storesText stores) out at last end
+          (last : Bytes) (end : ℕ) → Put (laterText (drop 1 stores)) after next last end →
+          Put (storesText stores) out at last end
       put-some last end later =
           rw (storesText-some stores some)
-          (put-append (decimal (getD stores 0 0)) out at after next first first-fits (laterText (drop 1 stores)) last end
+          (put-append (decimal (getD stores 0 0)) out at after next first first-fits
+          (laterText (drop 1 stores)) last end
           later (omega (arith, later-fits, length-laterText (drop 1 stores) rest)))
         where
           rest : Small (drop 1 stores)

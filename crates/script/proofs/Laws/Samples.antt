@@ -1,5 +1,5 @@
--- Computed samples: document 01's lines of output from their numbers, a refused line, and lines of input of good and
--- of other forms. The text of each list of bytes stands above it. Assumes nothing.
+-- Computed samples: document 01's lines of output from their numbers, a refused line, and lines of input of
+-- good and of other forms. The text of each list of bytes stands above it. Assumes nothing.
 use mathlib.Core.Path.{_≡_, refl}
 use mathlib.Core.List.{[], _∷_}
 use mathlib.Core.Option.{none, some}
@@ -89,7 +89,8 @@ unfolding isDigits valueAfter beforeSpace afterSpace isDash fieldOf lineOf
 leading-zeros = refl
 
 -- `999999999 999999999`
-nine-digits : lineOf (57 ∷ 57 ∷ 57 ∷ 57 ∷ 57 ∷ 57 ∷ 57 ∷ 57 ∷ 57 ∷ 32 ∷ 57 ∷ 57 ∷ 57 ∷ 57 ∷ 57 ∷ 57 ∷ 57 ∷ 57 ∷ 57 ∷ []) ≡ good 999999999 (some 999999999)
+nine-digits : lineOf (57 ∷ 57 ∷ 57 ∷ 57 ∷ 57 ∷ 57 ∷ 57 ∷ 57 ∷ 57 ∷ 32 ∷ 57 ∷ 57 ∷ 57 ∷ 57 ∷ 57 ∷ 57 ∷ 57 ∷
+    57 ∷ 57 ∷ []) ≡ good 999999999 (some 999999999)
 unfolding isDigits valueAfter beforeSpace afterSpace isDash fieldOf lineOf
 nine-digits = refl
 
@@ -165,7 +166,8 @@ empty = refl
 
 -- a line of names, `0 -`, and `0 1` without its newline
 lines :
-    valueLines (112 ∷ 117 ∷ 98 ∷ 108 ∷ 105 ∷ 99 ∷ 32 ∷ 104 ∷ 105 ∷ 100 ∷ 100 ∷ 101 ∷ 110 ∷ 10 ∷ 48 ∷ 32 ∷ 45 ∷ 10 ∷
+    valueLines (112 ∷ 117 ∷ 98 ∷ 108 ∷ 105 ∷ 99 ∷ 32 ∷ 104 ∷ 105 ∷ 100 ∷ 100 ∷ 101 ∷ 110 ∷ 10 ∷ 48 ∷ 32 ∷
+    45 ∷ 10 ∷
     48 ∷ 32 ∷ 49 ∷ []) ≡
     (48 ∷ 32 ∷ 45 ∷ []) ∷ (48 ∷ 32 ∷ 49 ∷ []) ∷ []
 unfolding afterNames linesAfter

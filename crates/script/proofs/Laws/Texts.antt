@@ -1,5 +1,5 @@
--- Laws of a text in a buffer: none, one byte, one text after another, the length of the buffer; and a loop that
--- puts a text from its front. Assumes nothing.
+-- Laws of a text in a buffer: none, one byte, one text after another, the length of the buffer; and a loop
+-- that puts a text from its front. Assumes nothing.
 use mathlib.Core.Path.{_≡_, refl, sym, ap, _∙_}
 use mathlib.Core.List.{List, [], _∷_, _++_}
 use Prim.Native.Nat.{ℕ, _+_, _-_, _≤_, _<_}
@@ -8,7 +8,6 @@ use native.Mathlib.Numerals.{add-one}
 use native.Mathlib.Omega.{arith}
 use lib.ListN.{length, getD, take, drop, set, length-append, length-drop}
 use lib.Seq.{paste, paste-suc, take-length, take-all}
-use Rattle.laws.specs.Lists.{over}
 use Rattle.laws.proofs.Lists.{over-is, over-nil, over-one, over-append, length-over}
 use Rattle.script.specs.Texts.{Bytes, Put}
 
@@ -17,7 +16,8 @@ use Rattle.script.specs.Texts.{Bytes, Put}
 pub put-nothing : (out : Bytes) (at : ℕ) → at ≤ length out → Put [] out at out at
 put-nothing out at h = record { placed = sym (over-nil at out h); ended = omega arith }
 
-pub put-one : (out : Bytes) (at byte : ℕ) → at < length out → Put (byte ∷ []) out at (set out at byte) (at + 1)
+pub put-one : (out : Bytes) (at byte : ℕ) → at < length out →
+    Put (byte ∷ []) out at (set out at byte) (at + 1)
 put-one out at byte h = record { placed = sym (over-one out at byte h); ended = refl }
 
 module _ (text out : Bytes) (at : ℕ) (after : Bytes) (next : ℕ) (put : Put text out at after next)
@@ -33,14 +33,15 @@ module _ (text out : Bytes) (at : ℕ) (after : Bytes) (next : ℕ) (put : Put t
       let room : at + length text + length more ≤ length out = omega (arith, put .ended) in
       record {
         placed =
-          then .placed ∙ rw (put .placed, put .ended) (over-append text out at fits more room);
+            then .placed ∙ rw (put .placed, put .ended) (over-append text out at fits more room);
         ended = rw (length-append text more) (omega (arith, then .ended, put .ended));
       }
 
 -- three texts, one after another
 pub put-three :
     (one two three out : Bytes) (at : ℕ) (after later last : Bytes) (next then end : ℕ) →
-    at + length one + length two + length three ≤ length out → Put one out at after next → Put two after next later then →
+    at + length one + length two + length three ≤ length out → Put one out at after next →
+    Put two after next later then →
     Put three later then last end → Put (one ++ two ++ three) out at last end
 put-three one two three out at after later last next then end h p q r =
     let both : Put (one ++ two) out at later then =
@@ -53,7 +54,8 @@ pub put-cons :
     (byte : ℕ) (text out : Bytes) (at : ℕ) (after : Bytes) (end : ℕ) → at + 1 + length text ≤ length out →
     Put text (set out at byte) (at + 1) after end → Put (byte ∷ text) out at after end
 put-cons byte text out at after end h put =
-    put-append (byte ∷ []) out at (set out at byte) (at + 1) (put-one out at byte (omega arith)) (omega arith) text after
+    put-append (byte ∷ []) out at (set out at byte) (at + 1) (put-one out at byte (omega arith))
+    (omega arith) text after
     end put h
 
 -- one byte after a text

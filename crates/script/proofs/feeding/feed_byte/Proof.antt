@@ -33,13 +33,13 @@ feed-line-requires-2 : tie.Need-feed-line-requires-2
 feed-line-requires-2 c κs = search needs
 
 returns : tie.Need-returns
-returns c = 
+returns c =
     let s = c .before .before .before .before in
     ap cut (sym (cond-true (inLine []) inNames (eq-eqb (s .args .byte) newline (c .if1 .taken))))
     ∙ along s _ (c .before .enum-told .given .1)
 
 returns-2 : tie.Need-returns-2
-returns-2 c = 
+returns-2 c =
     let s = c .before .before .before .before in
     ap cut (sym (cond-false (inLine []) inNames (ne-eqb (s .args .byte) newline (c .if1 .left))))
     ∙ along s _ (c .before .enum-told .given .1)
@@ -48,13 +48,19 @@ same-length : tie.Need-same-length
 same-length c = search needs
 
 returns-3 : tie.Need-returns-3
-returns-3 c = c .before .before .feed-line .ensures ∙ along (c .before .before .before .before .before .before .before .before) _ (c .before .before .before .before .before .state .given .1)
+returns-3 c =
+    c .before .before .feed-line .ensures
+    ∙ along (c .before .before .before .before .before .before .before .before) _
+    (c .before .before .before .before .before .state .given .1)
 
 same-length-2 : tie.Need-same-length-2
 same-length-2 c = search needs
 
 returns-4 : tie.Need-returns-4
-returns-4 c = c .before .before .feed-line2 .ensures ∙ along (c .before .before .before .before .before .before .before) _ (c .before .before .before .before .enum-told2 .given .1)
+returns-4 c =
+    c .before .before .feed-line2 .ensures
+    ∙ along (c .before .before .before .before .before .before .before) _
+    (c .before .before .before .before .enum-told2 .given .1)
 
 pub feed-byte-spec : {M : Type 1} → statement M
 feed-byte-spec =

@@ -23,10 +23,11 @@ returns-2 : tie.Need-returns-2
 returns-2 c = search needs
 
 returns-3 : tie.Need-returns-3
-returns-3 c = 
+returns-3 c =
     let s = c .before .before .before .before in
     feed-last (s .args .buffer .now) _ (s .pre) (c .if1 .left)
-    ∙ ap (λ (state : Feed). finish (readingIn state (s .args .buffer .now))) (sym (c .before .before .state .given .1))
+    ∙ ap (λ (state : Feed). finish (readingIn state (s .args .buffer .now)))
+    (sym (c .before .before .state .given .1))
 
 returns-4 : tie.Need-returns-4
 returns-4 c = search needs

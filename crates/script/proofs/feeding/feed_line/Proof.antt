@@ -5,7 +5,7 @@ use Rattle.script.proofs.feeding.feed_line.Statement.{statement}
 use Rattle.script.proofs.feeding.feed_line.Tie as tie
 
 returns : tie.Need-returns
-returns c = 
+returns c =
     let s = c .before in
     feed-newline (s .args .buffer .now) (s .args .held) (s .args .byte) (s .pre) (c .if1 .taken)
 
@@ -19,14 +19,16 @@ same-length : tie.Need-same-length
 same-length c = search needs
 
 returns-2 : tie.Need-returns-2
-returns-2 c = 
+returns-2 c =
     let s = c .before .before in
-    feed-more (s .args .buffer .now) (s .args .held) (s .args .byte) (s .pre) (c .before .if1 .left) (c .if2 .taken)
+    feed-more (s .args .buffer .now) (s .args .held) (s .args .byte) (s .pre) (c .before .if1 .left)
+    (c .if2 .taken)
 
 returns-3 : tie.Need-returns-3
-returns-3 c = 
+returns-3 c =
     let s = c .before .before in
-    feed-full (s .args .buffer .now) (s .args .held) (s .args .byte) (s .pre) (c .before .if1 .left) (c .if2 .left)
+    feed-full (s .args .buffer .now) (s .args .held) (s .args .byte) (s .pre) (c .before .if1 .left)
+    (c .if2 .left)
 
 pub feed-line-spec : {M : Type 1} → statement M
 feed-line-spec =

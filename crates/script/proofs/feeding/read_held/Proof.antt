@@ -8,7 +8,9 @@ use Rattle.script.proofs.feeding.read_held.Statement.{statement}
 use Rattle.script.proofs.feeding.read_held.Tie as tie
 
 slice-aggregate-read-line : tie.Need-slice-aggregate-read-line
-slice-aggregate-read-line c = sym (length-take-le (c .before .before .before .args .held) (c .before .before .before .args .buffer .now) (omega arith))
+slice-aggregate-read-line c =
+    sym (length-take-le (c .before .before .before .args .held)
+    (c .before .before .before .args .buffer .now) (omega arith))
 
 read-line-requires : tie.Need-read-line-requires
 read-line-requires c κs = search needs
@@ -20,7 +22,7 @@ read-line-requires-2 : tie.Need-read-line-requires-2
 read-line-requires-2 c κs = search needs
 
 returns-2 : tie.Need-returns-2
-returns-2 c = 
+returns-2 c =
     let s = c .before .before .before .args in
     c .read-line2 .ensures ∙ ap lineOf (sym (take-all (s .held) (s .buffer .now) (c .before .if1 .left)))
 

@@ -1,17 +1,17 @@
--- `field_in` meets its contract. The invariant: the bytes that were passed are digits, and the number that they spell.
--- The measure: the bytes that are left. Assumes nothing.
-use mathlib.Core.Path.{_≡_, refl, sym, ap, _∙_}
+-- `field_in` meets its contract. The invariant: the bytes that were passed are digits, and the number that
+-- they spell. The measure: the bytes that are left. Assumes nothing.
+use mathlib.Core.Path.{_≡_, sym, ap, _∙_}
 use mathlib.Core.Bool.{false}
-use Prim.Native.Nat.{ℕ, _-_, _≤_, _<_, _^_}
-use native.Mathlib.Nat.{pow-le-pow-right}
+use Prim.Native.Nat.{_-_}
 use native.Mathlib.Omega.{arith}
 use lib.ListN.{length, getD}
 use borrow.Author.Needs.{needs}
-use Rattle.script.specs.Texts.{Bytes, isDigit}
-use Rattle.script.specs.Lines.{isDash, fieldOf, number, other}
-use Rattle.script.proofs.Laws.Digits.{Digits, digits-none, digits-more, digits-all, digits-value, digits-room}
+use Rattle.script.specs.Lines.{isDash, number}
+use Rattle.script.proofs.Laws.Digits.{Digits, digits-none, digits-more, digits-all, digits-value}
+use Rattle.script.proofs.Laws.Digits.{digits-room}
 use Rattle.script.proofs.Laws.Digits.{isDigits-other, isDigit-low, isDigit-high}
-use Rattle.script.proofs.Laws.Lines.{fieldOf-dash, fieldOf-number, fieldOf-other, isNumber-empty, isNumber-long}
+use Rattle.script.proofs.Laws.Lines.{fieldOf-dash, fieldOf-number, fieldOf-other, isNumber-empty}
+use Rattle.script.proofs.Laws.Lines.{isNumber-long}
 use Rattle.script.proofs.Laws.Lines.{isNumber-letter, isNumber-digits}
 use Rattle.script.proofs.lines.field_in.Statement.{statement}
 use Rattle.script.proofs.lines.field_in.Tie as tie
@@ -31,7 +31,8 @@ is-dash-requires c κs = search needs
 
 returns : tie.Need-returns Inv-loop μ-loop
 returns c =
-    sym (fieldOf-dash (c .before .before .before .args .bytes .now) (sym (c .before .is-dash .ensures) ∙ c .if1 .taken))
+    sym (fieldOf-dash (c .before .before .before .args .bytes .now)
+    (sym (c .before .is-dash .ensures) ∙ c .if1 .taken))
 
 returns-2 : tie.Need-returns-2 Inv-loop μ-loop
 returns-2 c =
@@ -59,7 +60,8 @@ returns-4 c =
 
 returns-5 : tie.Need-returns-5 Inv-loop μ-loop
 returns-5 c =
-    let bytes = c .before .before .before .before .before .before .before .before .before .before .args .bytes .now in
+    let bytes =
+    c .before .before .before .before .before .before .before .before .before .before .args .bytes .now in
     let index = c .before .before .before .before .loop .i in
     sym (fieldOf-other bytes (no-dash (c .before .before .before .before .before .before .before))
     (isNumber-letter bytes (isDigits-other bytes index (c .before .before .before .loop-test .taken)
@@ -68,7 +70,12 @@ returns-5 c =
 mul-value : tie.Need-mul-value Inv-loop μ-loop
 mul-value c =
     let turn = c .before .before .before .before .loop in
-    omega (arith, digits-room (c .before .before .before .before .before .before .before .before .before .before .args .bytes .now) (turn .value) (turn .i) (turn .inv) (omega arith))
+    omega (
+      arith,
+      digits-room
+          (c .before .before .before .before .before .before .before .before .before .before .args .bytes .now)
+          (turn .value) (turn .i) (turn .inv) (omega arith),
+    )
 
 cast-value : tie.Need-cast-value Inv-loop μ-loop
 cast-value c = search needs
@@ -76,7 +83,12 @@ cast-value c = search needs
 add-value : tie.Need-add-value Inv-loop μ-loop
 add-value c =
     let turn = c .before .before .before .before .loop in
-    omega (arith, digits-room (c .before .before .before .before .before .before .before .before .before .before .args .bytes .now) (turn .value) (turn .i) (turn .inv) (omega arith))
+    omega (
+      arith,
+      digits-room
+          (c .before .before .before .before .before .before .before .before .before .before .args .bytes .now)
+          (turn .value) (turn .i) (turn .inv) (omega arith),
+    )
 
 add-i : tie.Need-add-i Inv-loop μ-loop
 add-i c = search needs
@@ -87,7 +99,9 @@ loop-less c = search needs
 loop-again : tie.Need-loop-again Inv-loop μ-loop
 loop-again c =
     let turn = c .before .before .before .before .loop in
-    digits-more (c .before .before .before .before .before .before .before .before .before .before .args .bytes .now) (turn .value) (turn .i) (turn .inv) (c .before .before .before .loop-test .taken)
+    digits-more
+    (c .before .before .before .before .before .before .before .before .before .before .args .bytes .now)
+    (turn .value) (turn .i) (turn .inv) (c .before .before .before .loop-test .taken)
     (c .before .if4 .left) (c .if5 .left)
 
 returns-6 : tie.Need-returns-6 Inv-loop μ-loop

@@ -1,5 +1,6 @@
--- `read_line` meets its contract: the line is split at its first space, and each part is a field. Assumes nothing.
-use mathlib.Core.Path.{_≡_, sym, ap, ap₂, _∙_}
+-- `read_line` meets its contract: the line is split at its first space, and each part is a field. Assumes
+-- nothing.
+use mathlib.Core.Path.{sym, ap, ap₂, _∙_}
 use Prim.Native.Nat.{_+_}
 use native.Mathlib.Omega.{arith}
 use lib.Seq.{length-take-le}
@@ -9,24 +10,22 @@ use Rattle.script.proofs.Laws.Texts.{take-drop}
 use Rattle.script.proofs.Laws.Lines.{lineOf-split, lineOf-whole}
 use Rattle.script.proofs.lines.read_line.Statement.{statement}
 use Rattle.script.proofs.lines.read_line.Tie as tie
-use Rattle.script.proofs.lines.read_line.Reads as reads
-use Rattle.script.proofs.lines.read_line.Lts as lts
-use Rattle.script.proofs.lines.field_in.Reads as field-in-reads
-use Rattle.script.proofs.lines.line_from.Reads as line-from-reads
-use Rattle.script.proofs.lines.space_in.Reads as space-in-reads
 
 space-in-requires : tie.Need-space-in-requires
 space-in-requires c κs = search needs
 
 returns : tie.Need-returns
 returns c =
-    sym (lineOf-whole (c .before .before .before .args .bytes .now) (c .before .space-in .result) (c .before .space-in .ensures) (omega arith))
+    sym (lineOf-whole (c .before .before .before .args .bytes .now) (c .before .space-in .result)
+    (c .before .space-in .ensures) (omega arith))
 
 add-after : tie.Need-add-after
 add-after c = search needs
 
 slice-aggregate-field-in : tie.Need-slice-aggregate-field-in
-slice-aggregate-field-in c = sym (length-take-le (c .before .before .space-in .result) (c .before .before .before .before .args .bytes .now) (c .before .before .space-in .ensures .inside))
+slice-aggregate-field-in c =
+    sym (length-take-le (c .before .before .space-in .result)
+    (c .before .before .before .before .args .bytes .now) (c .before .before .space-in .ensures .inside))
 
 field-in-requires : tie.Need-field-in-requires
 field-in-requires c κs = search needs
@@ -50,7 +49,8 @@ returns-2 : tie.Need-returns-2
 returns-2 c =
     let start = c .before .before .before .before .before .before .before .before in
     let found = c .before .before .before .before .before .before .space-in in
-    c .line-from .ensures ∙ ap₂ lineFrom (c .before .before .before .field-in .ensures) (c .before .field-in2 .ensures ∙ ap fieldOf (take-drop (found .result + 1) (start .args .bytes .now)))
+    c .line-from .ensures ∙ ap₂ lineFrom (c .before .before .before .field-in .ensures)
+    (c .before .field-in2 .ensures ∙ ap fieldOf (take-drop (found .result + 1) (start .args .bytes .now)))
     ∙ sym (lineOf-split (start .args .bytes .now) (found .result) (found .ensures))
 
 pub read-line-spec : {M : Type 1} → statement M

@@ -1,5 +1,5 @@
--- `space_in` meets its contract. The invariant: no byte that was passed is a space. The measure: the bytes that are
--- left. Assumes nothing.
+-- `space_in` meets its contract. The invariant: no byte that was passed is a space. The measure: the bytes
+-- that are left. Assumes nothing.
 use mathlib.Core.Logic.{_≢_}
 use Prim.Native.Nat.{ℕ, _-_, _≤_, _<_}
 use native.Mathlib.Omega.{arith}
@@ -26,7 +26,8 @@ shared-slice-read-if1 c = search needs
 returns : tie.Need-returns Inv-loop μ-loop
 returns c =
     let turn = c .before .before .before .loop in
-    split-at-first (c .before .before .before .before .args .bytes .now) (turn .i) (turn .inv .0) (turn .inv .1)
+    split-at-first (c .before .before .before .before .args .bytes .now) (turn .i) (turn .inv .0)
+    (turn .inv .1)
     (λ h. c .if1 .taken)
 
 add-i : tie.Need-add-i Inv-loop μ-loop

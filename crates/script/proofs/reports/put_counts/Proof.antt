@@ -1,4 +1,5 @@
--- `put_counts` meets its contract: three fields, one after another, in no more than 36 bytes. Assumes nothing.
+-- `put_counts` meets its contract: three fields, one after another, in no more than 36 bytes. Assumes
+-- nothing.
 use Prim.Native.Nat.{_+_, _≤_}
 use native.Mathlib.Omega.{arith}
 use lib.ListN.{length}
@@ -17,33 +18,49 @@ room s =
     omega (
       arith,
       s .pre,
-      length-counts (s .args .line) (s .args .answer) (s .args .rounds) (omega arith) (omega arith) (omega arith),
+      length-counts (s .args .line) (s .args .answer) (s .args .rounds) (omega arith) (omega arith)
+          (omega arith),
     )
 
 put-field-requires : tie.Need-put-field-requires
 put-field-requires c κs = omega (arith, room (c .before .before))
 
 put-field-requires-2 : tie.Need-put-field-requires-2
-put-field-requires-2 c κs = 
+put-field-requires-2 c κs =
     let first = c .before .before .before .put-field in
-    omega (arith, room (c .before .before .before .before .before .before), first .kept .0, first .ensures .ended)
+    omega (
+      arith,
+      room (c .before .before .before .before .before .before),
+      first .kept .0,
+      first .ensures .ended,
+    )
 
 put-field-requires-3 : tie.Need-put-field-requires-3
-put-field-requires-3 c κs = 
+put-field-requires-3 c κs =
     let first = c .before .before .before .before .before .before .before .put-field in
     let second = c .before .before .before .put-field2 in
-    omega (arith, room (c .before .before .before .before .before .before .before .before .before .before), first .kept .0, first .ensures .ended, second .kept .0, second .ensures .ended)
+    omega (
+      arith,
+      room (c .before .before .before .before .before .before .before .before .before .before),
+      first .kept .0,
+      first .ensures .ended,
+      second .kept .0,
+      second .ensures .ended,
+    )
 
 same-length : tie.Need-same-length
 same-length c = search needs
 
 returns : tie.Need-returns
-returns c = 
-    let start = c .before .before .before .before .before .before .before .before .before .before .before .before .before in
-    let first = c .before .before .before .before .before .before .before .before .before .before .put-field in
+returns c =
+    let start =
+    c .before .before .before .before .before .before .before .before .before .before .before .before .before in
+    let first =
+    c .before .before .before .before .before .before .before .before .before .before .put-field in
     let second = c .before .before .before .before .before .before .put-field2 in
     let third = c .before .before .put-field3 in
-    put-three (field (start .args .line)) (field (start .args .answer)) (field (start .args .rounds)) (start .args .out .now) 0
+    put-three (field (start .args .line)) (field (start .args .answer)) (field (start .args .rounds))
+    (start .args .out .now) 0
     (first .last .0) (second .last .0) (third .last .0) (first .result) (second .result) (third .result)
     (omega (arith, room start)) (first .ensures) (second .ensures) (third .ensures)
 

@@ -16,19 +16,31 @@ put-number-requires : tie.Need-put-number-requires
 put-number-requires c κs = omega (arith, room (c .before .before))
 
 slice-write-out : tie.Need-slice-write-out
-slice-write-out c = omega (arith, c .before .before .put-number .kept .0, c .before .before .put-number .ensures .ended, room (c .before .before .before .before .before))
+slice-write-out c =
+    omega (
+      arith,
+      c .before .before .put-number .kept .0,
+      c .before .before .put-number .ensures .ended,
+      room (c .before .before .before .before .before),
+    )
 
 add-result : tie.Need-add-result
-add-result c = omega (arith, c .before .before .put-number .ensures .ended, room (c .before .before .before .before .before))
+add-result c =
+    omega (
+      arith,
+      c .before .before .put-number .ensures .ended,
+      room (c .before .before .before .before .before),
+    )
 
 same-length : tie.Need-same-length
 same-length c = search needs
 
 returns : tie.Need-returns
-returns c = 
+returns c =
     let start = c .before .before .before .before .before in
     let put = c .before .before .put-number in
-    put-snoc (decimal (start .args .value)) (start .args .out .now) (start .args .at) (put .last .0) (put .result)
+    put-snoc (decimal (start .args .value)) (start .args .out .now) (start .args .at) (put .last .0)
+    (put .result)
     (put .ensures) (room start) space
 
 pub put-field-spec : {M : Type 1} → statement M

@@ -1,5 +1,5 @@
--- `put_later` meets its contract. The invariant: the first stores are put, in no more than eleven bytes each. The
--- measure: the stores that are left. Assumes nothing.
+-- `put_later` meets its contract. The invariant: the first stores are put, in no more than eleven bytes each.
+-- The measure: the stores that are left. Assumes nothing.
 use Prim.Native.Nat.{_-_}
 use native.Mathlib.Omega.{arith}
 use lib.ListN.{length}
@@ -15,9 +15,10 @@ abbrev μ-loop : tie.MeasureT-loop
 μ-loop out₀ at stores next₀ i₀ out next i = length stores - i
 
 loop-holds : tie.Need-loop-holds Inv-loop μ-loop
-loop-holds c = 
+loop-holds c =
     let start = c .before .before in
-    listed-none (start .args .stores .now) (start .args .out .now) (start .args .at) (omega (arith, start .pre))
+    listed-none (start .args .stores .now) (start .args .out .now) (start .args .at)
+    (omega (arith, start .pre))
 
 mul-put-store : tie.Need-mul-put-store Inv-loop μ-loop
 mul-put-store c = search needs
@@ -26,7 +27,13 @@ shared-slice-read-put-store : tie.Need-shared-slice-read-put-store Inv-loop μ-l
 shared-slice-read-put-store c = search needs
 
 put-store-requires : tie.Need-put-store-requires Inv-loop μ-loop
-put-store-requires c κs = omega (arith, c .before .before .before .loop .inv, c .before .before .loop-test .taken, c .before .before .before .before .before .before .pre)
+put-store-requires c κs =
+    omega (
+      arith,
+      c .before .before .before .loop .inv,
+      c .before .before .loop-test .taken,
+      c .before .before .before .before .before .before .pre,
+    )
 
 add-i : tie.Need-add-i Inv-loop μ-loop
 add-i c = search needs
@@ -35,22 +42,25 @@ loop-less : tie.Need-loop-less Inv-loop μ-loop
 loop-less c = search needs
 
 loop-again : tie.Need-loop-again Inv-loop μ-loop
-loop-again c = 
+loop-again c =
     let start = c .before .before .before .before .before .before .before .before .before in
     let turn = c .before .before .before .before .before .before .loop in
     let put = c .before .before .put-store in
-    listed-more (start .args .stores .now) (start .args .out .now) (start .args .at) (start .pre) (turn .out) (turn .next)
-    (turn .i) (turn .inv) (put .last .0) (put .result) (c .before .before .before .before .before .loop-test .taken) (put .kept .0)
+    listed-more (start .args .stores .now) (start .args .out .now) (start .args .at) (start .pre) (turn .out)
+    (turn .next)
+    (turn .i) (turn .inv) (put .last .0) (put .result)
+    (c .before .before .before .before .before .loop-test .taken) (put .kept .0)
     (c .before .before .before .shared-slice-known2 .given (turn .i) .fits) (put .ensures)
 
 same-length : tie.Need-same-length Inv-loop μ-loop
 same-length c = c .before .loop .inv .same
 
 returns : tie.Need-returns Inv-loop μ-loop
-returns c = 
+returns c =
     let start = c .before .before .before .before in
     let end = c .before .loop in
-    listed-all (start .args .stores .now) (start .args .out .now) (start .args .at) (start .pre) (end .out) (end .next)
+    listed-all (start .args .stores .now) (start .args .out .now) (start .args .at) (start .pre) (end .out)
+    (end .next)
     (end .i) (end .inv) (c .loop-test .left)
 
 pub put-later-spec : {M : Type 1} → statement M

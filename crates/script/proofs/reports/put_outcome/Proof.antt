@@ -17,19 +17,31 @@ put-word-requires : tie.Need-put-word-requires
 put-word-requires c κs = search needs
 
 slice-write-out : tie.Need-slice-write-out
-slice-write-out c = omega (arith, c .before .before .put-word .kept .0, c .before .before .put-word .ensures .ended, room (c .before .before .before .before .before))
+slice-write-out c =
+    omega (
+      arith,
+      c .before .before .put-word .kept .0,
+      c .before .before .put-word .ensures .ended,
+      room (c .before .before .before .before .before),
+    )
 
 add-result : tie.Need-add-result
-add-result c = omega (arith, c .before .before .put-word .ensures .ended, room (c .before .before .before .before .before))
+add-result c =
+    omega (
+      arith,
+      c .before .before .put-word .ensures .ended,
+      room (c .before .before .before .before .before),
+    )
 
 same-length : tie.Need-same-length
 same-length c = search needs
 
 returns : tie.Need-returns
-returns c = 
+returns c =
     let start = c .before .before .before .before .before in
     let put = c .before .before .put-word in
-    put-snoc (outcomeText (start .args .outcome)) (start .args .out .now) (start .args .at) (put .last .0) (put .result)
+    put-snoc (outcomeText (start .args .outcome)) (start .args .out .now) (start .args .at) (put .last .0)
+    (put .result)
     (put .ensures) (room start) space
 
 pub put-outcome-spec : {M : Type 1} → statement M

@@ -26,10 +26,11 @@ same-length : tie.Need-same-length
 same-length c = c .before .before .put-number .kept .0 ∙ simp length-set
 
 returns : tie.Need-returns
-returns c = 
+returns c =
     let start = c .before .before .before .before .before in
     let put = c .before .before .put-number in
-    put-cons comma (decimal (start .args .store)) (start .args .out .now) (start .args .at) (put .last .0) (put .result)
+    put-cons comma (decimal (start .args .store)) (start .args .out .now) (start .args .at) (put .last .0)
+    (put .result)
     (room start) (put .ensures)
 
 pub put-store-spec : {M : Type 1} → statement M

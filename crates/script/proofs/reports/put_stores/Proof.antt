@@ -1,13 +1,8 @@
 -- `put_stores` meets its contract: `-`, or the first store and the later ones. Assumes nothing.
-use mathlib.Core.Path.{ap, subst}
-use Prim.Native.Nat.{ℕ, _+_, _*_, _≤_}
 use native.Mathlib.Omega.{arith}
-use lib.ListN.{length, drop}
 use borrow.Author.Needs.{needs}
-use Rattle.script.specs.Texts.{Put}
-use Rattle.script.specs.Reports.{laterText}
 use Rattle.script.proofs.Laws.Texts.{take-drop}
-use Rattle.script.proofs.Laws.Reports.{Small, put-none, put-some, first-fits, later-fits}
+use Rattle.script.proofs.Laws.Reports.{put-none, put-some, first-fits, later-fits}
 use Rattle.script.proofs.reports.put_stores.Statement.{statement}
 use Rattle.script.proofs.reports.put_stores.Tie as tie
 
@@ -21,7 +16,7 @@ same-length : tie.Need-same-length
 same-length c = search needs
 
 returns : tie.Need-returns
-returns c = 
+returns c =
     let start = c .before .before .before in
     put-none (start .args .stores .now) (start .args .out .now) (start .args .at) (start .pre) (c .if1 .taken)
 
@@ -32,9 +27,10 @@ cast-put-number : tie.Need-cast-put-number
 cast-put-number c = omega (arith, c .shared-slice-known2 .given 0)
 
 put-number-requires : tie.Need-put-number-requires
-put-number-requires c κs = 
+put-number-requires c κs =
     let start = c .before .before .before .before .before in
-    first-fits (start .args .stores .now) (start .args .out .now) (start .args .at) (start .pre) (c .before .before .if1 .left)
+    first-fits (start .args .stores .now) (start .args .out .now) (start .args .at) (start .pre)
+    (c .before .before .if1 .left)
     (λ index. c .shared-slice-known2 .given index .fits)
 
 sub-put-later : tie.Need-sub-put-later
@@ -47,26 +43,30 @@ part-put-later-end : tie.Need-part-put-later-end
 part-put-later-end c = search needs
 
 put-later-requires : tie.Need-put-later-requires
-put-later-requires c κs = 
+put-later-requires c κs =
     let start = c .before .before .before .before .before .before .before .before .before .before in
     let first = c .before .before .before .before .put-number in
     rw take-drop
     (omega (
       arith,
       first .kept .0,
-      later-fits (start .args .stores .now) (start .args .out .now) (start .args .at) (start .pre) (c .before .before .before .before .before .before .before .if1 .left)
-      (λ index. c .before .before .before .before .before .shared-slice-known2 .given index .fits) (first .last .0) (first .result) (first .ensures),
+      later-fits (start .args .stores .now) (start .args .out .now) (start .args .at) (start .pre)
+          (c .before .before .before .before .before .before .before .if1 .left)
+          (λ index. c .before .before .before .before .before .shared-slice-known2 .given index .fits)
+          (first .last .0) (first .result) (first .ensures),
     ))
 
 same-length-2 : tie.Need-same-length-2
 same-length-2 c = search needs
 
 returns-2 : tie.Need-returns-2
-returns-2 c = 
-    let start = c .before .before .before .before .before .before .before .before .before .before .before .before .before in
+returns-2 c =
+    let start =
+    c .before .before .before .before .before .before .before .before .before .before .before .before .before in
     let first = c .before .before .before .before .before .before .before .put-number in
     let later = c .before .before .put-later in
-    put-some (start .args .stores .now) (start .args .out .now) (start .args .at) (start .pre) (c .before .before .before .before .before .before .before .before .before .before .if1 .left)
+    put-some (start .args .stores .now) (start .args .out .now) (start .args .at) (start .pre)
+    (c .before .before .before .before .before .before .before .before .before .before .if1 .left)
     (λ index. c .before .before .before .before .before .before .before .before .shared-slice-known2 .given index .fits) (first .last .0) (first .result) (first .ensures)
     (later .last .0) (later .result) (rw take-drop at (later .ensures))
 

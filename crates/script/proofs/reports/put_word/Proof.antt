@@ -17,7 +17,9 @@ same-length : tie.Need-same-length
 same-length c = search needs
 
 returns : tie.Need-returns
-returns c = rw (outcomeText-none (c .before .before .before .before .before .before .before .args .outcome) (c .before .before .before .before .before .if1 .taken)) (c .before .before .put-text .ensures)
+returns c =
+    rw (outcomeText-none (c .before .before .before .before .before .before .before .args .outcome)
+    (c .before .before .before .before .before .if1 .taken)) (c .before .before .put-text .ensures)
 
 slice-aggregate-put-text-2 : tie.Need-slice-aggregate-put-text-2
 slice-aggregate-put-text-2 c = search needs
@@ -29,7 +31,9 @@ same-length-2 : tie.Need-same-length-2
 same-length-2 c = search needs
 
 returns-2 : tie.Need-returns-2
-returns-2 c = rw (outcomeText-placed (c .before .before .before .before .before .before .before .before .args .outcome) (c .before .before .before .before .before .if2 .taken)) (c .before .before .put-text2 .ensures)
+returns-2 c =
+    rw (outcomeText-placed (c .before .before .before .before .before .before .before .before .args .outcome)
+    (c .before .before .before .before .before .if2 .taken)) (c .before .before .put-text2 .ensures)
 
 slice-aggregate-put-text-3 : tie.Need-slice-aggregate-put-text-3
 slice-aggregate-put-text-3 c = search needs
@@ -41,7 +45,10 @@ same-length-3 : tie.Need-same-length-3
 same-length-3 c = search needs
 
 returns-3 : tie.Need-returns-3
-returns-3 c = rw (outcomeText-waiting (c .before .before .before .before .before .before .before .before .before .args .outcome) (c .before .before .before .before .before .if3 .taken)) (c .before .before .put-text3 .ensures)
+returns-3 c =
+    rw (outcomeText-waiting
+    (c .before .before .before .before .before .before .before .before .before .args .outcome)
+    (c .before .before .before .before .before .if3 .taken)) (c .before .before .put-text3 .ensures)
 
 slice-aggregate-put-text-4 : tie.Need-slice-aggregate-put-text-4
 slice-aggregate-put-text-4 c = search needs
@@ -53,10 +60,13 @@ same-length-4 : tie.Need-same-length-4
 same-length-4 c = search needs
 
 returns-4 : tie.Need-returns-4
-returns-4 c = rw (outcomeText-notTried (c .before .before .before .before .before .before .before .before .before .before .args .outcome) (c .before .before .before .before .before .if4 .taken)) (c .before .before .put-text4 .ensures)
+returns-4 c =
+    rw (outcomeText-notTried
+    (c .before .before .before .before .before .before .before .before .before .before .args .outcome)
+    (c .before .before .before .before .before .if4 .taken)) (c .before .before .put-text4 .ensures)
 
 put-number-requires : tie.Need-put-number-requires
-put-number-requires c κs = 
+put-number-requires c κs =
     let start = c .before .before .before .before .before .before in
     omega (arith, start .pre, length-decimal 2 (start .args .outcome) (omega arith))
 
@@ -64,8 +74,12 @@ same-length-5 : tie.Need-same-length-5
 same-length-5 c = search needs
 
 returns-5 : tie.Need-returns-5
-returns-5 c = 
-    rw (outcomeText-refusal (c .before .before .before .before .before .before .before .before .before .args .outcome) (c .before .before .before .before .before .before .before .if1 .left) (c .before .before .before .before .before .before .if2 .left) (c .before .before .before .before .before .if3 .left) (c .before .before .before .before .if4 .left))
+returns-5 c =
+    rw (outcomeText-refusal
+    (c .before .before .before .before .before .before .before .before .before .args .outcome)
+    (c .before .before .before .before .before .before .before .if1 .left)
+    (c .before .before .before .before .before .before .if2 .left)
+    (c .before .before .before .before .before .if3 .left) (c .before .before .before .before .if4 .left))
     (c .before .before .put-number .ensures)
 
 pub put-word-spec : {M : Type 1} → statement M

@@ -1,5 +1,5 @@
--- `put_number` meets its contract: a number below ten is one digit, and a larger one is its tenth and its last digit.
--- The measure is the number. Assumes nothing.
+-- `put_number` meets its contract: a number below ten is one digit, and a larger one is its tenth and its
+-- last digit. The measure is the number. Assumes nothing.
 use Prim.Native.Nat.{ℕ, _<_}
 use native.Mathlib.Omega.{arith}
 use borrow.Author.Needs.{needs}
@@ -43,19 +43,21 @@ put-number-slice-write-out : (t : ℕ) → put-number-lts.Need-slice-write-out (
   put-number-below t,
   put-number.Post,
 ) (put-number-at t) put-number.Post
-put-number-slice-write-out t c = 
+put-number-slice-write-out t c =
     let start = c .before .before in
-    decimal-fits-small (start .args .value) (start .args .out .now) (start .args .at) (start .pre .1) (c .if1 .taken)
+    decimal-fits-small (start .args .value) (start .args .out .now) (start .args .at) (start .pre .1)
+    (c .if1 .taken)
 
 put-number-add-result : (t : ℕ) → put-number-lts.Need-add-result (
   put-number-below t,
   put-number.Post,
 ) (put-number-at t) put-number.Post
-put-number-add-result t c = 
+put-number-add-result t c =
     let start = c .before .before in
     omega (
       arith,
-      decimal-fits-small (start .args .value) (start .args .out .now) (start .args .at) (start .pre .1) (c .if1 .taken),
+      decimal-fits-small (start .args .value) (start .args .out .now) (start .args .at) (start .pre .1)
+          (c .if1 .taken),
     )
 
 put-number-same-length : (t : ℕ) → put-number-lts.Need-same-length (
@@ -70,7 +72,7 @@ put-number-returns :
     (put-number-below t, put-number.Post)
     (put-number-at t)
     put-number.Post
-put-number-returns t c = 
+put-number-returns t c =
     let start = c .before .before in
     put-small (start .args .value) (start .args .out .now) (start .args .at) (start .pre .1) (c .if1 .taken)
 
@@ -78,13 +80,13 @@ put-number-put-number-requires : (t : ℕ) → put-number-lts.Need-put-number-re
   put-number-below t,
   put-number.Post,
 ) (put-number-at t) put-number.Post
-put-number-put-number-requires t c κs = 
-    let start = c .before .before .before in
-    (
+put-number-put-number-requires t c κs =
+    let start = c .before .before .before in (
       omega (arith, start .pre .0),
       omega (
         arith,
-        decimal-fits-large (start .args .value) (start .args .out .now) (start .args .at) (start .pre .1) (c .before .if1 .left),
+        decimal-fits-large (start .args .value) (start .args .out .now) (start .args .at) (start .pre .1)
+            (c .before .if1 .left),
       ),
     )
 
@@ -104,17 +106,28 @@ put-number-slice-write-out-2 : (t : ℕ) → put-number-lts.Need-slice-write-out
   put-number-below t,
   put-number.Post,
 ) (put-number-at t) put-number.Post
-put-number-slice-write-out-2 t c = 
+put-number-slice-write-out-2 t c =
     let start = c .before .before .before .before .before .before in
-    omega (arith, c .before .before .put-number .kept .0, c .before .before .put-number .ensures .ended, decimal-fits-large (start .args .value) (start .args .out .now) (start .args .at) (start .pre .1) (c .before .before .before .before .if1 .left))
+    omega (
+      arith,
+      c .before .before .put-number .kept .0,
+      c .before .before .put-number .ensures .ended,
+      decimal-fits-large (start .args .value) (start .args .out .now) (start .args .at) (start .pre .1)
+          (c .before .before .before .before .if1 .left),
+    )
 
 put-number-add-result-2 : (t : ℕ) → put-number-lts.Need-add-result-2 (
   put-number-below t,
   put-number.Post,
 ) (put-number-at t) put-number.Post
-put-number-add-result-2 t c = 
+put-number-add-result-2 t c =
     let start = c .before .before .before .before .before .before in
-    omega (arith, c .before .before .put-number .ensures .ended, decimal-fits-large (start .args .value) (start .args .out .now) (start .args .at) (start .pre .1) (c .before .before .before .before .if1 .left))
+    omega (
+      arith,
+      c .before .before .put-number .ensures .ended,
+      decimal-fits-large (start .args .value) (start .args .out .now) (start .args .at) (start .pre .1)
+          (c .before .before .before .before .if1 .left),
+    )
 
 put-number-same-length-2 : (t : ℕ) → put-number-lts.Need-same-length-2 (
   put-number-below t,
@@ -126,9 +139,11 @@ put-number-returns-2 : (t : ℕ) → put-number-lts.Need-returns-2 (
   put-number-below t,
   put-number.Post,
 ) (put-number-at t) put-number.Post
-put-number-returns-2 t c = 
+put-number-returns-2 t c =
     let start = c .before .before .before .before .before .before in
-    put-large (start .args .value) (start .args .out .now) (start .args .at) (start .pre .1) (c .before .before .before .before .if1 .left) (c .before .before .put-number .last .0) (c .before .before .put-number .result) (c .before .before .put-number .ensures)
+    put-large (start .args .value) (start .args .out .now) (start .args .at) (start .pre .1)
+    (c .before .before .before .before .if1 .left) (c .before .before .put-number .last .0)
+    (c .before .before .put-number .result) (c .before .before .put-number .ensures)
 
 pub +put-number-spec : {M : Type 1} → statement M
 +put-number-spec = close μ-put-number λ t. put-number-lts.spec (

@@ -1,5 +1,5 @@
--- `put_text` meets its contract. The invariant: the first bytes are put, and the length stays. The measure: the bytes
--- that are left. Assumes nothing.
+-- `put_text` meets its contract. The invariant: the first bytes are put, and the length stays. The measure:
+-- the bytes that are left. Assumes nothing.
 use mathlib.Core.Path.{_≡_, refl}
 use Prim.Native.Nat.{_-_, _≤_, zero-le}
 use lib.ListN.{length, length-set}
@@ -35,13 +35,13 @@ loop-less : tie.Need-loop-less Inv-loop μ-loop
 loop-less c = search needs
 
 loop-again : tie.Need-loop-again Inv-loop μ-loop
-loop-again c = 
+loop-again c =
     let turn = c .before .before .loop in
-    let start = c .before .before .before in
-    (
+    let start = c .before .before .before in (
       search needs,
       (
-        paste-turn (start .args .out .now) (start .args .at) (start .args .text .now) (start .pre) (turn .done) (turn .out)
+        paste-turn (start .args .out .now) (start .args .at) (start .args .text .now) (start .pre)
+            (turn .done) (turn .out)
             (turn .inv .1 .0) (c .before .loop-test .taken),
         simp length-set (turn .inv .1 .1),
       ),
@@ -54,10 +54,11 @@ same-length : tie.Need-same-length Inv-loop μ-loop
 same-length c = c .before .loop .inv .1 .1
 
 returns : tie.Need-returns Inv-loop μ-loop
-returns c = 
+returns c =
     let start = c .before .before in
     let end = c .before .loop in
-    put-of-paste (start .args .out .now) (start .args .at) (start .args .text .now) (start .pre) (end .done) (end .out)
+    put-of-paste (start .args .out .now) (start .args .at) (start .args .text .now) (start .pre) (end .done)
+    (end .out)
     (end .inv .1 .0) (end .inv .0) (c .loop-test .left)
 
 pub put-text-spec : {M : Type 1} → statement M

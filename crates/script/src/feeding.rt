@@ -18,7 +18,8 @@ pub enum Feed {
 // Where one more byte of a line leads.
 fn feed_line(buffer: &mut [u8], held: usize, byte: u8) -> Feed
     requires { ⌜ length (now buffer) ≡ lineRoom ⌝ }
-    ensures { λ r. ⌜ readingIn r (now (buffer .exit)) ≡ cut (stepIn (take held (now (buffer .entry))) byte) ⌝ }
+    ensures { λ r.
+      ⌜ readingIn r (now (buffer .exit)) ≡ cut (stepIn (take held (now (buffer .entry))) byte) ⌝ }
 {
     if byte == 10 {
         return Feed::Ended(held);
@@ -33,7 +34,8 @@ fn feed_line(buffer: &mut [u8], held: usize, byte: u8) -> Feed
 // Where one more byte of input leads.
 pub fn feed_byte(state: Feed, buffer: &mut [u8], byte: u8) -> Feed
     requires { ⌜ length (now buffer) ≡ lineRoom ⌝ }
-    ensures { λ r. ⌜ readingIn r (now (buffer .exit)) ≡ cut (step (readingIn state (now (buffer .entry))) byte) ⌝ }
+    ensures { λ r.
+      ⌜ readingIn r (now (buffer .exit)) ≡ cut (step (readingIn state (now (buffer .entry))) byte) ⌝ }
 {
     match state {
         Feed::Names => {

@@ -53,16 +53,14 @@ same-length c = search needs
 
 returns : tie.Need-returns
 returns c =
-    let start =
-    c .before .before .before .before .before .before .before .before .before .before .before .before .before in
-    let first =
-    c .before .before .before .before .before .before .before .before .before .before .put-field in
-    let second = c .before .before .before .before .before .before .put-field2 in
-    let third = c .before .before .put-field3 in
-    put-three (field (start .args .line)) (field (start .args .answer)) (field (start .args .rounds))
-    (start .args .out .now) 0
-    (first .last .0) (second .last .0) (third .last .0) (first .result) (second .result) (third .result)
-    (omega (arith, room start)) (first .ensures) (second .ensures) (third .ensures)
+    let third = c .before .before in
+    let second = third .before .before .before .before in
+    let first = second .before .before .before .before in
+    let s = first .before .before .before .args in
+    put-three (field (s .line)) (field (s .answer)) (field (s .rounds)) (s .out .now) 0 (first .put-field .last .0)
+    (second .put-field2 .last .0) (third .put-field3 .last .0) (first .put-field .result)
+    (second .put-field2 .result) (third .put-field3 .result) (omega (arith, room (first .before .before .before)))
+    (first .put-field .ensures) (second .put-field2 .ensures) (third .put-field3 .ensures)
 
 pub put-counts-spec : {M : Type 1} → statement M
 put-counts-spec =

@@ -44,16 +44,16 @@ part-put-later-end c = search needs
 
 put-later-requires : tie.Need-put-later-requires
 put-later-requires c κs =
-    let start = c .before .before .before .before .before .before .before .before .before .before in
-    let first = c .before .before .before .before .put-number in
+    let first = c .before .before .before .before in
+    let some = first .before .before .before in
+    let start = some .before .before .before in
     rw take-drop
     (omega (
       arith,
-      first .kept .0,
+      first .put-number .kept .0,
       later-fits (start .args .stores .now) (start .args .out .now) (start .args .at) (start .pre)
-          (c .before .before .before .before .before .before .before .if1 .left)
-          (λ index. c .before .before .before .before .before .shared-slice-known2 .given index .fits)
-          (first .last .0) (first .result) (first .ensures),
+          (some .if1 .left) (λ index. first .before .shared-slice-known2 .given index .fits)
+          (first .put-number .last .0) (first .put-number .result) (first .put-number .ensures),
     ))
 
 same-length-2 : tie.Need-same-length-2
@@ -61,14 +61,14 @@ same-length-2 c = search needs
 
 returns-2 : tie.Need-returns-2
 returns-2 c =
-    let start =
-    c .before .before .before .before .before .before .before .before .before .before .before .before .before in
-    let first = c .before .before .before .before .before .before .before .put-number in
-    let later = c .before .before .put-later in
-    put-some (start .args .stores .now) (start .args .out .now) (start .args .at) (start .pre)
-    (c .before .before .before .before .before .before .before .before .before .before .if1 .left)
-    (λ index. c .before .before .before .before .before .before .before .before .shared-slice-known2 .given index .fits) (first .last .0) (first .result) (first .ensures)
-    (later .last .0) (later .result) (rw take-drop at (later .ensures))
+    let later = c .before .before in
+    let first = later .before .before .before .before .before in
+    let some = first .before .before .before in
+    let start = some .before .before .before in
+    put-some (start .args .stores .now) (start .args .out .now) (start .args .at) (start .pre) (some .if1 .left)
+    (λ index. first .before .shared-slice-known2 .given index .fits) (first .put-number .last .0)
+    (first .put-number .result) (first .put-number .ensures) (later .put-later .last .0)
+    (later .put-later .result) (rw take-drop at (later .put-later .ensures))
 
 pub put-stores-spec : {M : Type 1} → statement M
 put-stores-spec =

@@ -19,7 +19,7 @@ pub enum Feed {
 fn feed_line(buffer: &mut [u8], held: usize, byte: u8) -> Feed
     requires { ⌜ length (now buffer) ≡ lineRoom ⌝ }
     ensures { λ r.
-      ⌜ readingIn r (now (buffer .exit)) ≡ cut (stepIn (take held (now (buffer .entry))) byte) ⌝ }
+        ⌜ readingIn r (now (buffer .exit)) ≡ cut (stepIn (take held (now (buffer .entry))) byte) ⌝ }
 {
     if byte == 10 {
         return Feed::Ended(held);
@@ -35,7 +35,7 @@ fn feed_line(buffer: &mut [u8], held: usize, byte: u8) -> Feed
 pub fn feed_byte(state: Feed, buffer: &mut [u8], byte: u8) -> Feed
     requires { ⌜ length (now buffer) ≡ lineRoom ⌝ }
     ensures { λ r.
-      ⌜ readingIn r (now (buffer .exit)) ≡ cut (step (readingIn state (now (buffer .entry))) byte) ⌝ }
+        ⌜ readingIn r (now (buffer .exit)) ≡ cut (step (readingIn state (now (buffer .entry))) byte) ⌝ }
 {
     match state {
         Feed::Names => {

@@ -103,8 +103,8 @@ fn put_counts(out: &mut [u8], line: u64, answer: u8, rounds: u32) -> usize
 }
 
 // Puts a line of the listing at the front, with its newline, and answers its length. The outcome is given by
-// its number, and all stores of the slice are listed. Lines are counted in 64 bits: a large file can have more
-// than 2^32.
+// its number, and all stores of the slice are listed. Lines are counted in 64 bits: a large file can have
+// more than 2^32.
 pub fn put_report(
     out: &mut [u8],
     line: u64,
@@ -116,7 +116,7 @@ pub fn put_report(
 ) -> usize
     requires { ⌜ reportRoom (length (now stores)) ≤ length (now out) ⌝ }
     ensures { λ r.
-      ⌜ Put (reportLine line answer rounds outcome head (now (stores .entry))) (now (out .entry)) 0
+        ⌜ Put (reportLine line answer rounds outcome head (now (stores .entry))) (now (out .entry)) 0
         (now (out .exit)) r ⌝ }
 {
     let after_rounds = put_counts(out, line, answer, rounds);

@@ -47,7 +47,11 @@ module _ (line answer rounds outcome head : ℕ) (stores : List ℕ) where
   short l a r o h small =
       record {
         counts-short =
-            simp length-append (omega (arith, simp length-append at (length-counts line answer rounds l a r)));
+            simp length-append (omega (
+              arith,
+              simp length-append at
+                  (length-counts line answer rounds l a r),
+            ));
         outcome-short = simp length-append (omega (arith, length-outcomeText outcome o));
         head-short = length-field-count head h;
         stores-short = length-storesText stores small;

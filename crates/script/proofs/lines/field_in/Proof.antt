@@ -49,7 +49,8 @@ is-dash-requires c κs = search needs
 
 returns : tie.Need-returns Inv-loop μ-loop
 returns c =
-    sym (fieldOf-dash (c .before .before .before .args .bytes .now) (sym (c .before .is-dash .ensures) ∙ c .if1 .taken))
+    sym (fieldOf-dash (c .before .before .before .args .bytes .now)
+    (sym (c .before .is-dash .ensures) ∙ c .if1 .taken))
 
 returns-2 : tie.Need-returns-2 Inv-loop μ-loop
 returns-2 c =
@@ -68,19 +69,25 @@ shared-slice-read-byte : tie.Need-shared-slice-read-byte Inv-loop μ-loop
 shared-slice-read-byte c = search needs
 
 returns-4 : tie.Need-returns-4 Inv-loop μ-loop
-returns-4 c = not-digit (c .before .before .before) (c .before .before .loop-test .taken) (isDigit-low _ (c .if4 .taken))
+returns-4 c =
+    not-digit (c .before .before .before) (c .before .before .loop-test .taken)
+    (isDigit-low _ (c .if4 .taken))
 
 returns-5 : tie.Need-returns-5 Inv-loop μ-loop
-returns-5 c = not-digit (c .before .before .before .before) (c .before .before .before .loop-test .taken) (isDigit-high _ (c .if5 .taken))
+returns-5 c =
+    not-digit (c .before .before .before .before) (c .before .before .before .loop-test .taken)
+    (isDigit-high _ (c .if5 .taken))
 
 mul-value : tie.Need-mul-value Inv-loop μ-loop
-mul-value c = omega (arith, small (c .before .before .before .before) (c .before .before .before .loop-test .taken))
+mul-value c =
+    omega (arith, small (c .before .before .before .before) (c .before .before .before .loop-test .taken))
 
 cast-value : tie.Need-cast-value Inv-loop μ-loop
 cast-value c = search needs
 
 add-value : tie.Need-add-value Inv-loop μ-loop
-add-value c = omega (arith, small (c .before .before .before .before) (c .before .before .before .loop-test .taken))
+add-value c =
+    omega (arith, small (c .before .before .before .before) (c .before .before .before .loop-test .taken))
 
 add-i : tie.Need-add-i Inv-loop μ-loop
 add-i c = search needs

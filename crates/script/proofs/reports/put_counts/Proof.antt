@@ -57,9 +57,11 @@ returns c =
     let second = third .before .before .before .before in
     let first = second .before .before .before .before in
     let s = first .before .before .before .args in
-    put-three (field (s .line)) (field (s .answer)) (field (s .rounds)) (s .out .now) 0 (first .put-field .last .0)
+    put-three (field (s .line)) (field (s .answer)) (field (s .rounds)) (s .out .now) 0
+    (first .put-field .last .0)
     (second .put-field2 .last .0) (third .put-field3 .last .0) (first .put-field .result)
-    (second .put-field2 .result) (third .put-field3 .result) (omega (arith, room (first .before .before .before)))
+    (second .put-field2 .result) (third .put-field3 .result)
+    (omega (arith, room (first .before .before .before)))
     (first .put-field .ensures) (second .put-field2 .ensures) (third .put-field3 .ensures)
 
 pub put-counts-spec : {M : Type 1} → statement M

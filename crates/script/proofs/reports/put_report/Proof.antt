@@ -35,7 +35,8 @@ parts :
     (c .before .before .args .outcome) (c .before .before .args .head) (c .before .before .args .stores .now)
 parts c =
     let s = c .before .before .args in
-    short (s .line) (s .answer) (s .rounds) (s .outcome) (s .head) (s .stores .now) (omega arith) (omega arith)
+    short (s .line) (s .answer) (s .rounds) (s .outcome) (s .head) (s .stores .now) (omega arith)
+    (omega arith)
     (omega arith) (omega arith) (omega arith) (λ index. c .shared-slice-known .given index .fits)
 
 counts-end :
@@ -48,8 +49,7 @@ outcome-end :
     (c : tie.After-put-outcome) →
     (c .put-outcome .result ≤ 46) × (length (c .put-outcome .last .0) ≡ length (out-of (at-counts c)))
 outcome-end c =
-    let earlier = counts-end (at-counts c) in
-    (
+    let earlier = counts-end (at-counts c) in (
       omega (
         arith,
         c .put-outcome .ensures .ended,
@@ -61,10 +61,10 @@ outcome-end c =
 
 head-end :
     (c : tie.After-put-field) →
-    (c .put-field .result ≤ 57) × (length (c .put-field .last .0) ≡ length (out-of (at-counts (at-outcome c))))
+    (c .put-field .result ≤ 57) × (length (c .put-field .last .0) ≡
+    length (out-of (at-counts (at-outcome c))))
 head-end c =
-    let earlier = outcome-end (at-outcome c) in
-    (
+    let earlier = outcome-end (at-outcome c) in (
       omega (
         arith,
         c .put-field .ensures .ended,
@@ -88,7 +88,13 @@ put-field-requires : tie.Need-put-field-requires
 put-field-requires c κs =
     let fate = c .before .before .before in
     let start = at-start (at-counts fate) in
-    omega (arith, outcome-end fate .0, outcome-end fate .1, parts start .head-short, start .before .before .pre)
+    omega (
+      arith,
+      outcome-end fate .0,
+      outcome-end fate .1,
+      parts start .head-short,
+      start .before .before .pre,
+    )
 
 put-stores-requires : tie.Need-put-stores-requires
 put-stores-requires c κs =
@@ -105,7 +111,8 @@ same :
     length (c .put-stores .last .0) ≡ length (out-of (at-counts (at-outcome (at-head c))))
 same c = c .put-stores .kept .0 ∙ head-end (at-head c) .1
 
-room : (c : tie.After-put-stores) → c .put-stores .result < length (out-of (at-counts (at-outcome (at-head c))))
+room : (c : tie.After-put-stores) → c .put-stores .result < length
+    (out-of (at-counts (at-outcome (at-head c))))
 room c =
     let after = at-head c in
     let fate = at-outcome after in
@@ -113,9 +120,12 @@ room c =
     let s = at-start counts .before .before in
     newline-inside (s .args .line) (s .args .answer) (s .args .rounds) (s .args .outcome) (s .args .head)
     (s .args .stores .now) (s .args .out .now) (s .pre) (parts (at-start counts))
-    (counts .put-counts .last .0) (fate .put-outcome .last .0) (after .put-field .last .0) (c .put-stores .last .0)
-    (counts .put-counts .result) (fate .put-outcome .result) (after .put-field .result) (c .put-stores .result)
-    (counts .put-counts .ensures) (fate .put-outcome .ensures) (after .put-field .ensures) (c .put-stores .ensures)
+    (counts .put-counts .last .0) (fate .put-outcome .last .0) (after .put-field .last .0)
+    (c .put-stores .last .0)
+    (counts .put-counts .result) (fate .put-outcome .result) (after .put-field .result)
+    (c .put-stores .result)
+    (counts .put-counts .ensures) (fate .put-outcome .ensures) (after .put-field .ensures)
+    (c .put-stores .ensures)
 
 slice-write-out : tie.Need-slice-write-out
 slice-write-out c = omega (arith, same (c .before .before), room (c .before .before))
@@ -139,7 +149,8 @@ returns c =
     (s .args .stores .now) (s .args .out .now) (s .pre) (parts (at-start counts))
     (counts .put-counts .last .0) (fate .put-outcome .last .0) (after .put-field .last .0)
     (list .put-stores .last .0)
-    (counts .put-counts .result) (fate .put-outcome .result) (after .put-field .result) (list .put-stores .result)
+    (counts .put-counts .result) (fate .put-outcome .result) (after .put-field .result)
+    (list .put-stores .result)
     (counts .put-counts .ensures) (fate .put-outcome .ensures) (after .put-field .ensures)
     (list .put-stores .ensures)
 

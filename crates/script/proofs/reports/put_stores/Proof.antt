@@ -65,7 +65,8 @@ returns-2 c =
     let first = later .before .before .before .before .before in
     let some = first .before .before .before in
     let start = some .before .before .before in
-    put-some (start .args .stores .now) (start .args .out .now) (start .args .at) (start .pre) (some .if1 .left)
+    put-some (start .args .stores .now) (start .args .out .now) (start .args .at) (start .pre)
+    (some .if1 .left)
     (λ index. first .before .shared-slice-known2 .given index .fits) (first .put-number .last .0)
     (first .put-number .result) (first .put-number .ensures) (later .put-later .last .0)
     (later .put-later .result) (rw take-drop at (later .put-later .ensures))

@@ -1,4 +1,4 @@
--- The laws of texts and lines.
+-- The laws of digits, lines of input, texts, lines of output and input as a whole, and computed samples.
 pub mod Digits
 pub mod Lines
 pub mod Texts

@@ -33,17 +33,19 @@ pub record Split (bytes : Bytes) (at : ℕ) : Type 0 where
 abbrev pub isNumber : Bytes → Bool
 isNumber bytes = ltb 0 (length bytes) && leb (length bytes) 9 && isDigits bytes
 
+-- `-` alone
 unfoldable pub isDash : Bytes → Bool
 isDash [] = false
 isDash (byte ∷ []) = eqb byte dash
 isDash (byte ∷ next ∷ bytes) = false
 
--- what the bytes of a field say
+-- a number, `-`, or anything else
 pub data Field : Type 0 where
   number : (value : ℕ) → Field
   absent : Field
   other : Field
 
+-- what the bytes before or after the first space say
 unfoldable pub fieldOf : Bytes → Field
 fieldOf bytes = cond (isDash bytes) absent (cond (isNumber bytes) (number (digitsValue bytes)) other)
 
@@ -54,6 +56,7 @@ pub data Line : Type 0 where
   good : (number : ℕ) → (offer : Option ℕ) → Line
   bad : Line
 
+-- what two fields make of a line
 abbrev pub lineFrom : (first second : Field) → Line
 lineFrom (number value) (number offer) = good value (some offer)
 lineFrom (number value) absent = good value none

@@ -63,8 +63,7 @@ countsText line answer rounds = field line ++ field answer ++ field rounds
 abbrev pub reportLine : (line answer rounds outcome head : ℕ) → (stores : List ℕ) → Bytes
 reportLine line answer rounds outcome head stores =
     countsText line answer rounds ++ (outcomeText outcome ++ (space ∷ [])) ++ field head ++
-    storesText stores ++
-    (newline ∷ [])
+    storesText stores ++ (newline ∷ [])
 
 -- ---- room ----
 
@@ -72,7 +71,7 @@ reportLine line answer rounds outcome head stores =
 abbrev pub storesRoom : (count : ℕ) → ℕ
 storesRoom count = 11 * count + 1
 
--- bytes that hold a line with so many stores: numbers below 2^32, the line's below 2^64, the answer's below
--- 2^8
+-- bytes that hold a line with so many stores: its number below 2^64, answer and outcome below 2^8, the other
+-- numbers below 2^32
 abbrev pub reportRoom : (count : ℕ) → ℕ
 reportRoom count = 58 + storesRoom count

@@ -49,13 +49,13 @@ length-field most value h =
     omega (arith, length-append (decimal value) (space ∷ []), length-decimal most value h)
 
 -- the three widths of a number and the space after it
-pub length-field-line : (value : ℕ) → value < 2 ^ 64 → length (field value) ≤ 21
+length-field-line : (value : ℕ) → value < 2 ^ 64 → length (field value) ≤ 21
 length-field-line value h = length-field 19 value (omega arith)
 
 pub length-field-count : (value : ℕ) → value < 2 ^ 32 → length (field value) ≤ 11
 length-field-count value h = length-field 9 value (omega arith)
 
-pub length-field-answer : (value : ℕ) → value < 2 ^ 8 → length (field value) ≤ 4
+length-field-answer : (value : ℕ) → value < 2 ^ 8 → length (field value) ≤ 4
 length-field-answer value h = length-field 2 value (omega arith)
 
 pub length-counts :
@@ -89,12 +89,12 @@ laterText-snoc (first ∷ stores) store =
 pub length-decimal-store : (store : ℕ) → store < 2 ^ 32 → length (decimal store) ≤ 10
 length-decimal-store store h = length-decimal 9 store (omega arith)
 
-pub storesText-none : (stores : List ℕ) → length stores ≡ 0 → storesText stores ≡ dash ∷ []
+storesText-none : (stores : List ℕ) → length stores ≡ 0 → storesText stores ≡ dash ∷ []
 unfolding storesText
 storesText-none [] e = refl
 storesText-none (store ∷ stores) e = absurd (omega arith)
 
-pub storesText-some :
+storesText-some :
     (stores : List ℕ) → length stores ≢ 0 → storesText stores ≡ decimal (getD stores 0 0) ++
     laterText (drop 1 stores)
 unfolding storesText
@@ -105,7 +105,7 @@ storesText-some (store ∷ stores) ne = refl
 abbrev pub Small : List ℕ → Type 0
 Small stores = (index : ℕ) → getD stores index 0 < 2 ^ 32
 
-pub length-laterText : (stores : List ℕ) → Small stores → length (laterText stores) ≤ 11 * length stores
+length-laterText : (stores : List ℕ) → Small stores → length (laterText stores) ≤ 11 * length stores
 unfolding laterText
 length-laterText [] small = omega arith
 length-laterText (store ∷ stores) small =

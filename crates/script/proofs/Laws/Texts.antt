@@ -22,7 +22,7 @@ put-one out at byte h = record { placed = sym (over-one out at byte h); ended = 
 
 module _ (text out : Bytes) (at : ℕ) (after : Bytes) (next : ℕ) (put : Put text out at after next)
     (fits : at + length text ≤ length out) where
-  pub put-length : length after ≡ length out
+  put-length : length after ≡ length out
   put-length = ap length (put .placed) ∙ length-over text out at fits
 
   -- one text after another
@@ -61,7 +61,7 @@ put-cons byte text out at after end h put =
 -- one byte after a text
 module _ (text out : Bytes) (at : ℕ) (after : Bytes) (last : ℕ) (put : Put text out at after last)
     (fits : at + length text < length out) where
-  pub last-inside : last < length out
+  last-inside : last < length out
   last-inside = omega (arith, put .ended)
 
   pub put-snoc : (byte : ℕ) → Put (text ++ (byte ∷ [])) out at (set after last byte) (last + 1)

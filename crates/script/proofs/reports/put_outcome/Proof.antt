@@ -1,0 +1,49 @@
+-- `put_outcome` meets its contract: a word or a number, and one byte after it. Assumes nothing.
+use Prim.Native.Nat.{_+_, _<_}
+use native.Mathlib.Omega.{arith}
+use lib.ListN.{length}
+use borrow.Author.Needs.{needs}
+use Rattle.script.specs.Texts.{space}
+use Rattle.script.specs.Reports.{outcomeText}
+use Rattle.script.proofs.Laws.Texts.{put-snoc}
+use Rattle.script.proofs.Laws.Reports.{length-outcomeText}
+use Rattle.script.proofs.reports.put_outcome.Statement.{statement}
+use Rattle.script.proofs.reports.put_outcome.Tie as tie
+
+room : (s : tie.Start) → s .args .at + length (outcomeText (s .args .outcome)) < length (s .args .out .now)
+room s = omega (arith, s .pre, length-outcomeText (s .args .outcome) (omega arith))
+
+put-word-requires : tie.Need-put-word-requires
+put-word-requires c κs = search needs
+
+slice-write-out : tie.Need-slice-write-out
+slice-write-out c =
+    omega (
+      arith,
+      c .before .before .put-word .kept .0,
+      c .before .before .put-word .ensures .ended,
+      room (c .before .before .before .before .before),
+    )
+
+add-result : tie.Need-add-result
+add-result c =
+    omega (
+      arith,
+      c .before .before .put-word .ensures .ended,
+      room (c .before .before .before .before .before),
+    )
+
+same-length : tie.Need-same-length
+same-length c = search needs
+
+returns : tie.Need-returns
+returns c =
+    let start = c .before .before .before .before .before in
+    let put = c .before .before .put-word in
+    put-snoc (outcomeText (start .args .outcome)) (start .args .out .now) (start .args .at) (put .last .0)
+    (put .result)
+    (put .ensures) (room start) space
+
+pub put-outcome-spec : {M : Type 1} → statement M
+put-outcome-spec =
+    tie.close (tie.spec put-word-requires slice-write-out add-result same-length returns)

@@ -1,0 +1,38 @@
+-- `put_store` meets its contract: a comma, and a number of at most ten digits. Assumes nothing.
+use mathlib.Core.Path.{_∙_}
+use Prim.Native.Nat.{_+_, _≤_}
+use native.Mathlib.Omega.{arith}
+use lib.ListN.{length, length-set}
+use borrow.Author.Needs.{needs}
+use Rattle.script.specs.Texts.{comma, decimal}
+use Rattle.script.proofs.Laws.Texts.{put-cons}
+use Rattle.script.proofs.Laws.Reports.{length-decimal-store}
+use Rattle.script.proofs.reports.put_store.Statement.{statement}
+use Rattle.script.proofs.reports.put_store.Tie as tie
+
+room : (s : tie.Start) → s .args .at + 1 + length (decimal (s .args .store)) ≤ length (s .args .out .now)
+room s = omega (arith, s .pre, length-decimal-store (s .args .store) (omega arith))
+
+slice-write-out : tie.Need-slice-write-out
+slice-write-out c = search needs
+
+add-put-number : tie.Need-add-put-number
+add-put-number c = search needs
+
+put-number-requires : tie.Need-put-number-requires
+put-number-requires c κs = simp length-set (room (c .before .before))
+
+same-length : tie.Need-same-length
+same-length c = c .before .before .put-number .kept .0 ∙ simp length-set
+
+returns : tie.Need-returns
+returns c =
+    let start = c .before .before .before .before .before in
+    let put = c .before .before .put-number in
+    put-cons comma (decimal (start .args .store)) (start .args .out .now) (start .args .at) (put .last .0)
+    (put .result)
+    (room start) (put .ensures)
+
+pub put-store-spec : {M : Type 1} → statement M
+put-store-spec =
+    tie.close (tie.spec slice-write-out add-put-number put-number-requires same-length returns)

@@ -1,0 +1,90 @@
+-- `put_stores` meets its contract: `-`, or the first store and the later ones. Assumes nothing.
+use native.Mathlib.Omega.{arith}
+use borrow.Author.Needs.{needs}
+use Rattle.script.proofs.Laws.Texts.{take-drop}
+use Rattle.script.proofs.Laws.Reports.{put-none, put-some, first-fits, later-fits}
+use Rattle.script.proofs.reports.put_stores.Statement.{statement}
+use Rattle.script.proofs.reports.put_stores.Tie as tie
+
+slice-write-out : tie.Need-slice-write-out
+slice-write-out c = search needs
+
+add-result : tie.Need-add-result
+add-result c = search needs
+
+same-length : tie.Need-same-length
+same-length c = search needs
+
+returns : tie.Need-returns
+returns c =
+    let start = c .before .before .before in
+    put-none (start .args .stores .now) (start .args .out .now) (start .args .at) (start .pre) (c .if1 .taken)
+
+shared-slice-read-put-number : tie.Need-shared-slice-read-put-number
+shared-slice-read-put-number c = search needs
+
+cast-put-number : tie.Need-cast-put-number
+cast-put-number c = omega (arith, c .shared-slice-known2 .given 0)
+
+put-number-requires : tie.Need-put-number-requires
+put-number-requires c κs =
+    let start = c .before .before .before .before .before in
+    first-fits (start .args .stores .now) (start .args .out .now) (start .args .at) (start .pre)
+    (c .before .before .if1 .left)
+    (λ index. c .shared-slice-known2 .given index .fits)
+
+sub-put-later : tie.Need-sub-put-later
+sub-put-later c = search needs
+
+part-put-later-start : tie.Need-part-put-later-start
+part-put-later-start c = search needs
+
+part-put-later-end : tie.Need-part-put-later-end
+part-put-later-end c = search needs
+
+put-later-requires : tie.Need-put-later-requires
+put-later-requires c κs =
+    let first = c .before .before .before .before in
+    let some = first .before .before .before in
+    let start = some .before .before .before in
+    rw take-drop
+    (omega (
+      arith,
+      first .put-number .kept .0,
+      later-fits (start .args .stores .now) (start .args .out .now) (start .args .at) (start .pre)
+          (some .if1 .left) (λ index. first .before .shared-slice-known2 .given index .fits)
+          (first .put-number .last .0) (first .put-number .result) (first .put-number .ensures),
+    ))
+
+same-length-2 : tie.Need-same-length-2
+same-length-2 c = search needs
+
+returns-2 : tie.Need-returns-2
+returns-2 c =
+    let later = c .before .before in
+    let first = later .before .before .before .before .before in
+    let some = first .before .before .before in
+    let start = some .before .before .before in
+    put-some (start .args .stores .now) (start .args .out .now) (start .args .at) (start .pre)
+    (some .if1 .left)
+    (λ index. first .before .shared-slice-known2 .given index .fits) (first .put-number .last .0)
+    (first .put-number .result) (first .put-number .ensures) (later .put-later .last .0)
+    (later .put-later .result) (rw take-drop at (later .put-later .ensures))
+
+pub put-stores-spec : {M : Type 1} → statement M
+put-stores-spec =
+    tie.close
+    (tie.spec
+    slice-write-out
+    add-result
+    same-length
+    returns
+    shared-slice-read-put-number
+    cast-put-number
+    put-number-requires
+    sub-put-later
+    part-put-later-start
+    part-put-later-end
+    put-later-requires
+    same-length-2
+    returns-2)

@@ -1,5 +1,6 @@
 // The calls of the mapper (document 01, "Public numbers and hidden outcomes"). None has a `requires`: each contract
 // fixes the answer and the bytes that the call leaves, for every input.
 mod formatting; // header, map, bitmap and root of a fresh drive
+mod needs; // the rounds, stores and random bytes that a write takes, and its refusals
 
 pub use formatting::format_drive;

@@ -1,6 +1,8 @@
 // Prints document 01's figures of geometry and formatting ("Figures to hold against"): a line for each, with the
 // number that the document gives and the number that the code gives.
-use layout::geometry::{Geometry, area_start, block_count};
+use layout::geometry::Geometry;
+use layout::geometry::area_start;
+use layout::geometry::block_count;
 use libc::STDOUT_FILENO;
 use mapper::format_drive;
 ghost use mathlib.Core.Path.{_≡_};
@@ -63,9 +65,24 @@ fn print_areas() {
 
 // The answers of formatting, each on a disk of its own.
 fn print_answers() {
-    print_answer(b"B 32, k 2, P 3, H 2, M 4", 0, &mut [170u8; 512], two_high(32, 3, 2, 4));
-    print_answer(b"H 56, M 57", 0, &mut [170u8; 5600], two_high(32, 1, 56, 57));
-    print_answer(b"H 57, M 58", 1, &mut [170u8; 5696], two_high(32, 1, 57, 58));
+    print_answer(
+        b"B 32, k 2, P 3, H 2, M 4",
+        0,
+        &mut [170u8; 512],
+        two_high(32, 3, 2, 4),
+    );
+    print_answer(
+        b"H 56, M 57",
+        0,
+        &mut [170u8; 5600],
+        two_high(32, 1, 56, 57),
+    );
+    print_answer(
+        b"H 57, M 58",
+        1,
+        &mut [170u8; 5696],
+        two_high(32, 1, 57, 58),
+    );
     print_answer(b"P 4", 1, &mut [170u8; 512], two_high(32, 4, 2, 4));
     print_answer(b"B 16", 1, &mut [170u8; 256], two_high(16, 3, 2, 4));
     print_answer(b"B 48", 1, &mut [170u8; 768], two_high(48, 3, 2, 4));
@@ -75,7 +92,32 @@ fn print_answers() {
 
 // The header of a fresh drive, the last byte before its data area and the first byte in it.
 fn print_fresh() {
-    let header = [32u8, 0, 0, 0, 2, 0, 0, 0, 3, 0, 0, 0, 2, 0, 0, 0, 4, 0, 0, 0, 0, 0, 0, 0];
+    let header = [
+        32u8,
+        0,
+        0,
+        0,
+        2,
+        0,
+        0,
+        0,
+        3,
+        0,
+        0,
+        0,
+        2,
+        0,
+        0,
+        0,
+        4,
+        0,
+        0,
+        0,
+        0,
+        0,
+        0,
+        0,
+    ];
     let mut disk = [170u8; 512];
     format_drive(&mut disk, two_high(32, 3, 2, 4));
     io::write_all(STDOUT_FILENO, b"header expected");

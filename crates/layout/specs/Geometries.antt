@@ -1,4 +1,5 @@
--- The geometry that a declared one says, and what the areas of any such geometry are counted under. Assumes nothing.
+-- The geometry that a declared one says, and what the areas of any such geometry are counted under. Assumes
+-- nothing.
 use Prim.Native.Nat.{_≤_}
 use Rattle.model.specs.Geometry as model
 use Rattle.layout.specs.declared.geometry.Geometry as declared

@@ -29,12 +29,12 @@ pub fn size_fault(len: usize, g: Geometry) -> u8
 pub fn drive_fault(disk: &[u8]) -> u8
     ensures { λ r. ⌜ r ≡ driveRefusal (now (disk .entry)) ⌝ }
 {
-    let len = disk.len();
-    if len < 24 {
+    let bytes = disk.len();
+    if bytes < 24 {
         return 1;
     }
     let g = geometry_in(disk);
-    let fault = size_fault(len, g);
+    let fault = size_fault(bytes, g);
     if fault != 0 {
         return fault;
     }

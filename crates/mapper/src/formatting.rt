@@ -1,6 +1,7 @@
 // Formatting: header (head 0), map, bitmap and root, all zero but for the header's entries; the data area stays.
 use layout::entries::put_entry;
-use layout::geometry::{Geometry, area_start};
+use layout::geometry::Geometry;
+use layout::geometry::area_start;
 use layout::refusals::size_fault;
 ghost use mathlib.Core.Path.{_≡_};
 ghost use mathlib.Core.List.{_∷_, []};

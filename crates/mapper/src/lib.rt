@@ -1,6 +1,12 @@
 // The calls of the mapper (document 01, "Public numbers and hidden outcomes"). None has a `requires`: each contract
 // fixes the answer and the bytes that the call leaves, for every input.
 mod formatting; // header, map, bitmap and root of a fresh drive
+mod public; // refusals 4 to 6, and the public read
+mod hidden; // refusals 10 to 12, and the hidden read
 mod needs; // the rounds, stores and random bytes that a write takes, and its refusals
 
 pub use formatting::format_drive;
+pub use public::public_fault;
+pub use public::public_read;
+pub use hidden::hidden_fault;
+pub use hidden::hidden_read;

@@ -52,7 +52,8 @@ cast-print-figure-2 c = search needs
 mul-print-figure : tie.Need-mul-print-figure
 mul-print-figure c =
     let f = fits (c .before .before .before .before .before .before .before .before .before) in
-    rw (c .before .before .before .before .before .before .before .block-count .ensures) (omega (arith, mul-le-mul (le-of-lt (f .blocks-high)) (f .size-high)))
+    rw (c .before .before .before .before .before .before .before .block-count .ensures)
+    (omega (arith, mul-le-mul (le-of-lt (f .blocks-high)) (f .size-high)))
 
 print-figure-requires-3 : tie.Need-print-figure-requires-3
 print-figure-requires-3 c κs = search needs

@@ -1,4 +1,5 @@
--- Laws of a bit's weight in a byte: what a shift gives, and that setting or clearing the bit stays in the byte.
+-- Laws of a bit's weight in a byte: what a shift gives, and that setting or clearing the bit stays in the
+-- byte.
 -- Assumes nothing.
 use mathlib.Core.Path.{_≡_, sym, ap, _∙_}
 use mathlib.Core.Bool.{true, false}
@@ -16,7 +17,8 @@ weight-is place h = omega (arith, shl-exact {a = 1} 1 place 8 (omega arith) (ome
 
 -- a clear bit leaves room for its weight
 room-of-digit :
-    (size place byte : ℕ) → place < size → byte < 2 ^ size → byte / 2 ^ place % 2 ≡ 0 → byte + 2 ^ place < 2 ^ size
+    (size place byte : ℕ) → place < size → byte < 2 ^ size → byte / 2 ^ place % 2 ≡ 0 →
+    byte + 2 ^ place < 2 ^ size
 room-of-digit zero place byte h k e = absurd (omega arith)
 room-of-digit (suc size) zero byte h k e = omega arith
 room-of-digit (suc size) (suc place) byte h k e =
@@ -24,7 +26,8 @@ room-of-digit (suc size) (suc place) byte h k e =
     ap (λ (n : ℕ). n % 2) (shr-shr byte 1 place ∙ ap (λ (n : ℕ). byte / 2 ^ n) (one-add place)) ∙ e in
     omega (arith, room-of-digit size place (byte / 2) (omega arith) (omega arith) q)
 
-pub room-of-bitOf : (place byte : ℕ) → place < 8 → byte < 256 → bitOf place byte ≡ false → byte + 2 ^ place < 256
+pub room-of-bitOf : (place byte : ℕ) → place < 8 → byte < 256 → bitOf place byte ≡ false →
+    byte + 2 ^ place < 256
 unfolding bitOf
 room-of-bitOf place byte h k e =
     room-of-digit 8 place byte h k (omega (arith, eqb-false (byte / 2 ^ place % 2) 1 e))

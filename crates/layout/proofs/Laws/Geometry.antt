@@ -1,4 +1,5 @@
--- Laws of the geometry's test, one for each way through it, and of the numbers that it counts with: bounds that keep
+-- Laws of the geometry's test, one for each way through it, and of the numbers that it counts with: bounds
+-- that keep
 -- them inside a machine number, and the powers of the tree. Assumes nothing.
 use mathlib.Core.Path.{_≡_, refl, sym, ap, _∙_, subst}
 use mathlib.Core.Logic.{_⊎_, inl, inr, ⊎-elim}
@@ -12,7 +13,8 @@ use borrow.Author.Tests.{lt-ltb, le-ltb, le-leb, lt-leb, eqb-true}
 use Rattle.laws.specs.Division.{ceilDiv}
 use Rattle.laws.proofs.Cases.{or-cases, true-is-not-false}
 use Rattle.laws.proofs.Division.{pow-one, pow-two, pow-three}
-use Rattle.model.specs.Geometry.{Geometry, Fits, fanout, mapBlocks, areaBlocks, bitmapBlocks, blockCount, treeCapacity, blockSizes, isOneOf, isGeometry}
+use Rattle.model.specs.Geometry.{Geometry, Fits, fanout, mapBlocks, areaBlocks, bitmapBlocks, blockCount}
+use Rattle.model.specs.Geometry.{treeCapacity, blockSizes, isOneOf, isGeometry}
 use Rattle.layout.specs.Geometries.{Bounded}
 
 -- ---- block sizes ----
@@ -86,7 +88,8 @@ module _ (g : Geometry) where
 
   -- all tests but the last hold
   pub left-to-blocks :
-      isOneOf (g .blockSize) blockSizes ≡ true → 2 ≤ g .height → g .height ≤ 4 → 1 ≤ g .publics → 1 ≤ g .hidden →
+      isOneOf (g .blockSize) blockSizes ≡ true → 2 ≤ g .height → g .height ≤ 4 → 1 ≤ g .publics →
+      1 ≤ g .hidden →
       g .publics < g .slots → g .hidden < g .slots → g .hidden ≤ treeCapacity g →
       leb (blockCount g) 2147483647 ≡ isGeometry g
   unfolding isGeometry

@@ -18,12 +18,14 @@ map-entry-inside g disk number d h =
     let f = d .fits in
     let blocks = 1 + mapBlocks g in
     let inside : blocks ≤ blockCount g = omega arith in
-    let sized : blocks * g .blockSize ≡ blocks * (4 * fanout g) = ap (λ (n : ℕ). blocks * n) (f .size-entries) in
+    let sized : blocks * g .blockSize ≡ blocks * (4 * fanout g) =
+    ap (λ (n : ℕ). blocks * n) (f .size-entries) in
     omega (
       arith,
       d .whole,
       mul-le-mul-right (g .blockSize) inside,
       mul-left-comm blocks 4 (fanout g),
       add-mul 1 (mapBlocks g) (fanout g),
-      ceilDiv-covers (g .publics) (fanout g) (omega (arith, fanout-low g f)),
+      ceilDiv-covers (g .publics) (fanout g)
+          (omega (arith, fanout-low g f)),
     )

@@ -35,7 +35,8 @@ module _ (bytes : ℕ) (g : Geometry) where
     pub size-whole : bytes ≡ driveSize g → 0 ≡ sizeRefusal bytes g
     unfolding sizeRefusal sizeChecks
     size-whole e =
-        sym (firstOf-pass 1 _ first-passes ∙ firstOf-pass 2 [] (ap not (eq-eqb bytes (driveSize g) e)) ∙ firstOf-nil)
+        sym (firstOf-pass 1 _ first-passes ∙ firstOf-pass 2 [] (ap not (eq-eqb bytes (driveSize g) e))
+        ∙ firstOf-nil)
 
     pub size-other : bytes ≢ driveSize g → 2 ≡ sizeRefusal bytes g
     unfolding sizeRefusal sizeChecks
@@ -47,9 +48,11 @@ module _ (bytes : ℕ) (g : Geometry) where
 module _ (disk : Bytes) where
   pub drive-short : length disk < 24 → 1 ≡ driveRefusal disk
   unfolding driveRefusal driveChecks sizeChecks
-  drive-short h = sym (firstOf-stop 1 _ (or-left (not (isGeometry (geometryIn disk))) (lt-ltb (length disk) 24 h)))
+  drive-short h = sym (firstOf-stop 1 _ (or-left (not (isGeometry (geometryIn disk)))
+      (lt-ltb (length disk) 24 h)))
 
-  pub drive-sized : (fault : ℕ) → fault ≡ sizeRefusal (length disk) (geometryIn disk) → fault ≢ 0 → fault ≡ driveRefusal disk
+  pub drive-sized : (fault : ℕ) → fault ≡ sizeRefusal (length disk) (geometryIn disk) → fault ≢ 0 →
+      fault ≡ driveRefusal disk
   unfolding sizeRefusal driveRefusal driveChecks
   drive-sized fault e f =
       e ∙ sym (firstOf-append-stop (sizeChecks (length disk) (geometryIn disk)) _ (λ z. f (e ∙ z)))

@@ -1,4 +1,5 @@
--- Laws of formatting: zeros written one after another, entries written one after another, and the header over zeros as
+-- Laws of formatting: zeros written one after another, entries written one after another, and the header over
+-- zeros as
 -- the front of a fresh drive. Assumes nothing.
 use mathlib.Core.Path.{_≡_, refl, sym, ap, _∙_}
 use mathlib.Core.Logic.{_≢_}
@@ -47,7 +48,8 @@ pub record Cleared (old : Bytes) (size : ℕ) (bytes : Bytes) (i : ℕ) : Type 0
 pub cleared-none : (old : Bytes) (size : ℕ) → Cleared old size old 0
 cleared-none old size = record { within = omega arith; cleared = sym (over-nil 0 old (omega arith)) }
 
-module _ {old : Bytes} {size : ℕ} {bytes : Bytes} {i : ℕ} (before : Cleared old size bytes i) (inside : size ≤ length old) where
+module _ {old : Bytes} {size : ℕ} {bytes : Bytes} {i : ℕ} (before : Cleared old size bytes i)
+    (inside : size ≤ length old) where
   pub cleared-length : length bytes ≡ length old
   cleared-length =
       ap length (before .cleared)
@@ -77,7 +79,8 @@ packed-append (x ∷ xs) ys =
 -- one more entry where the packed ones end
 setEntry-packed :
     (entries : List ℕ) (entry : ℕ) (bytes : Bytes) → 4 * length entries + 4 ≤ length bytes →
-    setEntry (length entries) entry (over 0 (packed entries) bytes) ≡ over 0 (packed (entries ++ (entry ∷ []))) bytes
+    setEntry (length entries) entry (over 0 (packed entries) bytes) ≡
+    over 0 (packed (entries ++ (entry ∷ []))) bytes
 unfolding setEntry packed
 setEntry-packed entries entry bytes h =
     let size = length-packed entries in
@@ -86,13 +89,16 @@ setEntry-packed entries entry bytes h =
     ap (λ (n : ℕ). over n (littleEndian 4 entry) (over 0 (packed entries) bytes)) end
     ∙ over-append (packed entries) bytes 0 (omega arith) (littleEndian 4 entry) (omega arith)
     ∙ ap (λ (xs : Bytes). over 0 xs bytes)
-    (sym (packed-append entries (entry ∷ []) ∙ ap (λ (xs : Bytes). packed entries ++ xs) (append-nil (littleEndian 4 entry))))
+    (sym (packed-append entries (entry ∷ []) ∙ ap (λ (xs : Bytes). packed entries ++ xs)
+    (append-nil (littleEndian 4 entry))))
 
 entriesFrom-packed :
     (entries more : List ℕ) (bytes : Bytes) → 4 * length entries + 4 * length more ≤ length bytes →
-    entriesFrom (length entries) more (over 0 (packed entries) bytes) ≡ over 0 (packed (entries ++ more)) bytes
+    entriesFrom (length entries) more (over 0 (packed entries) bytes) ≡
+    over 0 (packed (entries ++ more)) bytes
 unfolding entriesFrom
-entriesFrom-packed entries [] bytes h = ap (λ (xs : List ℕ). over 0 (packed xs) bytes) (sym (append-nil entries))
+entriesFrom-packed entries [] bytes h = ap (λ (xs : List ℕ). over 0 (packed xs) bytes)
+    (sym (append-nil entries))
 entriesFrom-packed entries (entry ∷ more) bytes h =
     let size : length (entries ++ (entry ∷ [])) ≡ suc (length entries) = simp length-append (omega arith) in
     ap (entriesFrom (suc (length entries)) more) (setEntry-packed entries entry bytes (omega arith))
@@ -115,7 +121,8 @@ header-put g disk h =
 
 -- a front written over again
 over-front :
-    (new xs ys bytes : Bytes) → length new ≡ length xs → over 0 new (over 0 (xs ++ ys) bytes) ≡ over 0 (new ++ ys) bytes
+    (new xs ys bytes : Bytes) → length new ≡ length xs →
+    over 0 new (over 0 (xs ++ ys) bytes) ≡ over 0 (new ++ ys) bytes
 unfolding over
 over-front new xs ys bytes e =
     let size : 0 + length (xs ++ ys) ≡ 0 + length (new ++ ys) = simp length-append (omega arith) in
@@ -125,7 +132,8 @@ over-front new xs ys bytes e =
     ∙ ap (λ (zs : Bytes). new ++ zs) (drop-at xs (ys ++ rest) (0 + length new) (omega arith))
     ∙ sym (append-assoc new ys rest)
 
-zeros-of-blocks : (start size : ℕ) → 1 ≤ start → 24 ≤ size → size - 24 + (start - 1) * size ≡ start * size - 24
+zeros-of-blocks : (start size : ℕ) → 1 ≤ start → 24 ≤ size →
+    size - 24 + (start - 1) * size ≡ start * size - 24
 zeros-of-blocks zero size h k = absurd (omega arith)
 zeros-of-blocks (suc start) size h k =
     let e : suc start - 1 ≡ start = omega arith in
@@ -158,7 +166,8 @@ module _ (g : Geometry) (f : Fits g) where
       let header = packed (headerEntries g) in
       let rest : Bytes = replicate (areaStart g * g .blockSize - 24) 0 in
       ap (λ (xs : Bytes). over 0 header (over 0 xs disk))
-      (sym (replicate-append-replicate 24 (areaStart g * g .blockSize - 24) 0 ∙ ap (λ (n : ℕ). replicate n 0) front-zeros))
+      (sym (replicate-append-replicate 24 (areaStart g * g .blockSize - 24) 0
+      ∙ ap (λ (n : ℕ). replicate n 0) front-zeros))
       ∙ over-front header (replicate 24 0) rest disk length-header
       ∙ ap (λ (xs : Bytes). over 0 xs disk) (sym freshFront-is)
 
@@ -174,6 +183,7 @@ pub formatted-refused : (disk : Bytes) (g : Geometry) → formatRefusal disk g �
 unfolding formatted
 formatted-refused disk g h = sym (cond-false _ _ (ne-eqb (formatRefusal disk g) 0 h))
 
-pub formatted-accepted : (disk : Bytes) (g : Geometry) → formatRefusal disk g ≡ 0 → over 0 (freshFront g) disk ≡ formatted disk g
+pub formatted-accepted : (disk : Bytes) (g : Geometry) → formatRefusal disk g ≡ 0 →
+    over 0 (freshFront g) disk ≡ formatted disk g
 unfolding formatted
 formatted-accepted disk g e = sym (cond-true _ _ (eq-eqb (formatRefusal disk g) 0 e))

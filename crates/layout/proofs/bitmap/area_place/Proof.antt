@@ -1,4 +1,5 @@
--- `layout::bitmap::area_place` meets its contract: the data area is smaller than 2^31 blocks. Assumes nothing.
+-- `layout::bitmap::area_place` meets its contract: the data area is smaller than 2^31 blocks. Assumes
+-- nothing.
 use native.Mathlib.Omega.{arith}
 use borrow.Author.Needs.{needs}
 use Rattle.model.proofs.Laws.Geometry.{slot-place-lt}
@@ -15,7 +16,12 @@ add-result c = search needs
 mul-result : tie.Need-mul-result
 mul-result c =
     let s = c .before in
-    omega (arith, s .pre .0 .blocks-high, slot-place-lt (geometryOf (s .args .g)) (s .args .slot) 0 (s .pre .1) (omega arith))
+    omega (
+      arith,
+      s .pre .0 .blocks-high,
+      slot-place-lt (geometryOf (s .args .g)) (s .args .slot) 0
+          (s .pre .1) (omega arith),
+    )
 
 returns : tie.Need-returns
 returns c = search needs

@@ -1,4 +1,5 @@
--- `layout::bitmap::bit_address` meets its contract: the block stands before the root, so its address fits. Assumes nothing.
+-- `layout::bitmap::bit_address` meets its contract: the block stands before the root, so its address fits.
+-- Assumes nothing.
 use mathlib.Core.Path.{_≡_, ap}
 use Prim.Native.Nat.{ℕ, _+_, _*_, _/_, _^_, _<_}
 use native.Mathlib.Omega.{arith}
@@ -11,15 +12,18 @@ use Rattle.layout.proofs.bitmap.bit_address.Tie as tie
 
 sum :
     (c : tie.After-map-blocks) →
-    1 + c .map-blocks .result + c .before .before .area-place .result / (8 * c .before .before .before .args .g .«block_size») ≡
+    1 + c .map-blocks .result + c .before .before .area-place .result /
+    (8 * c .before .before .before .args .g .«block_size») ≡
     bitAddress (geometryOf (c .before .before .before .args .g)) (c .before .before .before .args .slot)
 sum c =
-    let before = ap (λ (n : ℕ). n / (8 * c .before .before .before .args .g .«block_size»)) (c .before .before .area-place .ensures) in
+    let before = ap (λ (n : ℕ). n / (8 * c .before .before .before .args .g .«block_size»))
+    (c .before .before .area-place .ensures) in
     omega (arith, c .map-blocks .ensures)
 
 fits :
     (c : tie.After-map-blocks) →
-    1 + c .map-blocks .result + c .before .before .area-place .result / (8 * c .before .before .before .args .g .«block_size») < 2 ^ 31
+    1 + c .map-blocks .result + c .before .before .area-place .result /
+    (8 * c .before .before .before .args .g .«block_size») < 2 ^ 31
 fits c =
     let s = c .before .before .before in
     let g = geometryOf (s .args .g) in

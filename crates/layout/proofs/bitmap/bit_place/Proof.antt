@@ -18,7 +18,8 @@ rem-result : tie.Need-rem-result
 rem-result c = search needs
 
 returns : tie.Need-returns
-returns c = ap (λ (n : ℕ). n % (8 * c .before .before .args .g .«block_size»)) (c .before .area-place .ensures)
+returns c = ap (λ (n : ℕ). n % (8 * c .before .before .args .g .«block_size»))
+    (c .before .area-place .ensures)
 
 pub bit-place-spec : {M : Type 1} → statement M
 bit-place-spec = tie.close (tie.spec area-place-requires cast-result mul-result rem-result returns)

@@ -1,4 +1,5 @@
--- `layout::bitmap::is_allocated` meets its contract: the bitmap block stands in the disk, and the bit in the block.
+-- `layout::bitmap::is_allocated` meets its contract: the bitmap block stands in the disk, and the bit in the
+-- block.
 -- Assumes nothing.
 use mathlib.Core.Bool.{Bool}
 use mathlib.Core.Path.{_≡_, sym, ap, ap₂, _∙_}
@@ -18,7 +19,8 @@ use Rattle.layout.proofs.bitmap.is_allocated.Statement.{statement}
 use Rattle.layout.proofs.bitmap.is_allocated.Tie as tie
 
 address-inside :
-    (s : tie.Start) → bitAddress (geometryOf (s .args .g)) (s .args .slot) < blockCount (geometryOf (s .args .g))
+    (s : tie.Start) → bitAddress (geometryOf (s .args .g)) (s .args .slot) < blockCount
+    (geometryOf (s .args .g))
 address-inside s =
     omega (arith, bitAddress-lt (geometryOf (s .args .g)) (s .pre .0 .fits) (s .args .slot) (s .pre .1))
 
@@ -26,10 +28,12 @@ address-inside s =
 shown :
     (c : tie.After-block-at) →
     c .block-at .result .now ≡
-    blockAt (c .before .before .before .args .g .«block_size») (c .before .before .before .args .disk .now) (bitAddress (geometryOf (c .before .before .before .args .g)) (c .before .before .before .args .slot))
+    blockAt (c .before .before .before .args .g .«block_size») (c .before .before .before .args .disk .now)
+    (bitAddress (geometryOf (c .before .before .before .args .g)) (c .before .before .before .args .slot))
 shown c =
     let s = c .before .before .before .args in
-    c .block-at .ensures ∙ ap (λ (n : ℕ). blockAt (s .g .«block_size») (s .disk .now) n) (c .before .bit-address .ensures)
+    c .block-at .ensures ∙ ap (λ (n : ℕ). blockAt (s .g .«block_size») (s .disk .now) n)
+    (c .before .bit-address .ensures)
 
 bit-address-requires : tie.Need-bit-address-requires
 bit-address-requires c κs = search needs
@@ -48,7 +52,8 @@ bit-at-requires c κs =
     rw (
       c .bit-place .ensures,
       shown (c .before),
-      length-blockAt (g .blockSize) (s .args .disk .now) (blockCount g) (s .pre .0 .whole)
+      length-blockAt (g .blockSize) (s .args .disk .now)
+          (blockCount g) (s .pre .0 .whole)
           (bitAddress g (s .args .slot)) (address-inside s),
     ) (bitPlace-byte-lt g (s .pre .0 .fits) (s .args .slot))
 

@@ -1,4 +1,5 @@
--- `layout::bitmap::with_bit` meets its contract, by whether the bit is 1 and whether it is to be. Assumes nothing.
+-- `layout::bitmap::with_bit` meets its contract, by whether the bit is 1 and whether it is to be. Assumes
+-- nothing.
 use mathlib.Core.Bool.{true, false}
 use mathlib.Core.Path.{_≡_, sym, _∙_}
 use Prim.Native.Nat.{_+_, _*_, _-_, _%_, _^_}
@@ -30,13 +31,18 @@ bit-of-requires c κs = search needs
 sub-result : tie.Need-sub-result
 sub-result c =
     let s = c .before .before .before .args in
-    rw (weight-is (s .place) (c .before .before .before .pre)) (weight-le-of-bitOf (s .place) (s .byte) (set (c .before)))
+    rw (weight-is (s .place) (c .before .before .before .pre))
+    (weight-le-of-bitOf (s .place) (s .byte) (set (c .before)))
 
 add-result : tie.Need-add-result
 add-result c =
     let s = c .before .before .before .args in
     rw (weight-is (s .place) (c .before .before .before .pre))
-    (omega (arith, room-of-bitOf (s .place) (s .byte) (c .before .before .before .pre) (omega arith) (clear (c .before))))
+    (omega (
+      arith,
+      room-of-bitOf (s .place) (s .byte) (c .before .before .before .pre) (omega arith)
+          (clear (c .before)),
+    ))
 
 returns : tie.Need-returns
 returns c =
@@ -46,12 +52,14 @@ returns c =
 returns-2 : tie.Need-returns-2
 returns-2 c =
     let s = c .before .before .before .args in
-    rw (c .if2 .left, weight-is (s .place) (c .before .before .before .pre)) (sym (withBit-clear (s .place) (s .byte) (set (c .before))))
+    rw (c .if2 .left, weight-is (s .place) (c .before .before .before .pre))
+    (sym (withBit-clear (s .place) (s .byte) (set (c .before))))
 
 returns-3 : tie.Need-returns-3
 returns-3 c =
     let s = c .before .before .before .args in
-    rw (c .if3 .taken, weight-is (s .place) (c .before .before .before .pre)) (sym (withBit-set (s .place) (s .byte) (clear (c .before))))
+    rw (c .if3 .taken, weight-is (s .place) (c .before .before .before .pre))
+    (sym (withBit-set (s .place) (s .byte) (clear (c .before))))
 
 returns-4 : tie.Need-returns-4
 returns-4 c =

@@ -16,7 +16,8 @@ inside :
     s .args .address .0 * s .args .g .«block_size» + s .args .g .«block_size» ≤ length (s .args .disk .now)
 inside s =
     let g = geometryOf (s .args .g) in
-    block-inside (g .blockSize) (s .args .disk .now) (blockCount g) (s .pre .0 .whole) (s .args .address .0) (s .pre .1)
+    block-inside (g .blockSize) (s .args .disk .now) (blockCount g) (s .pre .0 .whole) (s .args .address .0)
+    (s .pre .1)
 
 cast-width : tie.Need-cast-width
 cast-width c = search needs

@@ -1,4 +1,5 @@
--- `layout::entries::put_entry` meets its contract: four bytes set make an entry, and no store changes the length.
+-- `layout::entries::put_entry` meets its contract: four bytes set make an entry, and no store changes the
+-- length.
 -- Assumes nothing.
 use native.Mathlib.Omega.{arith}
 use lib.ListN.{length-set}

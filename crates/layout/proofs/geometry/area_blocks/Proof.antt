@@ -1,4 +1,5 @@
--- `layout::geometry::area_blocks` meets its contract: a height of at most 4 keeps the product in 64 bits. Assumes nothing.
+-- `layout::geometry::area_blocks` meets its contract: a height of at most 4 keeps the product in 64 bits.
+-- Assumes nothing.
 use native.Mathlib.Omega.{arith}
 use borrow.Author.Needs.{needs}
 use Rattle.layout.specs.Geometries.{geometryOf}

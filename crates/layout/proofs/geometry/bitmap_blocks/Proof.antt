@@ -20,12 +20,20 @@ mul-ceil-div c = search needs
 
 ceil-div-requires : tie.Need-ceil-div-requires
 ceil-div-requires c κs =
-    let s = c .before .before in
-    (omega (arith, s .pre), omega (arith, s .pre, c .before .area-blocks .ensures, areaBlocks-le (geometryOf (s .args .g)) (s .pre)))
+    let s = c .before .before in (
+      omega (arith, s .pre),
+      omega (
+        arith,
+        s .pre,
+        c .before .area-blocks .ensures,
+        areaBlocks-le (geometryOf (s .args .g)) (s .pre),
+      ),
+    )
 
 returns : tie.Need-returns
 returns c =
-    c .ceil-div .ensures ∙ ap (λ (n : ℕ). ceilDiv n (8 * c .before .before .before .args .g .«block_size»)) (c .before .before .area-blocks .ensures)
+    c .ceil-div .ensures ∙ ap (λ (n : ℕ). ceilDiv n (8 * c .before .before .before .args .g .«block_size»))
+    (c .before .before .area-blocks .ensures)
 
 pub bitmap-blocks-spec : {M : Type 1} → statement M
 bitmap-blocks-spec =

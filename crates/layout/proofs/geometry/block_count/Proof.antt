@@ -1,4 +1,5 @@
--- `layout::geometry::block_count` meets its contract: the areas of 32-bit counts stay far below 2^64. Assumes nothing.
+-- `layout::geometry::block_count` meets its contract: the areas of 32-bit counts stay far below 2^64. Assumes
+-- nothing.
 use native.Mathlib.Omega.{arith}
 use borrow.Author.Needs.{needs}
 use Rattle.layout.specs.Geometries.{geometryOf}
@@ -20,7 +21,11 @@ bitmap-blocks-requires c κs = search needs
 add-result-2 : tie.Need-add-result-2
 add-result-2 c =
     let s = c .before .before in
-    omega (arith, mapBlocks-le (geometryOf (s .args .g)) (s .pre), bitmapBlocks-le (geometryOf (s .args .g)) (s .pre))
+    omega (
+      arith,
+      mapBlocks-le (geometryOf (s .args .g)) (s .pre),
+      bitmapBlocks-le (geometryOf (s .args .g)) (s .pre),
+    )
 
 area-blocks-requires : tie.Need-area-blocks-requires
 area-blocks-requires c κs = search needs
@@ -28,7 +33,12 @@ area-blocks-requires c κs = search needs
 add-result-3 : tie.Need-add-result-3
 add-result-3 c =
     let s = c .before .before .before in
-    omega (arith, mapBlocks-le (geometryOf (s .args .g)) (s .pre), bitmapBlocks-le (geometryOf (s .args .g)) (s .pre), areaBlocks-le (geometryOf (s .args .g)) (s .pre))
+    omega (
+      arith,
+      mapBlocks-le (geometryOf (s .args .g)) (s .pre),
+      bitmapBlocks-le (geometryOf (s .args .g)) (s .pre),
+      areaBlocks-le (geometryOf (s .args .g)) (s .pre),
+    )
 
 returns : tie.Need-returns
 returns c = search needs

@@ -6,7 +6,9 @@ use native.Mathlib.Omega.{arith}
 use lib.Dec.{leb}
 use borrow.Author.Needs.{needs}
 use Rattle.layout.specs.Geometries.{geometryOf, Bounded}
-use Rattle.layout.proofs.Laws.Geometry.{bounded-of-tests, refused-publics, refused-hidden, refused-public-slots, refused-hidden-slots, refused-tree, left-to-blocks}
+use Rattle.layout.proofs.Laws.Geometry.{bounded-of-tests, refused-publics, refused-hidden}
+use Rattle.layout.proofs.Laws.Geometry.{refused-public-slots, refused-hidden-slots, refused-tree}
+use Rattle.layout.proofs.Laws.Geometry.{left-to-blocks}
 use Rattle.layout.proofs.geometry.has_room.Statement.{statement}
 use Rattle.layout.proofs.geometry.has_room.Tie as tie
 
@@ -32,7 +34,8 @@ cast-if5 : tie.Need-cast-if5
 cast-if5 c = search needs
 
 returns-5 : tie.Need-returns-5
-returns-5 c = refused-tree (geometryOf (c .before .before .before .before .before .before .args .g)) (omega (arith, c .before .tree-capacity .ensures, c .if5 .taken))
+returns-5 c = refused-tree (geometryOf (c .before .before .before .before .before .before .args .g))
+    (omega (arith, c .before .tree-capacity .ensures, c .if5 .taken))
 
 block-count-requires : tie.Need-block-count-requires
 block-count-requires c κs = bounded (c .before .before .before .before .before .before)
@@ -41,8 +44,11 @@ returns-6 : tie.Need-returns-6
 returns-6 c =
     let s = c .before .before .before .before .before .before .before in
     ap (λ (n : ℕ). leb n 2147483647) (c .block-count .ensures)
-    ∙ left-to-blocks (geometryOf (s .args .g)) (s .pre .0) (s .pre .1 .0) (s .pre .1 .1) (c .before .before .before .before .before .before .if1 .left) (c .before .before .before .before .before .if2 .left)
-    (c .before .before .before .before .if3 .left) (c .before .before .before .if4 .left) (omega (arith, c .before .before .tree-capacity .ensures, c .before .if5 .left))
+    ∙ left-to-blocks (geometryOf (s .args .g)) (s .pre .0) (s .pre .1 .0) (s .pre .1 .1)
+    (c .before .before .before .before .before .before .if1 .left)
+    (c .before .before .before .before .before .if2 .left)
+    (c .before .before .before .before .if3 .left) (c .before .before .before .if4 .left)
+    (omega (arith, c .before .before .tree-capacity .ensures, c .before .if5 .left))
 
 pub has-room-spec : {M : Type 1} → statement M
 has-room-spec =

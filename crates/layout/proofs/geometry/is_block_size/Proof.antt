@@ -6,7 +6,8 @@ use Rattle.layout.proofs.geometry.is_block_size.Tie as tie
 
 returns : tie.Need-returns
 returns c =
-    ⊎-elim (λ e. rw e) (⊎-elim (λ e. rw e) (⊎-elim (λ e. rw e) (⊎-elim (λ e. rw e) (⊎-elim (λ e. rw e) (⊎-elim (λ e. rw e)
+    ⊎-elim (λ e. rw e) (⊎-elim (λ e. rw e) (⊎-elim (λ e. rw e)
+    (⊎-elim (λ e. rw e) (⊎-elim (λ e. rw e) (⊎-elim (λ e. rw e)
     (⊎-elim (λ e. rw e) (λ e. rw e))))))) (c .match .keys1)
 
 returns-2 : tie.Need-returns-2

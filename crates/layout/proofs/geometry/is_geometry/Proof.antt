@@ -1,4 +1,5 @@
--- `layout::geometry::is_geometry` meets its contract: block size and height are tested first, the rest by `has_room`.
+-- `layout::geometry::is_geometry` meets its contract: block size and height are tested first, the rest by
+-- `has_room`.
 -- Assumes nothing.
 use mathlib.Core.Path.{sym, _∙_}
 use borrow.Author.Needs.{needs}
@@ -13,7 +14,8 @@ is-block-size-requires c κs = search needs
 
 returns : tie.Need-returns
 returns c =
-    refused-size (geometryOf (c .before .before .args .g)) (sym (c .before .is-block-size .ensures) ∙ not-true (c .before .is-block-size .result) (c .if1 .taken))
+    refused-size (geometryOf (c .before .before .args .g))
+    (sym (c .before .is-block-size .ensures) ∙ not-true (c .before .is-block-size .result) (c .if1 .taken))
 
 returns-2 : tie.Need-returns-2
 returns-2 c = refused-low (geometryOf (c .before .before .before .args .g)) (c .if2 .taken)
@@ -23,7 +25,8 @@ returns-3 c = refused-high (geometryOf (c .before .before .before .before .args 
 
 has-room-requires : tie.Need-has-room-requires
 has-room-requires c κs =
-    let sized = sym (c .before .before .before .is-block-size .ensures) ∙ not-false (c .before .before .before .is-block-size .result) (c .before .before .if1 .left) in
+    let sized = sym (c .before .before .before .is-block-size .ensures)
+    ∙ not-false (c .before .before .before .is-block-size .result) (c .before .before .if1 .left) in
     (sized, (c .before .if2 .left, c .if3 .left))
 
 returns-4 : tie.Need-returns-4

@@ -1,4 +1,5 @@
--- `layout::geometry::slot_start` meets its contract: a slot's public block is one of the drive's. Assumes nothing.
+-- `layout::geometry::slot_start` meets its contract: a slot's public block is one of the drive's. Assumes
+-- nothing.
 use native.Mathlib.Omega.{arith}
 use borrow.Author.Needs.{needs}
 use Rattle.model.proofs.Laws.Geometry.{slot-block-lt}
@@ -15,12 +16,22 @@ add-t4 c = search needs
 mul-t5 : tie.Need-mul-t5
 mul-t5 c =
     let s = c .before .before in
-    omega (arith, s .pre .0 .blocks-high, slot-block-lt (geometryOf (s .args .g)) (s .args .slot) 0 (s .pre .1) (omega arith))
+    omega (
+      arith,
+      s .pre .0 .blocks-high,
+      slot-block-lt (geometryOf (s .args .g)) (s .args .slot) 0
+          (s .pre .1) (omega arith),
+    )
 
 add-t6 : tie.Need-add-t6
 add-t6 c =
     let s = c .before .before .before in
-    omega (arith, s .pre .0 .blocks-high, slot-block-lt (geometryOf (s .args .g)) (s .args .slot) 0 (s .pre .1) (omega arith))
+    omega (
+      arith,
+      s .pre .0 .blocks-high,
+      slot-block-lt (geometryOf (s .args .g)) (s .args .slot) 0
+          (s .pre .1) (omega arith),
+    )
 
 returns : tie.Need-returns
 returns c = search needs

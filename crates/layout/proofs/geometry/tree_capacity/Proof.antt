@@ -1,11 +1,13 @@
--- `layout::geometry::tree_capacity` meets its contract, height by height: a fanout of at most 1,024 keeps every product in
+-- `layout::geometry::tree_capacity` meets its contract, height by height: a fanout of at most 1,024 keeps
+-- every product in
 -- 64 bits. Assumes nothing.
 use Prim.Native.Nat.{_*_, _≤_}
 use native.Mathlib.Omega.{arith}
 use borrow.Author.Needs.{needs}
 use Rattle.model.specs.Geometry.{fanout}
 use Rattle.layout.specs.Geometries.{geometryOf}
-use Rattle.layout.proofs.Laws.Geometry.{fanout-square-le, fanout-cube-le, leaf-times-le, treeCapacity-two, treeCapacity-three, treeCapacity-four}
+use Rattle.layout.proofs.Laws.Geometry.{fanout-square-le, fanout-cube-le, leaf-times-le}
+use Rattle.layout.proofs.Laws.Geometry.{treeCapacity-two, treeCapacity-three, treeCapacity-four}
 use Rattle.layout.proofs.geometry.tree_capacity.Statement.{statement}
 use Rattle.layout.proofs.geometry.tree_capacity.Tie as tie
 
@@ -38,7 +40,11 @@ mul-result-3 : tie.Need-mul-result-3
 mul-result-3 c =
     let s = c .before .before .before in
     let g = geometryOf (s .args .g) in
-    omega (arith, leaf-times-le g (s .pre) (fanout g * fanout g) 1048576 (fanout-square-le (geometryOf (s .args .g)) (s .pre)))
+    omega (
+      arith,
+      leaf-times-le g (s .pre) (fanout g * fanout g) 1048576
+          (fanout-square-le (geometryOf (s .args .g)) (s .pre)),
+    )
 
 returns-2 : tie.Need-returns-2
 returns-2 c =
@@ -62,12 +68,17 @@ mul-result-6 : tie.Need-mul-result-6
 mul-result-6 c =
     let s = c .before .before .before in
     let g = geometryOf (s .args .g) in
-    omega (arith, leaf-times-le g (s .pre) (fanout g * fanout g * fanout g) 1073741824 (fanout-cube-le (geometryOf (s .args .g)) (s .pre)))
+    omega (
+      arith,
+      leaf-times-le g (s .pre) (fanout g * fanout g * fanout g) 1073741824
+          (fanout-cube-le (geometryOf (s .args .g)) (s .pre)),
+    )
 
 returns-3 : tie.Need-returns-3
 returns-3 c =
     let s = c .before .before .before in
-    treeCapacity-four (geometryOf (s .args .g)) (s .pre) (omega (arith, s .pre, c .before .if1 .left, c .if2 .left))
+    treeCapacity-four (geometryOf (s .args .g)) (s .pre)
+    (omega (arith, s .pre, c .before .if1 .left, c .if2 .left))
 
 pub tree-capacity-spec : {M : Type 1} → statement M
 tree-capacity-spec =

@@ -1,4 +1,5 @@
--- `layout::public_map::map_entry` meets its contract: the map's entries stand one after another from block 1 on, so the
+-- `layout::public_map::map_entry` meets its contract: the map's entries stand one after another from block 1
+-- on, so the
 -- entry is one of the whole disk's. Assumes nothing.
 use mathlib.Core.Path.{sym, _∙_}
 use borrow.Author.Needs.{needs}
@@ -20,13 +21,15 @@ add-index c = search needs
 entry-at-requires : tie.Need-entry-at-requires
 entry-at-requires c κs =
     let s = c .before .before .before in
-    map-entry-inside (geometryOf (s .args .g)) (s .args .disk .now) (s .args .number .0) (s .pre .0) (s .pre .1)
+    map-entry-inside (geometryOf (s .args .g)) (s .args .disk .now) (s .args .number .0) (s .pre .0)
+    (s .pre .1)
 
 returns : tie.Need-returns
 returns c =
     let s = c .before .before .before .before in
     c .entry-at .ensures
-    ∙ sym (mapEntry-bytes (geometryOf (s .args .g)) (s .pre .0 .fits) (s .args .disk .now) (s .args .number .0))
+    ∙ sym (mapEntry-bytes (geometryOf (s .args .g)) (s .pre .0 .fits) (s .args .disk .now)
+    (s .args .number .0))
 
 pub map-entry-spec : {M : Type 1} → statement M
 map-entry-spec = tie.close (tie.spec cast-index cast-index-2 add-index entry-at-requires returns)

@@ -23,8 +23,11 @@ fits c = fits-of-isGeometry (geometryOf (c .before .before .before .args .g)) (g
 bytes :
     (c : tie.After-block-count) →
     c .block-count .result * c .before .before .before .before .args .g .«block_size» ≡
-    blockCount (geometryOf (c .before .before .before .before .args .g)) * c .before .before .before .before .args .g .«block_size»
-bytes c = ap (λ (n : ℕ). n * c .before .before .before .before .args .g .«block_size») (c .block-count .ensures)
+    blockCount
+    (geometryOf
+    (c .before .before .before .before .args .g)) * c .before .before .before .before .args .g .«block_size»
+bytes c = ap (λ (n : ℕ). n * c .before .before .before .before .args .g .«block_size»)
+    (c .block-count .ensures)
 
 returns : tie.Need-returns
 returns c = size-short (c .before .args .len) (geometryOf (c .before .args .g)) (c .if1 .taken)
@@ -46,15 +49,24 @@ cast-if3 c = search needs
 mul-if3 : tie.Need-mul-if3
 mul-if3 c =
     let f = fits (c .before .before) in
-    rw (c .before .block-count .ensures) (omega (arith, mul-le-mul (le-of-lt (f .blocks-high)) (f .size-high)))
+    rw (c .before .block-count .ensures) (omega (
+      arith,
+      mul-le-mul (le-of-lt (f .blocks-high)) (f .size-high),
+    ))
 
 returns-3 : tie.Need-returns-3
 returns-3 c =
-    size-whole (c .before .before .before .before .before .before .args .len) (geometryOf (c .before .before .before .before .before .before .args .g)) (c .before .before .before .before .before .if1 .left) (good (c .before .before .before)) (c .if3 .taken ∙ bytes (c .before .before))
+    size-whole (c .before .before .before .before .before .before .args .len)
+    (geometryOf (c .before .before .before .before .before .before .args .g))
+    (c .before .before .before .before .before .if1 .left) (good (c .before .before .before))
+    (c .if3 .taken ∙ bytes (c .before .before))
 
 returns-4 : tie.Need-returns-4
 returns-4 c =
-    size-other (c .before .before .before .before .before .before .args .len) (geometryOf (c .before .before .before .before .before .before .args .g)) (c .before .before .before .before .before .if1 .left) (good (c .before .before .before)) (λ e. c .if3 .left (e ∙ sym (bytes (c .before .before))))
+    size-other (c .before .before .before .before .before .before .args .len)
+    (geometryOf (c .before .before .before .before .before .before .args .g))
+    (c .before .before .before .before .before .if1 .left) (good (c .before .before .before))
+    (λ e. c .if3 .left (e ∙ sym (bytes (c .before .before))))
 
 pub size-fault-spec : {M : Type 1} → statement M
 size-fault-spec =

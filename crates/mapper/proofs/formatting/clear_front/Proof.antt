@@ -1,4 +1,5 @@
--- `mapper::formatting::clear_front` meets its contract. Invariant: the first i bytes are 0, the others as they were. The
+-- `mapper::formatting::clear_front` meets its contract. Invariant: the first i bytes are 0, the others as
+-- they were. The
 -- measure is what is left of the size. Assumes nothing.
 use mathlib.Core.Path.{sym, ap, _∙_}
 use Prim.Native.Nat.{ℕ, _-_}
@@ -41,7 +42,8 @@ same-length c = cleared-length (c .before .loop .inv) (c .before .before .pre)
 returns : tie.Need-returns Inv-loop μ-loop
 returns c =
     c .before .loop .inv .cleared
-    ∙ ap (λ (n : ℕ). over 0 (replicate n 0) (c .before .before .args .bytes .now)) (le-antisymm (c .before .loop .inv .within) (c .loop-test .left))
+    ∙ ap (λ (n : ℕ). over 0 (replicate n 0) (c .before .before .args .bytes .now))
+    (le-antisymm (c .before .loop .inv .within) (c .loop-test .left))
 
 pub clear-front-spec : {M : Type 1} → statement M
 clear-front-spec =

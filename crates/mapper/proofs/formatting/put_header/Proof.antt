@@ -1,4 +1,5 @@
--- `mapper::formatting::put_header` meets its contract: six entries one after another are the packed ones. Assumes nothing.
+-- `mapper::formatting::put_header` meets its contract: six entries one after another are the packed ones.
+-- Assumes nothing.
 use mathlib.Core.Path.{_∙_}
 use borrow.Author.Needs.{needs}
 use Rattle.layout.specs.Geometries.{geometryOf}

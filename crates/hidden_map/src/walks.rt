@@ -1,0 +1,96 @@
+// The walk for a hidden number, from the root down, each step to the level below.
+use crate::branches::branch_at;
+use crate::branches::is_well_formed;
+use layout::entries::entry_at;
+use layout::geometry::Geometry;
+use layout::geometry::area_start;
+use layout::numbers::DiskAddress;
+use layout::numbers::HiddenNumber;
+ghost use mathlib.Core.Path.{_≡_};
+ghost use Prim.Native.Nat.{_<_};
+ghost use Rattle.model.specs.Geometry as model;
+ghost use Rattle.model.specs.Blocks.{blockAt};
+ghost use Rattle.model.specs.Layout.{Drive};
+ghost use Rattle.model.specs.HiddenTree as tree;
+ghost use Rattle.layout.specs.Geometries.{geometryOf};
+ghost use Rattle.hidden_map.specs.Ends.{endOf, stepOf};
+ghost use Rattle.hidden_map.specs.Trees.{TreeOf, Walkable};
+
+// Where a walk, or one step of it, ends: at an address, at 0, or at an ill-formed entry.
+pub enum Reached {
+    Found(DiskAddress),
+    Unmapped,
+    Damaged,
+}
+
+// Where a number's entry of a level leads that stands in the node at an address.
+pub fn step(
+    disk: &[u8],
+    size: u32,
+    height: u32,
+    start: DiskAddress,
+    count: u32,
+    number: HiddenNumber,
+    level: u32,
+    address: DiskAddress,
+) -> Reached
+    requires { ⌜ Walkable (now disk) size height (start .0) count ⌝ }
+    requires { ⌜ (level < height) × (address .0 < count) ⌝ }
+    ensures { λ r. ⌜ ((g : model.Geometry) → TreeOf g (now (disk .entry)) size height (start .0) count → endOf r ≡ stepOf g (number .0) level (blockAt (g .blockSize) (now (disk .entry)) (address .0))) ⌝ }
+{
+    let before = (address.0 as usize) * (size as usize / 4);
+    let entry = entry_at(disk, before + branch_at(size, number, level));
+    if entry == 0 {
+        return Reached::Unmapped;
+    }
+    if is_well_formed(height, start, count, level, DiskAddress(entry)) {
+        return Reached::Found(DiskAddress(entry));
+    }
+    Reached::Damaged
+}
+
+// Where the walk for a number ends, from the node at an address down, by the level of the entry that it takes there.
+fn walk_from(
+    disk: &[u8],
+    size: u32,
+    height: u32,
+    start: DiskAddress,
+    count: u32,
+    number: HiddenNumber,
+    level: u32,
+    address: DiskAddress,
+) -> Reached
+    requires { ⌜ Walkable (now disk) size height (start .0) count ⌝ }
+    requires { ⌜ (level < height) × (address .0 < count) ⌝ }
+    ensures { λ r. ⌜ ((g : model.Geometry) → TreeOf g (now (disk .entry)) size height (start .0) count → endOf r ≡ tree.walkFrom g (now (disk .entry)) (number .0) level (blockAt (g .blockSize) (now (disk .entry)) (address .0)) .end) ⌝ }
+{
+    let next = step(disk, size, height, start, count, number, level, address);
+    if level == 0 {
+        return next;
+    }
+    let Reached::Found(node) = next else {
+        return next;
+    };
+    walk_from(disk, size, height, start, count, number, level - 1, node)
+}
+
+// Where the walk for a number ends, from the root.
+pub fn walk(disk: &[u8], g: Geometry, number: HiddenNumber) -> Reached
+    requires { ⌜ Drive (geometryOf g) (now disk) ⌝ }
+    ensures { λ r. ⌜ endOf r ≡ tree.walk (geometryOf g) (now (disk .entry)) (number .0) .end ⌝ }
+{
+    let height = g.height;
+    let start = area_start(g);
+    let root = DiskAddress(start.0 - 1);
+    let count = start.0 + g.slots * (height + 1);
+    walk_from(
+        disk,
+        g.block_size,
+        height,
+        start,
+        count,
+        number,
+        height - 1,
+        root,
+    )
+}

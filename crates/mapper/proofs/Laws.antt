@@ -6,3 +6,4 @@ pub mod PublicReads
 pub mod HiddenReads
 pub mod RoundCounts
 pub mod WriteRefusals
+pub mod Needs

@@ -10,3 +10,6 @@ pub use public::public_fault;
 pub use public::public_read;
 pub use hidden::hidden_fault;
 pub use hidden::hidden_read;
+pub use needs::Needs;
+pub use needs::write_fault;
+pub use needs::write_needs;

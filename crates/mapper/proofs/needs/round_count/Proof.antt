@@ -10,10 +10,6 @@ use Rattle.layout.specs.Geometries.{geometryOf}
 use Rattle.mapper.proofs.Laws.RoundCounts.{header-inside, Looked, looked-none, looked-next, looked-free, looked-all}
 use Rattle.mapper.proofs.needs.round_count.Statement.{statement}
 use Rattle.mapper.proofs.needs.round_count.Tie as tie
-use Rattle.mapper.proofs.needs.round_count.Reads as reads
-use Rattle.mapper.proofs.needs.round_count.Lts as lts
-use Rattle.layout.proofs.bitmap.is_allocated.Reads as is-allocated-reads
-use Rattle.layout.proofs.geometry.head_in.Reads as head-in-reads
 
 abbrev Inv-loop : tie.InvT-loop
 Inv-loop disk g slots slot₀ done₀ slot done =

@@ -11,11 +11,6 @@ use Rattle.mapper.proofs.Laws.WriteRefusals.{rounds-none, rounds-random
 use borrow.Author.Needs.{needs}
 use Rattle.mapper.proofs.needs.round_fault.Statement.{statement}
 use Rattle.mapper.proofs.needs.round_fault.Tie as tie
-use Rattle.mapper.proofs.needs.round_fault.Reads as reads
-use Rattle.mapper.proofs.needs.round_fault.Lts as lts
-use Rattle.layout.proofs.public_map.map_entry.Reads as map-entry-reads
-use Rattle.mapper.proofs.needs.round_count.Reads as round-count-reads
-use Rattle.mapper.proofs.needs.store_count.Reads as store-count-reads
 
 -- the rounds are at most the slots
 few : (c : tie.After-round-count) → c .round-count .result ≤ c .before .before .args .g .slots
@@ -38,55 +33,42 @@ counted c =
     c .store-count .ensures ∙ ap (storeCount g (rounds .round-count .result)) (c .before .map-entry .ensures)
     ∙ ap (λ (n : ℕ). storeCount g n (mapEntry g (s .args .disk .now) (s .args .number .0))) (rounds .round-count .ensures)
 
--- src/needs.rt:50:9
 round-count-requires : tie.Need-round-count-requires
 round-count-requires c κs = search needs
 
--- src/needs.rt:52:9
 returns : tie.Need-returns
 returns c = let s = c .before .before .before in let g = geometryOf (s .args .g) in rounds-none g (s .args .disk .now) (s .args .number .0) (s .args .random) (s .args .room) (sym (c .before .round-count .ensures) ∙ c .if1 .taken)
 
--- src/needs.rt:54:27
 cast-if2 : tie.Need-cast-if2
 cast-if2 c = search needs
 
--- src/needs.rt:54:45
 cast-if2-2 : tie.Need-cast-if2-2
 cast-if2-2 c = search needs
 
--- src/needs.rt:54:26
 mul-if2 : tie.Need-mul-if2
 mul-if2 c = let s = c .before .before .before .before in omega (arith, random-blocks-small (geometryOf (s .args .g)) (s .pre .0 .fits) (c .before .before .round-count .result) (few (c .before .before)))
 
--- src/needs.rt:54:65
 cast-if2-3 : tie.Need-cast-if2-3
 cast-if2-3 c = search needs
 
--- src/needs.rt:54:26
 mul-if2-2 : tie.Need-mul-if2-2
 mul-if2-2 c = let s = c .before .before .before .before .before in omega (arith, random-small (geometryOf (s .args .g)) (s .pre .0 .fits) (c .before .before .before .round-count .result) (few (c .before .before .before)))
 
--- src/needs.rt:55:9
 returns-2 : tie.Need-returns-2
 returns-2 c = let s = c .before .before .before .before .before .before in let g = geometryOf (s .args .g) in rounds-random-short g (s .args .disk .now) (s .args .number .0) (s .args .random) (s .args .room) (λ e. c .before .before .before .if1 .left (c .before .before .before .before .round-count .ensures ∙ e)) (rw (← c .before .before .before .before .round-count .ensures) (c .if2 .taken))
 
--- src/needs.rt:57:38
 map-entry-requires : tie.Need-map-entry-requires
 map-entry-requires c κs = search needs
 
--- src/needs.rt:57:15
 store-count-requires : tie.Need-store-count-requires
 store-count-requires c κs = (c .before .before .before .before .before .before .before .pre .0 .fits, few (c .before .before .before .before .before))
 
--- src/needs.rt:57:15
 cast-if3 : tie.Need-cast-if3
 cast-if3 c = search needs
 
--- src/needs.rt:58:9
 returns-3 : tie.Need-returns-3
 returns-3 c = let s = c .before .before .before .before .before .before .before .before .before in let g = geometryOf (s .args .g) in rounds-room-short g (s .args .disk .now) (s .args .number .0) (s .args .random) (s .args .room) (λ e. c .before .before .before .before .before .before .if1 .left (c .before .before .before .before .before .before .before .round-count .ensures ∙ e)) (rw (← c .before .before .before .before .before .before .before .round-count .ensures) (c .before .before .before .if2 .left)) (rw (← counted (c .before)) (c .if3 .taken))
 
--- src/needs.rt:44:1
 returns-4 : tie.Need-returns-4
 returns-4 c = let s = c .before .before .before .before .before .before .before .before .before in let g = geometryOf (s .args .g) in rounds-good g (s .args .disk .now) (s .args .number .0) (s .args .random) (s .args .room) (λ e. c .before .before .before .before .before .before .if1 .left (c .before .before .before .before .before .before .before .round-count .ensures ∙ e)) (rw (← c .before .before .before .before .before .before .before .round-count .ensures) (c .before .before .before .if2 .left)) (rw (← counted (c .before)) (c .if3 .left))
 

@@ -5,30 +5,22 @@ use Rattle.mapper.proofs.Laws.RoundCounts.{stores-small, stores-new, st
 use borrow.Author.Needs.{needs}
 use Rattle.mapper.proofs.needs.store_count.Statement.{statement}
 use Rattle.mapper.proofs.needs.store_count.Tie as tie
-use Rattle.mapper.proofs.needs.store_count.Reads as reads
-use Rattle.mapper.proofs.needs.store_count.Lts as lts
 
--- src/needs.rt:39:26
 add-kept : tie.Need-add-kept
 add-kept c = search needs
 
--- src/needs.rt:39:16
 mul-kept : tie.Need-mul-kept
 mul-kept c = let s = c .before in omega (arith, stores-small (geometryOf (s .args .g)) (s .pre .0) (s .args .rounds) (s .pre .1))
 
--- src/needs.rt:40:23
 add-result : tie.Need-add-result
 add-result c = let s = c .before .before .before in omega (arith, stores-small (geometryOf (s .args .g)) (s .pre .0) (s .args .rounds) (s .pre .1))
 
--- src/needs.rt:40:41
 add-result-2 : tie.Need-add-result-2
 add-result-2 c = let s = c .before .before .before in omega (arith, stores-small (geometryOf (s .args .g)) (s .pre .0) (s .args .rounds) (s .pre .1))
 
--- src/needs.rt:34:1
 returns : tie.Need-returns
 returns c = let s = c .before .before .before in stores-new (geometryOf (s .args .g)) (s .args .rounds) (s .args .entry .0) (c .if1 .taken)
 
--- src/needs.rt:34:1
 returns-2 : tie.Need-returns-2
 returns-2 c = let s = c .before .before .before in stores-moved (geometryOf (s .args .g)) (s .args .rounds) (s .args .entry .0) (c .if1 .left)
 

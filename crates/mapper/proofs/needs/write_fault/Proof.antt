@@ -7,21 +7,14 @@ use Rattle.laws.specs.Checks.{firstOf}
 use Rattle.model.specs.Geometry.{Geometry}
 use Rattle.model.specs.Layout.{geometryIn}
 use Rattle.model.specs.Refusals.{driveRefusal, roundChecks}
-use Rattle.model.proofs.Laws.Refusals.{accepted-of-refusal}
 use Rattle.layout.specs.Geometries.{geometryOf}
-use Rattle.mapper.proofs.Laws.WriteRefusals.{drive-as, head-as, inside-of-places, chain-drive, chain-place}
+use Rattle.mapper.proofs.Laws.Drives.{long-enough, drive-read}
+use Rattle.mapper.proofs.Laws.WriteRefusals.{head-read, inside-of-places, chain-drive, chain-place}
 use Rattle.mapper.proofs.Laws.WriteRefusals.{chain-rest, writeRefusal-is}
 use borrow.Author.Needs.{needs}
 use Rattle.mapper.proofs.needs.write_fault.Statement.{statement}
 use Rattle.mapper.proofs.needs.write_fault.Tie as tie
-use Rattle.mapper.proofs.needs.write_fault.Reads as reads
-use Rattle.mapper.proofs.needs.write_fault.Lts as lts
-use Rattle.layout.proofs.geometry.geometry_in.Reads as geometry-in-reads
-use Rattle.layout.proofs.refusals.drive_fault.Reads as drive-fault-reads
-use Rattle.mapper.proofs.needs.round_fault.Reads as round-fault-reads
-use Rattle.mapper.proofs.public.place_fault.Reads as place-fault-reads
 
--- src/needs.rt:71:9
 -- the drive is accepted
 accepted : (c : tie.Else1) → driveRefusal (c .before .before .before .before .before .before .args .disk .now) ≡ 0
 accepted c = sym (c .before .drive-fault .ensures) ∙ c .if1 .left
@@ -29,7 +22,6 @@ accepted c = sym (c .before .drive-fault .ensures) ∙ c .if1 .left
 drive-fault-requires : tie.Need-drive-fault-requires
 drive-fault-requires c κs = search needs
 
--- src/needs.rt:73:9
 returns : tie.Need-returns
 returns c =
     let s = c .before .before .before .before .before .before in
@@ -37,15 +29,12 @@ returns c =
     told ∙ chain-drive (s .args .disk .now) (s .args .number .0) (length (s .args .content .now)) (roundChecks (geometryIn (s .args .disk .now)) (s .args .disk .now) (s .args .number .0) (length (s .args .random .now)) (length (s .args .list .now))) (λ e. c .if1 .taken (told ∙ e))
     ∙ writeRefusal-is (s .args .disk .now) (s .args .number .0) (s .args .content .now) (length (s .args .random .now)) (length (s .args .list .now))
 
--- src/needs.rt:75:9
 geometry-in-requires : tie.Need-geometry-in-requires
-geometry-in-requires c κs = accepted-of-refusal (c .before .before .before .before .before .before .args .disk .now) (accepted c) .sized .long
+geometry-in-requires c κs = long-enough (c .before .before .before .before .before .before .args .disk .now) (accepted c)
 
--- src/needs.rt:76:9
 place-fault-requires : tie.Need-place-fault-requires
-place-fault-requires c κs = drive-as (c .before .before .before .before .before .before .before .args .disk .now) (accepted (c .before)) (geometryOf (c .geometry-in .result)) (c .geometry-in .ensures)
+place-fault-requires c κs = drive-read (c .before .before .before .before .before .before .before .args .disk .now) (accepted (c .before)) (geometryOf (c .geometry-in .result)) (c .geometry-in .ensures)
 
--- src/needs.rt:78:9
 returns-2 : tie.Need-returns-2
 returns-2 c =
     let s = c .before .before .before .before .before .before .before .before .before in
@@ -54,15 +43,13 @@ returns-2 c =
     told ∙ chain-place (s .args .disk .now) (s .args .number .0) (length (s .args .content .now)) (roundChecks (geometryIn (s .args .disk .now)) (s .args .disk .now) (s .args .number .0) (length (s .args .random .now)) (length (s .args .list .now))) (accepted (c .before .before .before)) (geometryOf (read .result)) (read .ensures) (λ e. c .if2 .taken (told ∙ e))
     ∙ writeRefusal-is (s .args .disk .now) (s .args .number .0) (s .args .content .now) (length (s .args .random .now)) (length (s .args .list .now))
 
--- src/needs.rt:80:5
 round-fault-requires : tie.Need-round-fault-requires
 round-fault-requires c κs =
     let s = c .before .before .before .before .before .before .before .before .before in
     let read = c .before .before .geometry-in in
     let disk = s .args .disk .now in let g = geometryOf (read .result) in
-    (drive-as disk (accepted (c .before .before .before)) g (read .ensures), (head-as disk (accepted (c .before .before .before)) g (read .ensures), inside-of-places g disk (s .args .number .0) (length (s .args .content .now)) (sym (c .before .place-fault .ensures) ∙ c .if2 .left)))
+    (drive-read disk (accepted (c .before .before .before)) g (read .ensures), (head-read disk (accepted (c .before .before .before)) g (read .ensures), inside-of-places g disk (s .args .number .0) (length (s .args .content .now)) (sym (c .before .place-fault .ensures) ∙ c .if2 .left)))
 
--- src/needs.rt:68:1
 returns-3 : tie.Need-returns-3
 returns-3 c =
     let s = c .before .before .before .before .before .before .before .before .before .before in

@@ -6,27 +6,17 @@ use native.Mathlib.Omega.{arith}
 use Rattle.model.specs.Geometry.{Geometry}
 use Rattle.model.specs.Layout.{Drive, headIn, isAllocated, mapEntry}
 use Rattle.model.specs.Refusals.{driveRefusal, roundCount, storeCount}
-use Rattle.model.proofs.Laws.Refusals.{accepted-of-refusal}
 use Rattle.model.proofs.Refusals.Circle.{roundsTo-le}
 use Rattle.layout.specs.Geometries.{geometryOf}
 use Rattle.mapper.specs.Needs.{refusedNeeds}
 use Rattle.mapper.proofs.Laws.RoundCounts.{random-blocks-small}
-use Rattle.mapper.proofs.Laws.WriteRefusals.{drive-as, head-as, inside-of-places}
+use Rattle.mapper.proofs.Laws.Drives.{long-enough, drive-read}
+use Rattle.mapper.proofs.Laws.WriteRefusals.{head-read, inside-of-places}
 use Rattle.mapper.proofs.Laws.Needs.{needs-drive, needs-place, needs-none, needs-some}
 use borrow.Author.Needs.{needs}
 use Rattle.mapper.proofs.needs.write_needs.Statement.{statement}
 use Rattle.mapper.proofs.needs.write_needs.Tie as tie
-use Rattle.mapper.proofs.needs.write_needs.Reads as reads
-use Rattle.mapper.proofs.needs.write_needs.Lts as lts
-use Rattle.layout.proofs.geometry.geometry_in.Reads as geometry-in-reads
-use Rattle.layout.proofs.public_map.map_entry.Reads as map-entry-reads
-use Rattle.layout.proofs.refusals.drive_fault.Reads as drive-fault-reads
-use Rattle.mapper.proofs.needs.refused_needs.Reads as refused-needs-reads
-use Rattle.mapper.proofs.needs.round_count.Reads as round-count-reads
-use Rattle.mapper.proofs.needs.store_count.Reads as store-count-reads
-use Rattle.mapper.proofs.public.place_fault.Reads as place-fault-reads
 
--- src/needs.rt:108:9
 -- the drive is accepted
 accepted : (c : tie.Else1) → driveRefusal (c .before .before .before .args .disk .now) ≡ 0
 accepted c = sym (c .before .drive-fault .ensures) ∙ c .if1 .left
@@ -35,7 +25,7 @@ accepted c = sym (c .before .drive-fault .ensures) ∙ c .if1 .left
 read-drive :
     (c : tie.After-geometry-in) → Drive (geometryOf (c .geometry-in .result)) (c .before .before .before .before .args .disk .now)
 read-drive c =
-    drive-as (c .before .before .before .before .args .disk .now) (accepted (c .before))
+    drive-read (c .before .before .before .before .args .disk .now) (accepted (c .before))
     (geometryOf (c .geometry-in .result)) (c .geometry-in .ensures)
 
 -- the rounds are at most the slots
@@ -49,11 +39,9 @@ few c =
 drive-fault-requires : tie.Need-drive-fault-requires
 drive-fault-requires c κs = search needs
 
--- src/needs.rt:110:9
 refused-needs-requires : tie.Need-refused-needs-requires
 refused-needs-requires c κs = search needs
 
--- src/needs.rt:110:9
 returns : tie.Need-returns
 returns c =
     let s = c .before .before .before .before in
@@ -61,23 +49,18 @@ returns c =
     c .refused-needs .ensures ∙ ap refusedNeeds told
     ∙ needs-drive (s .args .disk .now) (s .args .number .0) (λ e. c .before .if1 .taken (told ∙ e))
 
--- src/needs.rt:112:9
 geometry-in-requires : tie.Need-geometry-in-requires
-geometry-in-requires c κs = accepted-of-refusal (c .before .before .before .args .disk .now) (accepted c) .sized .long
+geometry-in-requires c κs = long-enough (c .before .before .before .args .disk .now) (accepted c)
 
--- src/needs.rt:113:50
 cast-place-fault : tie.Need-cast-place-fault
 cast-place-fault c = search needs
 
--- src/needs.rt:113:9
 place-fault-requires : tie.Need-place-fault-requires
 place-fault-requires c κs = read-drive (c .before)
 
--- src/needs.rt:115:9
 refused-needs-requires-2 : tie.Need-refused-needs-requires-2
 refused-needs-requires-2 c κs = search needs
 
--- src/needs.rt:115:9
 returns-2 : tie.Need-returns-2
 returns-2 c =
     let s = c .before .before .before .before .before .before .before .before in
@@ -85,37 +68,30 @@ returns-2 c =
     c .refused-needs2 .ensures ∙ ap refusedNeeds told
     ∙ needs-place (s .args .disk .now) (s .args .number .0) (accepted (c .before .before .before .before .before)) (geometryOf (c .before .before .before .before .geometry-in .result)) (c .before .before .before .before .geometry-in .ensures) (λ e. c .before .if2 .taken (told ∙ e))
 
--- src/needs.rt:117:9
 round-count-requires : tie.Need-round-count-requires
-round-count-requires c κs = (read-drive (c .before .before .before), head-as (c .before .before .before .before .before .before .before .args .disk .now) (accepted (c .before .before .before .before)) (geometryOf (c .before .before .before .geometry-in .result)) (c .before .before .before .geometry-in .ensures))
+round-count-requires c κs = (read-drive (c .before .before .before), head-read (c .before .before .before .before .before .before .before .args .disk .now) (accepted (c .before .before .before .before)) (geometryOf (c .before .before .before .geometry-in .result)) (c .before .before .before .geometry-in .ensures))
 
--- src/needs.rt:119:9
 refused-needs-requires-3 : tie.Need-refused-needs-requires-3
 refused-needs-requires-3 c κs = search needs
 
--- src/needs.rt:119:9
 returns-3 : tie.Need-returns-3
 returns-3 c =
     let s = c .before .before .before .before .before .before .before .before .before .before in
     c .refused-needs3 .ensures
     ∙ needs-none (s .args .disk .now) (s .args .number .0) (accepted (c .before .before .before .before .before .before .before)) (geometryOf (c .before .before .before .before .before .before .geometry-in .result)) (c .before .before .before .before .before .before .geometry-in .ensures) (sym (c .before .before .before .before .place-fault .ensures) ∙ c .before .before .before .if2 .left) (sym (c .before .before .round-count .ensures) ∙ c .before .if3 .taken)
 
--- src/needs.rt:121:41
 map-entry-requires : tie.Need-map-entry-requires
 map-entry-requires c κs =
     let s = c .before .before .before .before .before .before .before .before .before in
     let g = geometryOf (c .before .before .before .before .before .geometry-in .result) in
     (read-drive (c .before .before .before .before .before), inside-of-places g (s .args .disk .now) (s .args .number .0) (g .blockSize) (sym (c .before .before .before .place-fault .ensures) ∙ c .before .before .if2 .left))
 
--- src/needs.rt:121:9
 store-count-requires : tie.Need-store-count-requires
 store-count-requires c κs = (read-drive (c .before .before .before .before .before .before) .fits, few (c .before .before))
 
--- src/needs.rt:126:24
 mul-t11 : tie.Need-mul-t11
 mul-t11 c = search needs
 
--- src/needs.rt:105:1
 returns-4 : tie.Need-returns-4
 returns-4 c =
     let s = c .before .before .before .before .before .before .before .before .before .before .before .before in

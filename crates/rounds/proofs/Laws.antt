@@ -1,3 +1,4 @@
 -- The laws that the proofs of the functions cite, a file for each idea.
 pub mod Fronts
 pub mod Endings
+pub mod Plans

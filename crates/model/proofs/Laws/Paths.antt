@@ -59,7 +59,7 @@ addressesFrom-snoc address (suc count) =
     let e : suc address + count ≡ address + suc count = omega arith in
     ap {B = List ℕ} (λ (rest : List ℕ). address ∷ rest) (addressesFrom-snoc (suc address) count ∙ rw e)
 
-addresses-keptBlocks :
+pub addresses-keptBlocks :
     (g : Geometry) (disk : Bytes) (address count : ℕ) →
     addresses (keptBlocks g disk address count) ≡ addressesFrom address count
 unfolding addresses keptBlocks addressesFrom
@@ -67,7 +67,7 @@ addresses-keptBlocks g disk address zero = refl
 addresses-keptBlocks g disk address (suc count) =
     ap {B = List ℕ} (λ (rest : List ℕ). address ∷ rest) (addresses-keptBlocks g disk (suc address) count)
 
-addresses-randomBlocks :
+pub addresses-randomBlocks :
     (g : Geometry) (address count : ℕ) (random : Bytes) →
     addresses (randomBlocks g address count random) ≡ addressesFrom address count
 unfolding addresses randomBlocks addressesFrom
@@ -76,7 +76,7 @@ addresses-randomBlocks g address (suc count) random =
     ap {B = List ℕ} (λ (rest : List ℕ). address ∷ rest)
     (addresses-randomBlocks g (suc address) count (drop (g .blockSize) random))
 
-addresses-nodeStores :
+pub addresses-nodeStores :
     (g : Geometry) (number slot : ℕ) (nodes : List Bytes) →
     addresses (nodeStores g number slot nodes) ≡ addressesFrom (slotStart g slot + 1) (length nodes)
 unfolding addresses nodeStores addressesFrom
@@ -114,7 +114,7 @@ module _ (g : Geometry) (f : Fits g) where
       length-setEntry (branchAt g number (suc level)) (levelAddress g slot (suc level)) node
       (omega (arith, branchAt-fits number (suc level))) ∙ h
 
-  nodeStores-whole :
+  pub nodeStores-whole :
       (number slot : ℕ) (nodes : List Bytes) → All (WholeBlock g) nodes →
       All (WholeStore g) (nodeStores g number slot nodes)
   unfolding nodeStores
@@ -123,7 +123,7 @@ module _ (g : Geometry) (f : Fits g) where
       all-append (WholeStore g) (nodeStores g number slot below) _ (nodeStores-whole number slot below (h .1))
       (length-linkedNode number slot (length below) node (h .0), tt)
 
-  randomBlocks-whole :
+  pub randomBlocks-whole :
       (address count : ℕ) (random : Bytes) → count * g .blockSize ≤ length random →
       All (WholeStore g) (randomBlocks g address count random)
   unfolding randomBlocks

@@ -55,7 +55,7 @@ roundsTo-ext (suc most) isTaken isTakenToo g f slot h same =
 
 -- ---- stores ----
 
-length-addressesFrom : (address : DiskAddress) (count : ℕ) → length (addressesFrom address count) ≡ count
+pub length-addressesFrom : (address : DiskAddress) (count : ℕ) → length (addressesFrom address count) ≡ count
 unfolding addressesFrom
 length-addressesFrom address zero = refl
 length-addressesFrom address (suc count) = ap suc (length-addressesFrom (suc address) count)

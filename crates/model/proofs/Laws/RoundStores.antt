@@ -24,7 +24,7 @@ use Rattle.model.proofs.Laws.MapStores.{mapStores-stored}
 
 -- ---- addresses ----
 
-all-addressesFrom :
+pub all-addressesFrom :
     (P : ℕ → Type 0) (address : DiskAddress) (count : ℕ) → ((i : ℕ) → i < count → P (address + i)) →
     All P (addressesFrom address count)
 unfolding addressesFrom
@@ -53,7 +53,7 @@ hides-addresses g slot hidden hides =
     (λ i h. inr (suc i, omega arith, omega arith, omega arith)))
     (inl refl, tt))
 
-stored-of-whole :
+pub stored-of-whole :
     (g : Geometry) (xs : Trace) → All (λ (a : ℕ). a < blockCount g) (addresses xs) → All (WholeStore g) xs →
     All (Stored (g .blockSize) (blockCount g)) xs
 unfolding addresses

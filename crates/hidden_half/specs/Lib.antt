@@ -1,0 +1,3 @@
+pub mod NodeBlocks
+pub mod Statuses
+pub mod Plans

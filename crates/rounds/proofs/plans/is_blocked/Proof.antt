@@ -24,7 +24,7 @@ enum-told-3 c = search needs
 
 -- src/plans.rt:47:17
 next-damaged-requires : tie.Need-next-damaged-requires
-next-damaged-requires c κs = let s = c .before .before .before .before .before .before in (s .pre .0, (s .pre .1, ?))
+next-damaged-requires c κs = let s = c .before .before .before .before .before .before in (s .pre .0, s .pre .1)
 
 -- src/plans.rt:47:17
 same-length : tie.Need-same-length
@@ -34,7 +34,7 @@ same-length c = search needs
 returns : tie.Need-returns
 returns c =
     let s = c .before .before .before .before .before .before .before .before .before in
-    hindered-next (geometryOf (s .args .g)) (s .args .disk .now) (s .args .waiting) (s .args .number .0) (s .args .nodes .now) (s .args .status) (ap isLiveStatus (c .before .before .before .before .before .enum-told3 .given .1)) (ap isDamagedStatus (c .before .before .before .before .before .enum-told3 .given .1)) (c .before .before .before .before .if1 .taken) (c .before .before .next-damaged .result) (c .before .before .next-damaged .last .0) (c .before .before .next-damaged .ensures)
+    hindered-next (geometryOf (s .args .g)) (s .args .disk .now) (s .args .waiting) (s .args .number .0) (s .args .nodes .now) (s .args .status) (ap isLiveStatus (c .before .before .before .before .before .enum-told3 .given .1)) (ap isDamagedStatus (c .before .before .before .before .before .enum-told3 .given .1)) (c .before .before .before .before .if1 .taken) (c .before .before .next-damaged .result) (c .before .before .next-damaged .last .1 .1 .1 .0) (c .before .before .next-damaged .ensures)
 
 -- src/plans.rt:37:1
 returns-2 : tie.Need-returns-2

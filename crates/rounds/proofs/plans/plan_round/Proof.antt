@@ -23,14 +23,14 @@ known :
     (c : tie.After-is-blocked) →
     let s = c .before .before .before .before .before .before .before .before .before .before .before .before in
     Settled (geometryOf (s .args .g)) (s .args .disk .now) (s .args .slot) (s .args .state .offer) (s .args .number .0)
-    (c .before .before .row-at .result) (c .is-blocked .result) (c .is-blocked .last .0)
+    (c .before .before .row-at .result) (c .is-blocked .result) (c .is-blocked .last .1 .1 .1 .1 .1 .0)
 known c =
     let s = c .before .before .before .before .before .before .before .before .before .before .before .before in
     let judged = c .before .before .before .before .before .before .before .slot-status in
     settled (geometryOf (s .args .g)) (s .args .disk .now) (s .args .slot) (s .args .state .offer) (s .args .number .0)
     (judged .result) (c .before .before .row-at .result) (c .before .before .before .before .before .before .before .before .before .is-waiting .result)
-    (c .before .before .before .before .is-allocated .result) (c .before .before .before .is-live .result) (c .is-blocked .result) (judged .last .0)
-    (c .is-blocked .last .0) (c .before .before .before .before .before .before .before .before .before .is-waiting .ensures) (c .before .before .before .before .is-allocated .ensures)
+    (c .before .before .before .before .is-allocated .result) (c .before .before .before .is-live .result) (c .is-blocked .result) (judged .last .1 .1 .1 .0)
+    (c .is-blocked .last .1 .1 .1 .1 .1 .0) (c .before .before .before .before .before .before .before .before .before .is-waiting .ensures) (c .before .before .before .before .is-allocated .ensures)
     (c .before .before .before .is-live .ensures) (judged .ensures) (c .before .before .row-at .ensures) (c .is-blocked .ensures)
 
 is-waiting-requires : tie.Need-is-waiting-requires
@@ -38,7 +38,7 @@ is-waiting-requires c κs = search needs
 
 -- src/plans.rt:64:9
 slot-status-requires : tie.Need-slot-status-requires
-slot-status-requires c κs = let s = c .before .before .before .before in (s .pre .0, (s .pre .1 .0, (s .pre .1 .1, ?)))
+slot-status-requires c κs = let s = c .before .before .before .before in (s .pre .0, (s .pre .1 .0, s .pre .1 .1))
 
 -- src/plans.rt:65:31
 is-allocated-requires : tie.Need-is-allocated-requires
@@ -64,7 +64,7 @@ same-length c = search needs
 returns : tie.Need-returns
 returns c =
     let s = c .before .before .before .before .before .before .before .before .before .before .before .before .before .before .before in
-    planned-back (geometryOf (s .args .g)) (s .args .disk .now) (s .pre .0) (s .args .slot) (s .args .state) (s .args .number .0) (c .before .before .before .before .before .row-at .result) (c .before .before .before .is-blocked .result) (c .before .before .before .is-blocked .last .0) (known (c .before .before .before)) (c .if1 .taken)
+    planned-back (geometryOf (s .args .g)) (s .args .disk .now) (s .pre .0) (s .args .slot) (s .args .state) (s .args .number .0) (c .before .before .before .before .before .row-at .result) (c .before .before .before .is-blocked .result) (c .before .before .before .is-blocked .last .1 .1 .1 .1 .1 .0) (known (c .before .before .before)) (c .if1 .taken)
 
 -- src/plans.rt:80:17
 enum-told : tie.Need-enum-told
@@ -72,7 +72,7 @@ enum-told c = search needs
 
 -- src/plans.rt:80:17
 owner-of-requires : tie.Need-owner-of-requires
-owner-of-requires c κs = let s = c .before .before .before .before .before .before .before .before .before .before .before .before .before .before .before .before .before in (s .pre .0, (s .pre .1 .0, ?))
+owner-of-requires c κs = let s = c .before .before .before .before .before .before .before .before .before .before .before .before .before .before .before .before .before in (s .pre .0, s .pre .1 .0)
 
 -- src/plans.rt:89:21
 enum-told-2 : tie.Need-enum-told-2
@@ -90,7 +90,7 @@ same-length-2 c = search needs
 returns-2 : tie.Need-returns-2
 returns-2 c =
     let s = c .before .before .before .before .before .before .before .before .before .before .before .before .before .before .before .before .before .before in
-    planned-keep (geometryOf (s .args .g)) (s .args .disk .now) (s .pre .0) (s .args .slot) (s .args .state) (s .args .number .0) (c .before .before .before .before .before .before .before .before .row-at .result) (c .before .before .before .before .before .before .is-blocked .result) (c .before .before .before .before .before .before .is-blocked .last .0) (known (c .before .before .before .before .before .before)) (c .before .before .before .if1 .left) (ap hiddenOf (c .before .enum-told .given .1)) (c .owner-of .result) (c .owner-of .ensures)
+    planned-keep (geometryOf (s .args .g)) (s .args .disk .now) (s .pre .0) (s .args .slot) (s .args .state) (s .args .number .0) (c .before .before .before .before .before .before .before .before .row-at .result) (c .before .before .before .before .before .before .is-blocked .result) (c .before .before .before .before .before .before .is-blocked .last .1 .1 .1 .1 .1 .0) (known (c .before .before .before .before .before .before)) (c .before .before .before .if1 .left) (ap hiddenOf (c .before .enum-told .given .1)) (c .owner-of .result) (c .owner-of .ensures)
 
 -- src/plans.rt:56:1
 same-length-3 : tie.Need-same-length-3
@@ -100,7 +100,7 @@ same-length-3 c = search needs
 returns-3 : tie.Need-returns-3
 returns-3 c =
     let s = c .before .before .before .before .before .before .before .before .before .before .before .before .before .before .before .before .before in
-    planned-place (geometryOf (s .args .g)) (s .args .disk .now) (s .pre .0) (s .args .slot) (s .args .state) (s .args .number .0) (c .before .before .before .before .before .before .before .row-at .result) (c .before .before .before .before .before .is-blocked .result) (c .before .before .before .before .before .is-blocked .last .0) (known (c .before .before .before .before .before)) (c .before .before .if1 .left) (ap hiddenOf (c .enum-told2 .given .1))
+    planned-place (geometryOf (s .args .g)) (s .args .disk .now) (s .pre .0) (s .args .slot) (s .args .state) (s .args .number .0) (c .before .before .before .before .before .before .before .row-at .result) (c .before .before .before .before .before .is-blocked .result) (c .before .before .before .before .before .is-blocked .last .1 .1 .1 .1 .1 .0) (known (c .before .before .before .before .before)) (c .before .before .if1 .left) (ap hiddenOf (c .enum-told2 .given .1))
 
 -- src/plans.rt:56:1
 same-length-4 : tie.Need-same-length-4
@@ -110,7 +110,7 @@ same-length-4 c = search needs
 returns-4 : tie.Need-returns-4
 returns-4 c =
     let s = c .before .before .before .before .before .before .before .before .before .before .before .before .before .before .before .before .before in
-    planned-fill (geometryOf (s .args .g)) (s .args .disk .now) (s .pre .0) (s .args .slot) (s .args .state) (s .args .number .0) (c .before .before .before .before .before .before .before .row-at .result) (c .before .before .before .before .before .is-blocked .result) (c .before .before .before .before .before .is-blocked .last .0) (known (c .before .before .before .before .before)) (c .before .before .if1 .left) (ap hiddenOf (c .enum-told3 .given .1))
+    planned-fill (geometryOf (s .args .g)) (s .args .disk .now) (s .pre .0) (s .args .slot) (s .args .state) (s .args .number .0) (c .before .before .before .before .before .before .before .row-at .result) (c .before .before .before .before .before .is-blocked .result) (c .before .before .before .before .before .is-blocked .last .1 .1 .1 .1 .1 .0) (known (c .before .before .before .before .before)) (c .before .before .if1 .left) (ap hiddenOf (c .enum-told3 .given .1))
 
 pub plan-round-spec : {M : Type 1} → statement M
 plan-round-spec =

@@ -2,3 +2,5 @@
 pub mod Fronts
 pub mod Endings
 pub mod Plans
+pub mod Rounds
+pub mod Steps

@@ -4,3 +4,4 @@ pub mod states; // what has become of the offer of a call
 pub mod plans; // what a round is to do, read before its slot is stored
 pub mod endings; // map, bits and header of a round
 pub mod rounds; // one round
+pub mod runs; // the rounds of a write

@@ -66,3 +66,26 @@ pub fn do_rounds(
         state: reached,
     }
 }
+
+// The rounds of a write from the head on, with buffers of its own; the stores are entered from the front of the list.
+pub fn run_write(
+    disk: &mut [u8],
+    list: &mut [u32],
+    g: Geometry,
+    number: PublicNumber,
+    head: u32,
+    content: &[u8],
+    random: &[u8],
+    state: State,
+    offered: HiddenNumber,
+    hidden: &[u8],
+) -> Ran
+    requires { ⌜ Runnable (geometryOf g) (now disk) (number .0) head (now content) (now random) (now hidden) (runFrom (geometryOf g .slots) (geometryOf g) (number .0) (now content) head (now random) (now disk) (stateOf state (offered .0) (now hidden))) 0 (length (now list)) ⌝ }
+    ensures { λ r. ⌜ RunMade (geometryOf g) (now (disk .entry)) (now (list .entry)) 0 (runFrom (geometryOf g .slots) (geometryOf g) (number .0) (now (content .entry)) head (now (random .entry)) (now (disk .entry)) (stateOf state (offered .0) (now (hidden .entry)))) (offered .0) (now (hidden .entry)) (now (disk .exit)) (now (list .exit)) r ⌝ }
+{
+    let size = g.block_size as usize;
+    let bytes = (g.height as usize) * size;
+    let mut nodes = [0u8; 16384];
+    let mut block = [0u8; 4096];
+    do_rounds(disk, list, 0, g, number, head, content, random, state, offered, hidden, &mut nodes[..bytes], &mut block[..size])
+}

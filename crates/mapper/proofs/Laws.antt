@@ -4,3 +4,6 @@ pub mod Drives
 pub mod Places
 pub mod PublicReads
 pub mod HiddenReads
+pub mod RoundCounts
+pub mod WriteRefusals
+pub mod Needs

@@ -3,9 +3,13 @@
 mod formatting; // header, map, bitmap and root of a fresh drive
 mod public; // refusals 4 to 6, and the public read
 mod hidden; // refusals 10 to 12, and the hidden read
+mod needs; // the rounds, stores and random bytes that a write takes, and its refusals
 
 pub use formatting::format_drive;
 pub use hidden::hidden_fault;
 pub use hidden::hidden_read;
 pub use public::public_fault;
 pub use public::public_read;
+pub use needs::Needs;
+pub use needs::write_fault;
+pub use needs::write_needs;

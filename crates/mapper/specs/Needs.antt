@@ -1,0 +1,55 @@
+-- What a write takes now, for a caller who has yet to lend it buffers: the refusal that no buffer can avert, or the rounds,
+-- stores and random blocks of a write whose data is one block. Assumes nothing.
+use mathlib.Core.Bool.{cond}
+use mathlib.Core.List.{[], _∷_, _++_}
+use Prim.Native.Nat.{ℕ, _*_}
+use lib.Dec.{eqb}
+use Rattle.laws.specs.Checks.{check, firstOf}
+use Rattle.model.specs.Geometry.{Geometry}
+use Rattle.model.specs.Blocks.{Bytes}
+use Rattle.model.specs.Layout.{geometryIn, mapEntry}
+use Rattle.model.specs.Refusals.{driveChecks, placeChecks, roundCount, storeCount}
+use Rattle.mapper.specs.declared.needs.Needs as declared
+
+-- the answer, and what is to be lent: random bytes for so many blocks, a list for so many stores
+pub record Needed : Type 0 where
+  pub answer : ℕ
+  pub rounds : ℕ
+  pub stores : ℕ
+  pub randomBlocks : ℕ
+
+-- what a declared answer says
+abbrev pub neededOf : declared.Needs → Needed
+neededOf r =
+    record {
+      answer = r .answer;
+      rounds = r .rounds;
+      stores = r .stores;
+      randomBlocks = r .«random_blocks»;
+    }
+
+-- 1 to 4, 6 and 7 of a write whose data is one block
+unfoldable pub needsRefusal : (disk : Bytes) → (number : ℕ) → ℕ
+needsRefusal disk number =
+    let g = geometryIn disk in
+    firstOf
+    (driveChecks disk ++
+    (placeChecks g disk number (g .blockSize) ++ (check (eqb (roundCount g disk) 0) 7 ∷ [])))
+
+abbrev pub refusedNeeds : (answer : ℕ) → Needed
+refusedNeeds answer = record { answer = answer; rounds = 0; stores = 0; randomBlocks = 0 }
+
+abbrev pub neededFor : Geometry → (disk : Bytes) → (number : ℕ) → Needed
+neededFor g disk number =
+    let rounds = roundCount g disk in
+    record {
+      answer = 0;
+      rounds = rounds;
+      stores = storeCount g rounds (mapEntry g disk number);
+      randomBlocks = rounds * g .height;
+    }
+
+unfoldable pub needsOf : (disk : Bytes) → (number : ℕ) → Needed
+needsOf disk number =
+    cond (eqb (needsRefusal disk number) 0) (neededFor (geometryIn disk) disk number)
+    (refusedNeeds (needsRefusal disk number))

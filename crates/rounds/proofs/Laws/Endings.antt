@@ -1,0 +1,91 @@
+-- Laws of what a round stores after its slot and the root: how many stores, and the header after map and bits.
+-- Assumes nothing.
+use mathlib.Core.Path.{_≡_, refl, sym, ap, subst, _∙_}
+use mathlib.Core.Bool.{Bool, true, false, cond}
+use mathlib.Core.Logic.{_≢_, _⊎_, inl, inr}
+use mathlib.Core.List.{List, [], _∷_, _++_}
+use Prim.Native.Nat.{ℕ, suc, _+_, _*_, _≤_, _<_}
+use native.Mathlib.Omega.{arith}
+use lib.ListN.{length}
+use Rattle.model.specs.Geometry.{Geometry, Fits, blockCount}
+use Rattle.model.specs.Blocks.{Bytes, DiskAddress, blockAt, setEntry}
+use Rattle.model.specs.Layout.{Drive, isSlotBlock, nextSlot, mapEntry}
+use Rattle.model.specs.Stores.{Trace, store, apply, addresses}
+use Rattle.model.specs.Table.{PublicChoice, keepPublic, writePublic}
+use Rattle.model.specs.Rounds.{bitStores, headerStore, mapStores}
+use Rattle.model.proofs.Laws.MapStores.{InFront, mapStores-inFront, mapStores-stored}
+use Rattle.model.proofs.Laws.PublicHalf.{OldPlace, all-map}
+use Rattle.model.proofs.Laws.Slots.{slotBlock-of}
+use Rattle.stores.specs.Made.{Made}
+use Rattle.stores.proofs.Laws.Made.{made-then, drive-made, blockAt-made-outside, length-made-list}
+use Rattle.public_half.specs.Entries.{OldEntry}
+
+-- an entry that may be left, as the model's laws say it
+pub old-of-entry : (g : Geometry) (entry : DiskAddress) → OldEntry g entry → OldPlace g entry
+old-of-entry g entry (inl e) = inl e
+old-of-entry g entry (inr e) = inr (slotBlock-of g 0 entry e)
+
+pub mapStores-keep : (g : Geometry) (disk : Bytes) (number slot : ℕ) → mapStores keepPublic g disk number slot ≡ []
+unfolding mapStores
+mapStores-keep g disk number slot = refl
+
+-- the map block and at least one bitmap block
+pub length-mapStores-write :
+    (g : Geometry) (disk : Bytes) (number slot : ℕ) → 2 ≤ length (mapStores writePublic g disk number slot)
+unfolding mapStores bitStores
+length-mapStores-write g disk number slot = omega arith
+
+module _ (g : Geometry) (disk : Bytes) (drive : Drive g disk) (number : ℕ) (counted : number < g .publics) (slot : ℕ)
+    (inside : slot < g .slots) (old : OldEntry g (mapEntry g disk number)) where
+  abbrev front : Trace
+  front = mapStores writePublic g disk number slot
+
+  module _ {middle : Bytes} {list listed : List DiskAddress} {next at : ℕ}
+      (made : Made (g .blockSize) front disk list next middle listed at) where
+    pub drive-mapped : Drive g middle
+    drive-mapped =
+        drive-made g made drive
+        (mapStores-stored g (drive .fits) disk (drive .whole) slot inside number counted
+        (old-of-entry g (mapEntry g disk number) old) writePublic)
+
+    -- the header is none of what map and bits are stored to
+    header-mapped : headerStore g middle slot ≡ headerStore g disk slot
+    header-mapped =
+        ap (λ (block : Bytes). store 0 (setEntry 5 (nextSlot g slot) block))
+        (blockAt-made-outside made (blockCount g) 0 (drive .whole)
+        (mapStores-stored g (drive .fits) disk (drive .whole) slot inside number counted
+        (old-of-entry g (mapEntry g disk number) old) writePublic)
+        (all-map (InFront g) (λ (a : ℕ). 0 ≢ a) (addresses front) (λ a h e. omega arith)
+        (mapStores-inFront g (drive .fits) disk (drive .whole) slot inside number counted
+        (old-of-entry g (mapEntry g disk number) old) writePublic)))
+
+    pub ending-written :
+        (choice : PublicChoice) {after : Bytes} {entered : List DiskAddress} {last : ℕ} → choice ≡ writePublic →
+        next + length (mapStores choice g disk number slot) + 1 ≤ length list →
+        Made (g .blockSize) (headerStore g middle slot ∷ []) middle listed at after entered last →
+        Made (g .blockSize) (mapStores choice g disk number slot ++ (headerStore g disk slot ∷ [])) disk list next
+        after entered last
+    ending-written choice e room header =
+        rw e (made-then front (headerStore g disk slot ∷ []) (omega (arith, rw e at room)) made
+        (rw header-mapped at header))
+
+module _ (g : Geometry) (disk : Bytes) (number slot : ℕ) (choice : PublicChoice) where
+  pub ending-kept :
+      {after : Bytes} {list entered : List DiskAddress} {next last : ℕ} → choice ≡ keepPublic →
+      Made (g .blockSize) (headerStore g disk slot ∷ []) disk list next after entered last →
+      Made (g .blockSize) (mapStores choice g disk number slot ++ (headerStore g disk slot ∷ [])) disk list next
+      after entered last
+  ending-kept e header = rw (e, mapStores-keep) header
+
+  -- a round that took the call's data has room for map and bits
+  pub ending-room :
+      (next room : ℕ) → choice ≡ writePublic →
+      next + length (mapStores choice g disk number slot) + 1 ≤ room → next + 3 ≤ room
+  ending-room next room e h = omega (arith, rw e at h, length-mapStores-write g disk number slot)
+
+  -- and after these for the header
+  pub ending-room-header :
+      (next room : ℕ) → choice ≡ writePublic →
+      next + length (mapStores choice g disk number slot) + 1 ≤ room →
+      next + length (mapStores writePublic g disk number slot) < room
+  ending-room-header next room e h = omega (arith, rw e at h)

@@ -1,0 +1,4 @@
+pub mod States
+pub mod Plans
+pub mod Rounds
+pub mod Runs

@@ -11,13 +11,18 @@ use mapper::hidden_read;
 use mapper::public_fault;
 use mapper::public_read;
 ghost use mathlib.Core.Path.{_≡_};
+ghost use mathlib.Core.Bool.{_&&_};
 ghost use Prim.Native.Nat.{_+_, _*_, _≤_};
 ghost use lib.ListN.{length, getD};
+ghost use Rattle.model.specs.Refusals.{publicReadRefusal, hiddenReadRefusal};
+ghost use Rattle.model.specs.Calls.{publicRead, hiddenRead};
+ghost use Rattle.figures.specs.Drives.{agrees, withSlot, drive};
 
 // The examples' drive with public number 0 and hidden number 0 in slot 0: its block A starts with a 7, its
 // hidden data with an 8. One more entry takes the value given.
 fn make_drive(disk: &mut [u8], index: usize, value: u32)
     requires { ⌜ (length (now disk) ≡ 512) × (4 * index + 4 ≤ 512) ⌝ }
+    ensures { λ _. ⌜ now (disk .exit) ≡ drive index value (now (disk .entry)) ⌝ }
 {
     format_drive(disk, two_high(32, 3, 2, 4));
     put_entry(disk, 8, 4);
@@ -29,6 +34,7 @@ fn make_drive(disk: &mut [u8], index: usize, value: u32)
 // Slot 0 of that drive.
 fn make_slot(disk: &mut [u8], index: usize, value: u32)
     requires { ⌜ (length (now disk) ≡ 512) × (4 * index + 4 ≤ 512) ⌝ }
+    ensures { λ _. ⌜ now (disk .exit) ≡ withSlot index value (now (disk .entry)) ⌝ }
 {
     put_entry(disk, 32, 7);
     put_entry(disk, 40, 6);
@@ -46,7 +52,17 @@ fn first_of(bytes: &[u8]) -> u64
     256
 }
 
-// A public read: its answer and the first byte shown.
+// Whether both figures of a read agree.
+fn both(answered: bool, shown: bool) -> bool
+    ensures { λ r. ⌜ r ≡ (answered && shown) ⌝ }
+{
+    if answered {
+        return shown;
+    }
+    false
+}
+
+// A public read: its answer and the first byte shown; answers whether both agree.
 fn print_public<'a>(
     name: &[u8],
     answer: u64,
@@ -54,20 +70,25 @@ fn print_public<'a>(
     disk: &'a [u8],
     number: u32,
     blank: &'a [u8],
-) {
-    print_figure(
+) -> bool
+    ensures { λ r. ⌜ r ≡ agrees answer first
+        (publicReadRefusal (now (disk .entry)) number (now (blank .entry)))
+        (publicRead (now (disk .entry)) number (now (blank .entry))) ⌝ }
+{
+    let answered = print_figure(
         name,
         answer,
         public_fault(disk, PublicNumber(number), blank) as u64,
     );
-    print_figure(
+    let shown = print_figure(
         b"  shows",
         first,
         first_of(public_read(disk, PublicNumber(number), blank)),
     );
+    both(answered, shown)
 }
 
-// A hidden read: its answer and the first byte shown.
+// A hidden read: its answer and the first byte shown; answers whether both agree.
 fn print_hidden<'a>(
     name: &[u8],
     answer: u64,
@@ -75,53 +96,69 @@ fn print_hidden<'a>(
     disk: &'a [u8],
     number: u32,
     blank: &'a [u8],
-) {
-    print_figure(
+) -> bool
+    ensures { λ r. ⌜ r ≡ agrees answer first
+        (hiddenReadRefusal (now (disk .entry)) number (now (blank .entry)))
+        (hiddenRead (now (disk .entry)) number (now (blank .entry))) ⌝ }
+{
+    let answered = print_figure(
         name,
         answer,
         hidden_fault(disk, HiddenNumber(number), blank) as u64,
     );
-    print_figure(
+    let shown = print_figure(
         b"  shows",
         first,
         first_of(hidden_read(disk, HiddenNumber(number), blank)),
     );
+    both(answered, shown)
 }
 
-// Reads of the drive as it is.
-fn print_good(disk: &mut [u8])
+// Reads of the drive as it is; answers the number of lines.
+fn print_good(disk: &mut [u8]) -> u32
     requires { ⌜ length (now disk) ≡ 512 ⌝ }
+    ensures counted { λ r. ⌜ r ≡ 8 ⌝ }
+    ensures stored { λ _. ⌜ now (disk .exit) ≡ drive 8 4 (now (disk .entry)) ⌝ }
 {
     make_drive(disk, 8, 4);
     print_public(b"public read, placed", 0, 7, disk, 0, &[9u8; 32]);
     print_public(b"public read, never placed", 0, 9, disk, 1, &[9u8; 32]);
     print_hidden(b"hidden read, placed", 0, 8, disk, 0, &[9u8; 32]);
     print_hidden(b"hidden read, never placed", 0, 9, disk, 1, &[9u8; 32]);
+    8
 }
 
-// Reads that the number or the blank is refused for.
-fn print_refused(disk: &mut [u8])
+// Reads that the number or the blank is refused for; answers the number of lines.
+fn print_refused(disk: &mut [u8]) -> u32
     requires { ⌜ length (now disk) ≡ 512 ⌝ }
+    ensures counted { λ r. ⌜ r ≡ 8 ⌝ }
+    ensures stored { λ _. ⌜ now (disk .exit) ≡ drive 8 4 (now (disk .entry)) ⌝ }
 {
     make_drive(disk, 8, 4);
     print_public(b"public number 3", 4, 256, disk, 3, &[9u8; 32]);
     print_public(b"public blank of 31 bytes", 5, 256, disk, 0, &[9u8; 31]);
     print_hidden(b"hidden number 2", 10, 256, disk, 2, &[9u8; 32]);
     print_hidden(b"hidden blank of 33 bytes", 11, 256, disk, 0, &[9u8; 33]);
+    8
 }
 
-// Both reads of a drive that is refused, one entry of its header being another.
-fn print_drive(name: &[u8], answer: u64, disk: &mut [u8], index: usize, value: u32)
+// Both reads of a drive that is refused, one entry of its header being another; answers the number of lines.
+fn print_drive(name: &[u8], answer: u64, disk: &mut [u8], index: usize, value: u32) -> u32
     requires { ⌜ (length (now disk) ≡ 512) × (4 * index + 4 ≤ 512) ⌝ }
+    ensures counted { λ r. ⌜ r ≡ 4 ⌝ }
+    ensures stored { λ _. ⌜ now (disk .exit) ≡ drive index value (now (disk .entry)) ⌝ }
 {
     make_drive(disk, index, value);
     print_public(name, answer, 256, disk, 0, &[9u8; 32]);
     print_hidden(name, answer, 256, disk, 0, &[9u8; 32]);
+    4
 }
 
-// Entries that are no place: of the map, and of the root.
-fn print_damaged(disk: &mut [u8])
+// Entries that are no place: of the map, and of the root; answers the number of lines.
+fn print_damaged(disk: &mut [u8]) -> u32
     requires { ⌜ length (now disk) ≡ 512 ⌝ }
+    ensures counted { λ r. ⌜ r ≡ 6 ⌝ }
+    ensures stored { λ _. ⌜ now (disk .exit) ≡ drive 24 6 (drive 8 7 (drive 8 5 (now (disk .entry)))) ⌝ }
 {
     make_drive(disk, 8, 5);
     print_public(b"map entry 5", 6, 256, disk, 0, &[9u8; 32]);
@@ -129,14 +166,17 @@ fn print_damaged(disk: &mut [u8])
     print_public(b"map entry of a free slot", 6, 256, disk, 0, &[9u8; 32]);
     make_drive(disk, 24, 6);
     print_hidden(b"first root entry 6", 12, 256, disk, 0, &[9u8; 32]);
+    6
 }
 
-// All reads, each on a disk of zeros.
-pub fn print_reads() {
-    print_good(&mut [0u8; 512]);
-    print_drive(b"block size 48", 1, &mut [0u8; 512], 0, 48);
-    print_drive(b"slots 5", 2, &mut [0u8; 512], 4, 5);
-    print_drive(b"head 4", 3, &mut [0u8; 512], 5, 4);
-    print_refused(&mut [0u8; 512]);
-    print_damaged(&mut [0u8; 512]);
+// All reads, each on a disk of zeros; answers the number of lines.
+pub fn print_reads() -> u32
+    ensures { λ r. ⌜ r ≡ 34 ⌝ }
+{
+    let good = print_good(&mut [0u8; 512]);
+    let sized = print_drive(b"block size 48", 1, &mut [0u8; 512], 0, 48);
+    let slotted = print_drive(b"slots 5", 2, &mut [0u8; 512], 4, 5);
+    let headed = print_drive(b"head 4", 3, &mut [0u8; 512], 5, 4);
+    let refused = print_refused(&mut [0u8; 512]);
+    good + sized + slotted + headed + refused + print_damaged(&mut [0u8; 512])
 }

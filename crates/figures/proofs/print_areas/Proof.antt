@@ -1,4 +1,5 @@
--- `figures::print_areas` is safe: the examples' geometry is inside the limits. Assumes nothing.
+-- `figures::print_areas` meets its contract: the examples' geometry is inside the limits, so that its areas
+-- are asked for. Assumes nothing.
 use mathlib.Core.Bool.{true}
 use mathlib.Core.Path.{_≡_, refl}
 use native.Mathlib.Nat.{mul-le-mul, le-of-lt}

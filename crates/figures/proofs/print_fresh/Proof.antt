@@ -1,4 +1,5 @@
--- `figures::print_fresh` is safe: formatting keeps the disk's 512 bytes. Assumes nothing.
+-- `figures::print_fresh` meets its contract: formatting keeps the disk's 512 bytes, so that each byte is
+-- there. Assumes nothing.
 use mathlib.Core.Path.{sym}
 use native.Mathlib.Omega.{arith}
 use lib.Seq.{length-take-le}

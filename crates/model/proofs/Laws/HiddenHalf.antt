@@ -18,7 +18,6 @@ use Rattle.model.specs.HiddenHalf.{HiddenWrite, HiddenState, HiddenHalf,
 use Rattle.model.specs.HiddenHalf.{ownerOf, hiddenBy, rowOf, hiddenHalf}
 use Rattle.model.proofs.Laws.Geometry.{slot-block-lt}
 use Rattle.model.proofs.Laws.Table.{rowAt-ruled}
-use Rattle.model.proofs.Laws.Accepted.{GoodWrite}
 use Rattle.model.proofs.Laws.Paths.{Hides, blockAt-whole, writtenBack-hides, dummyStores-hides}
 use Rattle.model.proofs.Laws.Paths.{currentPath-hides}
 
@@ -41,18 +40,23 @@ rowOf-hidden g disk slot waiting =
 
 -- ---- the half ----
 
--- what the half gives: a trace that hides, and the writes still waiting good
-pub record HidesHalf (g : Geometry) (slot : ℕ) (part : HiddenHalf) : Type 0 where
+-- a hidden write of a whole block
+abbrev pub WholeWrite : Geometry → HiddenWrite → Type 0
+WholeWrite g write = length (write .content) ≡ g .blockSize
+
+-- what the half gives: a trace that hides, and of the writes still waiting what held of all of them
+pub record HidesHalf (P : HiddenWrite → Type 0) (g : Geometry) (slot : ℕ) (part : HiddenHalf) : Type 0 where
   pub hides : Hides g slot (part .trace)
-  pub waiting : All (GoodWrite g) (part .state .waiting)
+  pub waiting : All P (part .state .waiting)
 
 module _ (g : Geometry) (f : Fits g) (disk : Bytes) (whole : length disk ≡ blockCount g * g .blockSize)
     (slot : ℕ) (inside : slot < g .slots) (random : Bytes)
-    (enough : g .height * g .blockSize ≤ length random) where
+    (enough : g .height * g .blockSize ≤ length random) (P : HiddenWrite → Type 0)
+    (whole-write : (write : HiddenWrite) → P write → WholeWrite g write) where
   hiddenBy-hides :
       (choice : HiddenChoice) (state : HiddenState) (waiting : List HiddenWrite) →
-      All (GoodWrite g) (state .waiting) → All (GoodWrite g) waiting →
-      HidesHalf g slot (hiddenBy choice g disk slot random state waiting)
+      All P (state .waiting) → All P waiting →
+      HidesHalf P g slot (hiddenBy choice g disk slot random state waiting)
   unfolding hiddenBy
   hiddenBy-hides keepHidden state waiting kept h =
       record {
@@ -68,17 +72,17 @@ module _ (g : Geometry) (f : Fits g) (disk : Bytes) (whole : length disk ≡ blo
   hiddenBy-hides placeHidden state (next ∷ later) kept h =
       record {
         hides = currentPath-hides g f disk whole slot inside (next .number) (next .content)
-            (h .0 .block-sized);
+            (whole-write next (h .0));
         waiting = h .1;
       }
   hiddenBy-hides fillHidden state waiting kept h =
       record { hides = dummyStores-hides g f disk whole slot inside random enough; waiting = kept }
 
   pub hiddenHalf-hides :
-      (state : HiddenState) → All (GoodWrite g) (state .waiting) →
-      HidesHalf g slot (hiddenHalf g disk slot random state)
+      (state : HiddenState) → All P (state .waiting) →
+      HidesHalf P g slot (hiddenHalf g disk slot random state)
   unfolding hiddenHalf
   hiddenHalf-hides state h =
-      cond-cases (HidesHalf g slot) (isBlocked g disk slot (state .waiting))
+      cond-cases (HidesHalf P g slot) (isBlocked g disk slot (state .waiting))
       (λ _. record { hides = writtenBack-hides g f disk whole slot inside; waiting = h })
       (λ _. hiddenBy-hides (rowOf g disk slot (state .waiting) .hidden) state (state .waiting) h h)

@@ -74,11 +74,12 @@ module _ (g : Geometry) (f : Fits g) (number : ℕ) (counted : number < g .publi
   abbrev now : HiddenHalf
   now = hiddenHalf g disk slot random state
 
-  ready-hides : HidesHalf g slot now
+  ready-hides : HidesHalf (GoodWrite g) g slot now
   ready-hides =
       let one : 1 ≤ roundsTo (suc most) (isAllocated g disk) g slot = omega (arith, ready .some-rounds) in
       hiddenHalf-hides g f disk (ready .whole) slot (ready .here) random
-      (omega (arith, ready .enough, mul-le-mul-right (g .height * g .blockSize) one)) state (ready .good)
+      (omega (arith, ready .enough, mul-le-mul-right (g .height * g .blockSize) one)) (GoodWrite g)
+      (λ write good. good .block-sized) state (ready .good)
 
   pub ready-round : Round g disk number slot content (now .trace)
   ready-round =

@@ -114,6 +114,19 @@ abbrev pub afterRound :
 afterRound choice g disk number slot content hidden =
     apply (g .blockSize) (roundTrace choice g disk number slot content hidden) disk
 
+-- the public block's store is of a whole block and inside the disk
+pub publicStore-stored :
+    (g : Geometry) (f : Fits g) (disk : Bytes) (whole : length disk ≡ blockCount g * g .blockSize) (slot : ℕ)
+    (inside : slot < g .slots) (content : Bytes) (sized : length content ≡ g .blockSize) (choice : PublicChoice) →
+    Stored (g .blockSize) (blockCount g) (publicStore choice g disk slot content)
+unfolding publicStore
+publicStore-stored g f disk whole slot inside content sized choice =
+    (rw (publicStore-address choice g disk slot content) (slotStart-lt g slot inside), by choice)
+  where
+    by : (choice : PublicChoice) → length (publicStore choice g disk slot content .content) ≡ g .blockSize
+    by keepPublic = blockAt-whole g f disk whole (slotStart g slot) (slotStart-lt g slot inside)
+    by writePublic = sized
+
 -- what a round takes: a whole disk of an accepted geometry, a public number with a place or none, a slot, a
 -- block of data, and a hidden half that hides
 pub record Round (g : Geometry) (disk : Bytes) (number slot : ℕ) (content : Bytes) (hidden : Trace) :
@@ -133,17 +146,6 @@ old-of-round {g} {disk} {number} round = old-of-placed g disk number (round .pla
 
 module _ {g : Geometry} {disk : Bytes} {number slot : ℕ} {content : Bytes} {hidden : Trace}
     (round : Round g disk number slot content hidden) (choice : PublicChoice) where
-  publicStore-stored : Stored (g .blockSize) (blockCount g) (publicStore choice g disk slot content)
-  unfolding publicStore
-  publicStore-stored =
-      (rw (publicStore-address choice g disk slot content) (slotStart-lt g slot (round .inside)), by choice)
-    where
-      by : (choice : PublicChoice) → length (publicStore choice g disk slot content .content) ≡ g .blockSize
-      by keepPublic =
-          blockAt-whole g (round .fits) disk (round .whole) (slotStart g slot)
-          (slotStart-lt g slot (round .inside))
-      by writePublic = round .sized
-
   headerStore-stored : Stored (g .blockSize) (blockCount g) (headerStore g disk slot)
   headerStore-stored = (
     omega arith,
@@ -167,7 +169,7 @@ module _ {g : Geometry} {disk : Bytes} {number slot : ℕ} {content : Bytes} {hi
       All (Stored (g .blockSize) (blockCount g)) (roundTrace choice g disk number slot content hidden)
   unfolding roundTrace
   round-stored = (
-    publicStore-stored,
+    publicStore-stored g (round .fits) disk (round .whole) slot (round .inside) content (round .sized) choice,
     all-append (Stored (g .blockSize) (blockCount g)) hidden _ hidden-stored
         (all-append (Stored (g .blockSize) (blockCount g)) (mapStores choice g disk number slot) _
         (mapStores-stored g (round .fits) disk (round .whole) slot (round .inside) number (round .counted)

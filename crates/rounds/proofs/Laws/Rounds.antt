@@ -17,7 +17,7 @@ use Rattle.model.proofs.Laws.Geometry.{slot-block-lt, rootAddress-lt}
 use Rattle.model.proofs.Laws.Paths.{Hides}
 use Rattle.model.proofs.Laws.PublicHalf.{all-map}
 use Rattle.model.proofs.Laws.RoundCounts.{length-addressesFrom}
-use Rattle.model.proofs.Laws.RoundStores.{HiddenAddress, hides-addresses, stored-of-whole, publicStore-address, round-stored}
+use Rattle.model.proofs.Laws.RoundStores.{HiddenAddress, hides-addresses, stored-of-whole, publicStore-address, publicStore-stored}
 use Rattle.model.proofs.Laws.Stores.{All, Stored, length-addresses}
 use Rattle.stores.specs.Made.{Made}
 use Rattle.stores.proofs.Laws.Made.{made-then, drive-made, blockAt-made-outside, length-made-list}
@@ -71,12 +71,8 @@ module _ (g : Geometry) (disk : Bytes) (drive : Drive g disk) (number : ℕ) (co
   room-public = omega (arith, roomy)
 
   public-stored : All (Stored (g .blockSize) (blockCount g)) (publicTrace choice g disk slot content)
-  unfolding roundTrace
-  public-stored = (
-    round-stored g (drive .fits) disk (drive .whole) number counted slot inside content sized
-        (old-of-entry g (mapEntry g disk number) old) hidden hides choice .0,
-    tt,
-  )
+  public-stored =
+      (publicStore-stored g (drive .fits) disk (drive .whole) slot inside content sized choice, tt)
 
   hidden-stored : All (Stored (g .blockSize) (blockCount g)) hidden
   hidden-stored =

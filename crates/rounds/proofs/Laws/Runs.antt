@@ -17,12 +17,13 @@ use Rattle.model.specs.Stores.{Trace, apply}
 use Rattle.model.specs.Table.{PublicChoice, keepPublic, writePublic}
 use Rattle.model.specs.HiddenHalf.{HiddenState, hiddenHalf}
 use Rattle.model.specs.Rounds.{Run, stopped, followedBy, goesOn, roundTrace, runFrom}
-use Rattle.model.proofs.Laws.HiddenHalf.{hiddenHalf-hides}
+use Rattle.model.proofs.Laws.HiddenHalf.{WholeWrite, hiddenHalf-hides}
 use Rattle.model.proofs.Laws.Paths.{Hides}
-use Rattle.model.proofs.Laws.RoundStores.{round-stored}
+use Rattle.model.proofs.Laws.Places.{Placed}
+use Rattle.model.proofs.Laws.RoundStores.{Round, round-stored}
 use Rattle.model.proofs.Laws.Slots.{nextSlot-lt}
 use Rattle.model.proofs.Laws.Stores.{All, Stored}
-use Rattle.model.proofs.Laws.Wrote.{Placed, old-of-placed, placed-kept}
+use Rattle.model.proofs.Laws.Wrote.{placed-kept}
 use Rattle.stores.specs.Made.{Made}
 use Rattle.stores.proofs.Laws.Made.{made-nothing, made-then, drive-made, length-made-list}
 use Rattle.public_half.specs.Entries.{OldEntry}
@@ -228,7 +229,19 @@ module _ (g : Geometry) (number : ℕ) (content random hidden : Bytes) (offered 
     hides : Hides g slot (hiddenHalf g diskNow slot randomNow stateNow .trace)
     hides =
         hiddenHalf-hides g (going .drive .fits) diskNow (going .drive .whole) slot (going .inside) randomNow random-here
-        stateNow (waiting-whole g (state .offer) offered hidden hidden-sized) .hides
+        (WholeWrite g) (λ write h. h) stateNow (waiting-whole g (state .offer) offered hidden hidden-sized) .hides
+
+    this-round : Round g diskNow number slot content (hiddenHalf g diskNow slot randomNow stateNow .trace)
+    this-round =
+        record {
+          fits = going .drive .fits;
+          whole = going .drive .whole;
+          counted = counted;
+          inside = going .inside;
+          sized = sized;
+          placed = going .placed;
+          hides = hides;
+        }
 
     module _ (diskAfter : Bytes) (listAfter : List DiskAddress) (step : Step)
         (stepped : Stepped g diskNow listNow at number slot content randomNow state offered hidden diskAfter listAfter
@@ -267,23 +280,20 @@ module _ (g : Geometry) (number : ℕ) (content random hidden : Bytes) (offered 
       going-next e =
           let on : goesOn (choiceAt g diskNow slot stateNow) ≡ true = sym (stepped .goes-on) ∙ e in
           let kept = keep-of-goes-on (choiceAt g diskNow slot stateNow) on in
-          let old = old-of-placed g diskNow number (going .placed) in
           record {
             front = going .front ++ round;
             made = made-round;
             within = omega arith;
             drive =
                 drive-made g (stepped .made) (going .drive)
-                (round-stored g (going .drive .fits) diskNow (going .drive .whole) number counted slot (going .inside)
-                content sized old _ hides (choiceAt g diskNow slot stateNow));
+                (round-stored this-round (choiceAt g diskNow slot stateNow));
             inside = nextSlot-lt g slot (going .drive .fits);
             placed =
                 subst (λ (d : Bytes). Placed g d number) (sym (stepped .made .on-disk))
                 (subst (λ (choice : PublicChoice).
                 Placed g (apply (g .blockSize) (roundTrace choice g diskNow number slot content
                 (hiddenHalf g diskNow slot randomNow stateNow .trace)) diskNow) number) (sym kept)
-                (placed-kept g (going .drive .fits) diskNow (going .drive .whole) number counted slot (going .inside)
-                content sized (going .placed) _ hides));
+                (placed-kept this-round));
             list-kept = length-made-list (stepped .made) round-room ∙ going .list-kept;
             run-is =
                 run-round

@@ -65,7 +65,7 @@ module _ (g : Geometry) (disk : Bytes) (number slot : ℕ) (content random hidde
   hides =
       subst (Hides g slot) trace-is
       (hiddenHalf-hides g (ready .drive .fits) disk (ready .drive .whole) slot (ready .slot-inside) random
-      (ready .random-enough) (stateOf state offered hidden)
+      (ready .random-enough) (WholeWrite g) (λ write h. h) (stateOf state offered hidden)
       (waiting-whole g (state .offer) offered hidden (ready .hidden-whole)) .hides)
 
   round-is :

@@ -7,3 +7,5 @@ pub mod HiddenReads
 pub mod RoundCounts
 pub mod WriteRefusals
 pub mod Needs
+pub mod Offers
+pub mod Writes

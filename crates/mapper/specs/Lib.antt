@@ -1,2 +1,3 @@
 pub mod Headers
 pub mod Needs
+pub mod Writes

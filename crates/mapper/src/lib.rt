@@ -4,6 +4,7 @@ mod formatting; // header, map, bitmap and root of a fresh drive
 mod public; // refusals 4 to 6, and the public read
 mod hidden; // refusals 10 to 12, and the hidden read
 mod needs; // the rounds, stores and random bytes that a write takes, and its refusals
+mod write; // the write, with or without an offer
 
 pub use formatting::format_drive;
 pub use hidden::hidden_fault;
@@ -13,3 +14,6 @@ pub use public::public_read;
 pub use needs::Needs;
 pub use needs::write_fault;
 pub use needs::write_needs;
+pub use write::Outcome;
+pub use write::Written;
+pub use write::write_block;

@@ -135,7 +135,7 @@ numbered-hidden : (g : Geometry) (number size : ℕ) → Numbered (hiddenChecks 
 unfolding hiddenChecks
 numbered-hidden g number size = (λ e. omega arith, ((λ e. omega arith), tt))
 
-accepted-of-hiddenWrite :
+pub accepted-of-hiddenWrite :
     (g : Geometry) (number : ℕ) (content : Bytes) → hiddenWriteRefusal g number content ≡ 0 →
     AcceptedHidden g number (length content)
 unfolding hiddenWriteRefusal hiddenChecks

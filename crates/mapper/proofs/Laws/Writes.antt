@@ -1,0 +1,232 @@
+-- Laws of a write: a refused one leaves all as it was; one that is not refused can be run, and its run is the model's write.
+-- Assumes nothing.
+use mathlib.Core.Path.{_≡_, refl, sym, ap, subst, _∙_}
+use mathlib.Core.Logic.{_≢_}
+use mathlib.Core.Bool.{Bool, true, false, _&&_}
+use mathlib.Core.List.{List, []}
+use mathlib.Core.Option.{Option}
+use Prim.Native.Nat.{ℕ, _+_, _*_, _^_, _≤_, _<_}
+use native.Mathlib.Nat.{mul-assoc}
+use native.Mathlib.Omega.{arith}
+use lib.Dec.{eqb}
+use lib.ListN.{length}
+use Rattle.laws.specs.Lists.{over}
+use Rattle.laws.proofs.Cases.{cond-cases}
+use Rattle.laws.proofs.Lists.{over-nil}
+use Rattle.model.specs.Geometry.{Geometry}
+use Rattle.model.specs.Blocks.{Bytes, DiskAddress}
+use Rattle.model.specs.Layout.{geometryIn, headIn, isAllocated, mapEntry}
+use Rattle.model.specs.Stores.{addresses}
+use Rattle.model.specs.HiddenHalf.{HiddenWrite}
+use Rattle.model.specs.Rounds.{Run, runFrom}
+use Rattle.model.specs.Refusals.{roundCount, storeCount, writeRefusal}
+use Rattle.model.specs.Calls as model
+use Rattle.model.proofs.Laws.Runs.{rounds-ran, length-ran}
+use Rattle.model.proofs.Laws.Stores.{apply-nil}
+use Rattle.model.proofs.Laws.Refusals.{Accepted, accepted-of-refusal}
+use Rattle.model.proofs.Laws.Accepted.{AcceptedWrite, accepted-of-write, driveRefusal-of-write}
+use Rattle.model.proofs.Laws.Calls.{written-refused, written-done}
+use Rattle.model.proofs.Laws.WriteRuns.{writeRun-ran}
+use Rattle.model.proofs.Refusals.Circle.{roundsTo-le}
+use Rattle.rounds.specs.declared.runs.Ran.{Ran}
+use Rattle.rounds.specs.declared.states.Offer.the-variants.{Absent, Waiting}
+use Rattle.rounds.specs.States.{stateOf}
+use Rattle.rounds.specs.Runs.{Runnable, RunMade}
+use Rattle.mapper.specs.declared.write.Written.{Written}
+use Rattle.mapper.specs.declared.write.Outcome.{Outcome}
+use Rattle.mapper.specs.declared.write.Outcome.the-variants.{NotTried}
+use Rattle.mapper.specs.Writes.{outcomeSaid, offerOf, takenWrites, RanWith, Answered}
+use Rattle.mapper.proofs.Laws.Offers.{writes-taken}
+use Rattle.mapper.proofs.Laws.RoundCounts.{stores-small}
+
+-- ---- with the offer or without ----
+
+-- rounds from a head on with these hidden writes
+abbrev pub runTaken :
+    Geometry → (disk : Bytes) → (number head : ℕ) → (content random : Bytes) → (taken : Bool) → (hiddenNumber : ℕ) →
+    (hidden : Bytes) → Run
+runTaken g disk number head content random taken hiddenNumber hidden =
+    runFrom (g .slots) g number content head random disk (model.startState (takenWrites taken hiddenNumber hidden))
+
+module _ (g : Geometry) (disk : Bytes) (number head : ℕ) (content random : Bytes) (taken : Bool) (hiddenNumber : ℕ)
+    (hidden : Bytes) where
+  abbrev run : Run
+  run = runTaken g disk number head content random taken hiddenNumber hidden
+
+  module _ (room : ℕ) (r : Runnable g disk number head content random content run 0 room) where
+    pub runnable-taken :
+        taken ≡ true → length hidden ≡ g .blockSize →
+        Runnable g disk number head content random hidden
+        (runFrom (g .slots) g number content head random disk
+        (stateOf (record { offer = Waiting; «met_damage» = false }) hiddenNumber hidden)) 0 room
+    runnable-taken e whole =
+        let here : Runnable g disk number head content random content
+        (runTaken g disk number head content random true hiddenNumber hidden) 0 room =
+        subst (λ (t : Bool).
+        Runnable g disk number head content random content
+        (runTaken g disk number head content random t hiddenNumber hidden) 0 room) e r in
+        record {
+          drive = here .drive;
+          number-inside = here .number-inside;
+          head-inside = here .head-inside;
+          content-whole = here .content-whole;
+          hidden-whole = whole;
+          old-place = here .old-place;
+          random-enough = here .random-enough;
+          room-enough = here .room-enough;
+        }
+
+    pub runnable-absent :
+        taken ≡ false →
+        Runnable g disk number head content random content
+        (runFrom (g .slots) g number content head random disk
+        (stateOf (record { offer = Absent; «met_damage» = false }) hiddenNumber content)) 0 room
+    runnable-absent e =
+        subst (λ (t : Bool).
+        Runnable g disk number head content random content
+        (runTaken g disk number head content random t hiddenNumber hidden) 0 room) e r
+
+  module _ (list : List DiskAddress) (diskAfter : Bytes) (listAfter : List DiskAddress) (ran : Ran) where
+    pub ran-taken :
+        taken ≡ true →
+        RunMade g disk list 0
+        (runFrom (g .slots) g number content head random disk
+        (stateOf (record { offer = Waiting; «met_damage» = false }) hiddenNumber hidden)) hiddenNumber hidden diskAfter
+        listAfter ran → RanWith g disk list run diskAfter listAfter ran
+    ran-taken e made = rw e (record { offered = hiddenNumber; hidden = hidden; run-made = made })
+
+    pub ran-absent :
+        taken ≡ false →
+        RunMade g disk list 0
+        (runFrom (g .slots) g number content head random disk
+        (stateOf (record { offer = Absent; «met_damage» = false }) hiddenNumber content)) hiddenNumber content diskAfter
+        listAfter ran → RanWith g disk list run diskAfter listAfter ran
+    ran-absent e made = rw e (record { offered = hiddenNumber; hidden = content; run-made = made })
+
+-- ---- refused ----
+
+pub answered-refused :
+    (disk : Bytes) (number : ℕ) (content random : Bytes) (list : List DiskAddress) (offer : Option HiddenWrite)
+    (fault : ℕ) → fault ≡ writeRefusal disk number content (length random) (length list) → fault ≢ 0 →
+    Answered (model.written disk number content random (length list) offer) disk list disk list
+    (record { answer = fault; rounds = 0; stores = 0; outcome = NotTried })
+unfolding addresses
+answered-refused disk number content random list offer fault e f =
+    rw (written-refused disk number content random (length list) offer (λ z. f (e ∙ z)))
+    (record {
+      answered = e;
+      rounds-are = refl;
+      stores-are = refl;
+      outcome-is = refl;
+      stored = sym (apply-nil (geometryIn disk .blockSize) disk);
+      listed = sym (over-nil 0 list (omega arith));
+    })
+
+-- ---- not refused ----
+
+module _ (disk : Bytes) (number : ℕ) (content random : Bytes) (list : List DiskAddress) (offered : Bool)
+    (hiddenNumber : ℕ) (hidden : Bytes)
+    (accepted : writeRefusal disk number content (length random) (length list) ≡ 0) (g : Geometry)
+    (same : g ≡ geometryIn disk) (head : ℕ) (first : head ≡ headIn disk) (bad : ℕ)
+    (judged : bad ≡ model.offerRefusal g (offerOf offered hiddenNumber hidden)) (taken : Bool)
+    (decided : taken ≡ (offered && eqb bad 0)) where
+  abbrev offer : Option HiddenWrite
+  offer = offerOf offered hiddenNumber hidden
+
+  abbrev theirs : Run
+  theirs = model.writeRun (geometryIn disk) disk number content random offer
+
+  drive : Accepted disk
+  drive =
+      accepted-of-refusal disk (driveRefusal-of-write disk number content (length random) (length list) accepted)
+
+  allowed : AcceptedWrite (geometryIn disk) disk number (length content) (length random) (length list)
+  allowed = accepted-of-write disk number content (length random) (length list) accepted
+
+  bad-is : bad ≡ model.offerRefusal (geometryIn disk) offer
+  bad-is = judged ∙ ap (λ (h : Geometry). model.offerRefusal h offer) same
+
+  -- the run with the geometry and the head that were read is the write's
+  run-is : runTaken g disk number head content random taken hiddenNumber hidden ≡ theirs
+  unfolding model.writeRun
+  run-is =
+      ap (λ (h : Geometry). runTaken h disk number head content random taken hiddenNumber hidden) same
+      ∙ ap (λ (k : ℕ). runTaken (geometryIn disk) disk number k content random taken hiddenNumber hidden) first
+      ∙ ap (λ writes. runFrom (geometryIn disk .slots) (geometryIn disk) number content (headIn disk) random disk
+      (model.startState writes))
+      (writes-taken (geometryIn disk) hiddenNumber hidden bad offered taken bad-is decided)
+
+  rounds-are : theirs .rounds ≡ roundCount (geometryIn disk) disk
+  rounds-are =
+      rounds-ran (geometryIn disk) number content (headIn disk) (roundCount (geometryIn disk) disk)
+      (allowed .some-rounds) disk theirs (writeRun-ran disk number content random (length list) offer accepted)
+
+  stores-are :
+      length (theirs .trace) ≡
+      storeCount (geometryIn disk) (roundCount (geometryIn disk) disk) (mapEntry (geometryIn disk) disk number)
+  stores-are =
+      length-ran (geometryIn disk) number content (headIn disk) (roundCount (geometryIn disk) disk)
+      (allowed .some-rounds) disk theirs (writeRun-ran disk number content random (length list) offer accepted)
+
+  runnable-theirs : Runnable (geometryIn disk) disk number (headIn disk) content random content theirs 0 (length list)
+  runnable-theirs =
+      let a = allowed .accepted in
+      record {
+        drive = record { fits = drive .sized .fits; whole = drive .sized .whole };
+        number-inside = a .number-inside;
+        head-inside = drive .head-inside;
+        content-whole = a .block-sized;
+        hidden-whole = a .block-sized;
+        old-place = a .in-place;
+        random-enough =
+            rw rounds-are
+            (rw (mul-assoc (roundCount (geometryIn disk) disk) (geometryIn disk .height) (geometryIn disk .blockSize)) at
+            (allowed .enough-random));
+        room-enough = omega (arith, stores-are, allowed .enough-room);
+      }
+
+  pub runnable :
+      Runnable g disk number head content random content
+      (runTaken g disk number head content random taken hiddenNumber hidden) 0 (length list)
+  runnable =
+      rw run-is
+      (subst (λ (h : Geometry). Runnable h disk number head content random content theirs 0 (length list)) (sym same)
+      (subst (λ (k : ℕ). Runnable (geometryIn disk) disk number k content random content theirs 0 (length list))
+      (sym first) runnable-theirs))
+
+  module _ (diskAfter : Bytes) (listAfter : List DiskAddress) (ran : Ran)
+      (done : RanWith g disk list (runTaken g disk number head content random taken hiddenNumber hidden) diskAfter
+      listAfter ran) where
+    done-theirs : RanWith (geometryIn disk) disk list theirs diskAfter listAfter ran
+    done-theirs =
+        subst (λ (h : Geometry). RanWith h disk list theirs diskAfter listAfter ran) same (rw run-is at done)
+
+    pub stores-fit : ran .next < 2 ^ 32
+    stores-fit =
+        let g = geometryIn disk in
+        let rounds = roundCount g disk in
+        let small = stores-small g (drive .sized .fits) rounds
+        (roundsTo-le (isAllocated g disk) g (g .slots) (headIn disk)) in
+        let few : storeCount g rounds (mapEntry g disk number) < 2 ^ 32 =
+        cond-cases (λ (n : ℕ). rounds * (g .height + 3) + n < 2 ^ 32) (eqb (mapEntry g disk number) 0)
+        (λ e. omega arith) (λ e. omega arith) in
+        omega (arith, done-theirs .run-made .made .counted, stores-are)
+
+    pub answered-done :
+        (outcome : Outcome) →
+        ((n : ℕ) (c : Bytes) → outcomeSaid outcome ≡ model.outcomeOf bad (stateOf (ran .state) n c)) →
+        Answered (model.written disk number content random (length list) offer) disk list diskAfter listAfter
+        (record { answer = 0; rounds = ran .rounds; stores = ran .next; outcome = outcome })
+    answered-done outcome said =
+        let m = done-theirs .run-made in
+        rw (written-done disk number content random (length list) offer accepted)
+        (record {
+          answered = refl;
+          rounds-are = m .rounds-are;
+          stores-are = omega (arith, m .made .counted);
+          outcome-is =
+              said (done-theirs .offered) (done-theirs .hidden)
+              ∙ ap (model.outcomeOf bad) (m .state-is) ∙ ap (λ (n : ℕ). model.outcomeOf n (theirs .state)) bad-is;
+          stored = m .made .on-disk;
+          listed = m .made .in-list;
+        })

@@ -1,0 +1,160 @@
+// The write: a public number's data, and what is offered to the hidden volume.
+use crate::hidden::number_fault;
+use crate::needs::write_fault;
+use layout::geometry::{Geometry, geometry_in, head_in};
+use layout::numbers::{HiddenNumber, PublicNumber};
+use rounds::runs::{Ran, run_write};
+use rounds::states::{Offer, State};
+ghost use mathlib.Core.Path.{_≡_};
+ghost use mathlib.Core.Bool.{true, _&&_};
+ghost use Prim.Native.Nat.{ℕ};
+ghost use lib.Dec.{eqb};
+ghost use lib.ListN.{length};
+ghost use Rattle.model.specs.Blocks.{Bytes};
+ghost use Rattle.model.specs.Rounds.{runFrom};
+ghost use Rattle.model.specs.Calls.{offerRefusal, outcomeOf, startState, written};
+ghost use Rattle.layout.specs.Geometries.{geometryOf};
+ghost use Rattle.rounds.specs.States.{stateOf};
+ghost use Rattle.rounds.specs.Runs.{Runnable};
+ghost use Rattle.mapper.specs.Writes.{outcomeSaid, offerOf, takenWrites, RanWith, Answered};
+
+// What has become of the offer: none was made, placed, waiting, not tried since the write is refused, 10, 11, or 12.
+pub enum Outcome {
+    NoWrite,
+    Placed,
+    Waiting,
+    NotTried,
+    BadNumber,
+    BadSize,
+    DamagedWalk,
+}
+
+// 0 or the refusal, the rounds, the stores, and what has become of the offer.
+pub struct Written {
+    pub answer: u8,
+    pub rounds: u32,
+    pub stores: u32,
+    pub outcome: Outcome,
+}
+
+// ---- the offer ----
+
+// 10 or 11 of what is offered; 0 where nothing is, or a good hidden write.
+fn offer_fault(g: Geometry, offered: bool, number: HiddenNumber, hidden: &[u8]) -> u8
+    ensures { λ r. ⌜ r ≡ offerRefusal (geometryOf g) (offerOf offered (number .0) (now (hidden .entry))) ⌝ }
+{
+    if offered {
+        return number_fault(g, number, hidden.len());
+    }
+    0
+}
+
+// Whether an offer goes to the rounds: a bad one is left out.
+fn is_taken(offered: bool, bad: u8) -> bool
+    ensures { λ r. ⌜ r ≡ (offered && eqb bad 0) ⌝ }
+{
+    if bad == 0 {
+        return offered;
+    }
+    false
+}
+
+// What has become of an offer with this refusal, by the state after the rounds.
+fn outcome_of(bad: u8, state: State) -> Outcome
+    ensures { λ r. ⌜ ((number : ℕ) (content : Bytes) → outcomeSaid r ≡ outcomeOf bad (stateOf state number content)) ⌝ }
+{
+    if bad == 10 {
+        return Outcome::BadNumber;
+    }
+    if bad == 11 {
+        return Outcome::BadSize;
+    }
+    let offer = state.offer;
+    match offer {
+        Offer::Placed => Outcome::Placed,
+        Offer::Waiting => {
+            if state.met_damage {
+                return Outcome::DamagedWalk;
+            }
+            Outcome::Waiting
+        }
+        Offer::Absent => {
+            if state.met_damage {
+                return Outcome::DamagedWalk;
+            }
+            Outcome::NoWrite
+        }
+    }
+}
+
+// ---- the write ----
+
+// The rounds of a write that is not refused, with the offer or without one.
+fn run_offer(
+    disk: &mut [u8],
+    list: &mut [u32],
+    g: Geometry,
+    number: PublicNumber,
+    head: u32,
+    content: &[u8],
+    random: &[u8],
+    taken: bool,
+    hidden_number: HiddenNumber,
+    hidden: &[u8],
+) -> Ran
+    requires { ⌜ Runnable (geometryOf g) (now disk) (number .0) head (now content) (now random) (now content) (runFrom (geometryOf g .slots) (geometryOf g) (number .0) (now content) head (now random) (now disk) (startState (takenWrites taken («hidden_number» .0) (now hidden)))) 0 (length (now list)) ⌝ }
+    requires { ⌜ (taken ≡ true → length (now hidden) ≡ geometryOf g .blockSize) ⌝ }
+    ensures { λ r. ⌜ RanWith (geometryOf g) (now (disk .entry)) (now (list .entry)) (runFrom (geometryOf g .slots) (geometryOf g) (number .0) (now (content .entry)) head (now (random .entry)) (now (disk .entry)) (startState (takenWrites taken («hidden_number» .0) (now (hidden .entry))))) (now (disk .exit)) (now (list .exit)) r ⌝ }
+{
+    if taken {
+        let waiting = State {
+            offer: Offer::Waiting,
+            met_damage: false,
+        };
+        return run_write(disk, list, g, number, head, content, random, waiting, hidden_number, hidden);
+    }
+    let absent = State {
+        offer: Offer::Absent,
+        met_damage: false,
+    };
+    run_write(disk, list, g, number, head, content, random, absent, hidden_number, content)
+}
+
+// Writes a public number's data, and the hidden write that is offered where a slot takes it. A refused write changes
+// neither disk nor list.
+pub fn write_block(
+    disk: &mut [u8],
+    number: PublicNumber,
+    content: &[u8],
+    offered: bool,
+    hidden_number: HiddenNumber,
+    hidden: &[u8],
+    random: &[u8],
+    list: &mut [u32],
+) -> Written
+    ensures { λ r. ⌜ Answered (written (now (disk .entry)) (number .0) (now (content .entry)) (now (random .entry)) (length (now (list .entry))) (offerOf offered («hidden_number» .0) (now (hidden .entry)))) (now (disk .entry)) (now (list .entry)) (now (disk .exit)) (now (list .exit)) r ⌝ }
+{
+    let fault = write_fault(disk, number, content, random, list);
+    if fault != 0 {
+        return Written {
+            answer: fault,
+            rounds: 0,
+            stores: 0,
+            outcome: Outcome::NotTried,
+        };
+    }
+    let g = geometry_in(disk);
+    let head = head_in(disk);
+    let bad = offer_fault(g, offered, hidden_number, hidden);
+    let taken = is_taken(offered, bad);
+    let ran = run_offer(disk, list, g, number, head, content, random, taken, hidden_number, hidden);
+    let rounds = ran.rounds;
+    let stores = ran.next;
+    let state = ran.state;
+    Written {
+        answer: 0,
+        rounds,
+        stores: stores as u32,
+        outcome: outcome_of(bad, state),
+    }
+}

@@ -14,8 +14,8 @@ ghost use Rattle.stores.specs.Made.{Made};
 ghost use Rattle.hidden_half.specs.NodeBlocks.{blocksIn};
 ghost use Rattle.hidden_half.specs.Plans.{hiddenTrace};
 
-// The slot's blocks and the root written back for damage, the path of the slot's owner, the path of the number that is
-// next, or random bytes.
+// The slot's blocks and the root written back for damage, the path of the slot's owner, the path of the
+// number that is next, or random bytes.
 pub enum Plan {
     Back,
     Keep(HiddenNumber),
@@ -23,7 +23,8 @@ pub enum Plan {
     Fill,
 }
 
-// Stores the hidden half of a slot by its plan. The nodes of the path stand one after another, the root first.
+// Stores the hidden half of a slot by its plan. The nodes of the path stand one after another, the root
+// first.
 pub fn store_hidden(
     disk: &mut [u8],
     list: &mut [u32],

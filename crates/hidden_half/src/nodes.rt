@@ -76,7 +76,8 @@ pub fn store_linked(
     store_block(disk, list, next, g, address, block)
 }
 
-// Stores the nodes below the root in a slot, the leaf first. The nodes stand one after another, the root first.
+// Stores the nodes below the root in a slot, the leaf first. The nodes stand one after another, the root
+// first.
 pub fn store_nodes(
     disk: &mut [u8],
     list: &mut [u32],

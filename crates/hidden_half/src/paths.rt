@@ -1,4 +1,5 @@
-// The four kinds of hidden half: the blocks written back, random bytes, a path with given data, a path with the slot's own.
+// The four kinds of hidden half: the blocks written back, random bytes, a path with given data, a path with
+// the slot's own.
 use crate::nodes::level_address;
 use crate::nodes::store_linked;
 use crate::nodes::store_nodes;

@@ -33,7 +33,8 @@ pub fn owner_of(disk: &[u8], g: Geometry, slot: u32) -> HiddenNumber
     HiddenNumber(entry_at(leaf, last))
 }
 
-// The status of a slot. Of a live one the nodes of its owner's path are read, one after another, the root first.
+// The status of a slot. Of a live one the nodes of its owner's path are read, one after another, the root
+// first.
 pub fn slot_status(disk: &[u8], g: Geometry, slot: u32, nodes: &mut [u8]) -> Status
     requires { ⌜ Drive (geometryOf g) (now disk) ⌝ }
     requires { ⌜ slot < g .slots ⌝ }
@@ -58,7 +59,8 @@ pub fn slot_status(disk: &[u8], g: Geometry, slot: u32, nodes: &mut [u8]) -> Sta
     }
 }
 
-// Whether the walk for a number is damaged. The nodes of its path are read, one after another, the root first.
+// Whether the walk for a number is damaged. The nodes of its path are read, one after another, the root
+// first.
 pub fn next_damaged(disk: &[u8], g: Geometry, number: HiddenNumber, nodes: &mut [u8]) -> bool
     requires { ⌜ Drive (geometryOf g) (now disk) ⌝ }
     requires { ⌜ length (now nodes) ≡ geometryOf g .height * geometryOf g .blockSize ⌝ }

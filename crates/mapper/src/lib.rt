@@ -9,11 +9,11 @@ mod write; // the write, with or without an offer
 pub use formatting::format_drive;
 pub use hidden::hidden_fault;
 pub use hidden::hidden_read;
-pub use public::public_fault;
-pub use public::public_read;
 pub use needs::Needs;
 pub use needs::write_fault;
 pub use needs::write_needs;
+pub use public::public_fault;
+pub use public::public_read;
 pub use write::Outcome;
 pub use write::Written;
 pub use write::write_block;

@@ -1,8 +1,12 @@
-// What a write takes now: its rounds up to the first free slot, its stores and its random bytes; and refusals 7 to 9.
+// What a write takes now: its rounds up to the first free slot, its stores and its random bytes; and refusals
+// 7 to 9.
 use crate::public::place_fault;
 use layout::bitmap::is_allocated;
-use layout::geometry::{Geometry, geometry_in, head_in};
-use layout::numbers::{DiskAddress, PublicNumber};
+use layout::geometry::Geometry;
+use layout::geometry::geometry_in;
+use layout::geometry::head_in;
+use layout::numbers::DiskAddress;
+use layout::numbers::PublicNumber;
 use layout::public_map::map_entry;
 use layout::refusals::drive_fault;
 ghost use mathlib.Core.Path.{_≡_};
@@ -65,7 +69,13 @@ fn round_fault(disk: &[u8], g: Geometry, number: PublicNumber, random: usize, ro
 }
 
 // 1 to 9 of a write, else 0.
-pub fn write_fault(disk: &[u8], number: PublicNumber, content: &[u8], random: &[u8], list: &[u32]) -> u8
+pub fn write_fault(
+    disk: &[u8],
+    number: PublicNumber,
+    content: &[u8],
+    random: &[u8],
+    list: &[u32],
+) -> u8
     ensures { λ r. ⌜ r ≡ writeRefusal (now (disk .entry)) (number .0) (now (content .entry)) (length (now (random .entry))) (length (now (list .entry))) ⌝ }
 {
     let fault = drive_fault(disk);
@@ -80,8 +90,8 @@ pub fn write_fault(disk: &[u8], number: PublicNumber, content: &[u8], random: &[
     round_fault(disk, g, number, random.len(), list.len())
 }
 
-// What a write takes now: a refusal that no buffer can avert, or 0 with the rounds, the stores that the list is to have
-// room for, and the random bytes, counted in blocks.
+// What a write takes now: a refusal that no buffer can avert, or 0 with the rounds, the stores that the list
+// is to have room for, and the random bytes, counted in blocks.
 pub struct Needs {
     pub answer: u8,
     pub rounds: u32,

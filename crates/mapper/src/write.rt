@@ -1,10 +1,15 @@
 // The write: a public number's data, and what is offered to the hidden volume.
 use crate::hidden::number_fault;
 use crate::needs::write_fault;
-use layout::geometry::{Geometry, geometry_in, head_in};
-use layout::numbers::{HiddenNumber, PublicNumber};
-use rounds::runs::{Ran, run_write};
-use rounds::states::{Offer, State};
+use layout::geometry::Geometry;
+use layout::geometry::geometry_in;
+use layout::geometry::head_in;
+use layout::numbers::HiddenNumber;
+use layout::numbers::PublicNumber;
+use rounds::runs::Ran;
+use rounds::runs::run_write;
+use rounds::states::Offer;
+use rounds::states::State;
 ghost use mathlib.Core.Path.{_≡_};
 ghost use mathlib.Core.Bool.{true, _&&_};
 ghost use Prim.Native.Nat.{ℕ};
@@ -18,7 +23,8 @@ ghost use Rattle.rounds.specs.States.{stateOf};
 ghost use Rattle.rounds.specs.Runs.{Runnable};
 ghost use Rattle.mapper.specs.Writes.{outcomeSaid, offerOf, takenWrites, RanWith, Answered};
 
-// What has become of the offer: none was made, placed, waiting, not tried since the write is refused, 10, 11, or 12.
+// What has become of the offer: none was made, placed, waiting, not tried since the write is refused, 10, 11,
+// or 12.
 pub enum Outcome {
     NoWrite,
     Placed,
@@ -111,17 +117,39 @@ fn run_offer(
             offer: Offer::Waiting,
             met_damage: false,
         };
-        return run_write(disk, list, g, number, head, content, random, waiting, hidden_number, hidden);
+        return run_write(
+            disk,
+            list,
+            g,
+            number,
+            head,
+            content,
+            random,
+            waiting,
+            hidden_number,
+            hidden,
+        );
     }
     let absent = State {
         offer: Offer::Absent,
         met_damage: false,
     };
-    run_write(disk, list, g, number, head, content, random, absent, hidden_number, content)
+    run_write(
+        disk,
+        list,
+        g,
+        number,
+        head,
+        content,
+        random,
+        absent,
+        hidden_number,
+        content,
+    )
 }
 
-// Writes a public number's data, and the hidden write that is offered where a slot takes it. A refused write changes
-// neither disk nor list.
+// Writes a public number's data, and the hidden write that is offered where a slot takes it. A refused write
+// changes neither disk nor list.
 pub fn write_block(
     disk: &mut [u8],
     number: PublicNumber,
@@ -147,7 +175,18 @@ pub fn write_block(
     let head = head_in(disk);
     let bad = offer_fault(g, offered, hidden_number, hidden);
     let taken = is_taken(offered, bad);
-    let ran = run_offer(disk, list, g, number, head, content, random, taken, hidden_number, hidden);
+    let ran = run_offer(
+        disk,
+        list,
+        g,
+        number,
+        head,
+        content,
+        random,
+        taken,
+        hidden_number,
+        hidden,
+    );
     let rounds = ran.rounds;
     let stores = ran.next;
     let state = ran.state;

@@ -1,11 +1,18 @@
 // What a round is to do with its slot, all of it read before the slot is stored.
-use crate::states::{Offer, State, is_waiting};
+use crate::states::Offer;
+use crate::states::State;
+use crate::states::is_waiting;
 use hidden_half::halves::Plan;
-use hidden_half::slots::{Status, next_damaged, owner_of, slot_status};
+use hidden_half::slots::Status;
+use hidden_half::slots::next_damaged;
+use hidden_half::slots::owner_of;
+use hidden_half::slots::slot_status;
 use layout::bitmap::is_allocated;
 use layout::geometry::Geometry;
 use layout::numbers::HiddenNumber;
-use table::{HiddenChoice, PublicChoice, row_at};
+use table::HiddenChoice;
+use table::PublicChoice;
+use table::row_at;
 ghost use mathlib.Core.Path.{_≡_};
 ghost use Prim.Native.Nat.{_*_, _<_};
 ghost use lib.ListN.{length};
@@ -32,9 +39,16 @@ fn is_live(status: Status) -> bool
     }
 }
 
-// Whether damage stops the hidden half: the owner's walk, or for a slot that is not live the waiting number's, whose nodes
-// are then read.
-fn is_blocked(disk: &[u8], g: Geometry, status: Status, waiting: bool, number: HiddenNumber, nodes: &mut [u8]) -> bool
+// Whether damage stops the hidden half: the owner's walk, or for a slot that is not live the waiting
+// number's, whose nodes are then read.
+fn is_blocked(
+    disk: &[u8],
+    g: Geometry,
+    status: Status,
+    waiting: bool,
+    number: HiddenNumber,
+    nodes: &mut [u8],
+) -> bool
     requires { ⌜ Drive (geometryOf g) (now disk) ⌝ }
     requires { ⌜ length (now nodes) ≡ geometryOf g .height * geometryOf g .blockSize ⌝ }
     ensures { λ r. ⌜ Hindered status (geometryOf g) (now (disk .entry)) waiting (number .0) r (now (nodes .entry)) (now (nodes .exit)) ⌝ }
@@ -51,9 +65,16 @@ fn is_blocked(disk: &[u8], g: Geometry, status: Status, waiting: bool, number: H
     }
 }
 
-// What a round at a slot is to do, by the table's row, or the slot's hidden blocks written back where damage stops it. The
-// nodes of the path that is to be stored are read.
-pub fn plan_round(disk: &[u8], g: Geometry, slot: u32, state: State, number: HiddenNumber, nodes: &mut [u8]) -> Plans
+// What a round at a slot is to do, by the table's row, or the slot's hidden blocks written back where damage
+// stops it. The nodes of the path that is to be stored are read.
+pub fn plan_round(
+    disk: &[u8],
+    g: Geometry,
+    slot: u32,
+    state: State,
+    number: HiddenNumber,
+    nodes: &mut [u8],
+) -> Plans
     requires { ⌜ Drive (geometryOf g) (now disk) ⌝ }
     requires { ⌜ slot < g .slots ⌝ }
     requires { ⌜ length (now nodes) ≡ geometryOf g .height * geometryOf g .blockSize ⌝ }

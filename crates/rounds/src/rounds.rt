@@ -1,10 +1,12 @@
-// One round: the slot's public block, its hidden blocks and the root, map and bits in the last round, the header.
+// One round: the slot's public block, its hidden blocks and the root, map and bits in the last round, the
+// header.
 use crate::endings::store_ending;
 use crate::plans::plan_round;
 use crate::states::State;
 use hidden_half::halves::store_hidden;
 use layout::geometry::Geometry;
-use layout::numbers::{HiddenNumber, PublicNumber};
+use layout::numbers::HiddenNumber;
+use layout::numbers::PublicNumber;
 use public_half::public_block::store_public;
 use table::PublicChoice;
 ghost use mathlib.Core.Path.{_≡_};
@@ -60,7 +62,19 @@ pub fn do_round(
     let plan = plans.hidden;
     let after = plans.after;
     let first = store_public(disk, list, next, g, slot, public, content);
-    let second = store_hidden(disk, list, first, g, slot, plan, offered, hidden, random, nodes, block);
+    let second = store_hidden(
+        disk,
+        list,
+        first,
+        g,
+        slot,
+        plan,
+        offered,
+        hidden,
+        random,
+        nodes,
+        block,
+    );
     let last = store_ending(disk, list, second, g, number, slot, public);
     Step {
         next: last,

@@ -2,7 +2,8 @@
 use crate::rounds::do_round;
 use crate::states::State;
 use layout::geometry::Geometry;
-use layout::numbers::{HiddenNumber, PublicNumber};
+use layout::numbers::HiddenNumber;
+use layout::numbers::PublicNumber;
 ghost use mathlib.Core.Path.{_≡_};
 ghost use Prim.Native.Nat.{_*_};
 ghost use lib.ListN.{length};
@@ -47,7 +48,21 @@ pub fn do_rounds(
     let mut done: u32 = 0;
     while done < slots {
         let from = (done as usize) * width;
-        let step = do_round(disk, list, at, g, number, slot, content, &random[from..], reached, offered, hidden, nodes, block);
+        let step = do_round(
+            disk,
+            list,
+            at,
+            g,
+            number,
+            slot,
+            content,
+            &random[from..],
+            reached,
+            offered,
+            hidden,
+            nodes,
+            block,
+        );
         at = step.next;
         reached = step.state;
         done += 1;
@@ -67,7 +82,8 @@ pub fn do_rounds(
     }
 }
 
-// The rounds of a write from the head on, with buffers of its own; the stores are entered from the front of the list.
+// The rounds of a write from the head on, with buffers of its own; the stores are entered from the front of
+// the list.
 pub fn run_write(
     disk: &mut [u8],
     list: &mut [u32],
@@ -87,5 +103,19 @@ pub fn run_write(
     let bytes = (g.height as usize) * size;
     let mut nodes = [0u8; 16384];
     let mut block = [0u8; 4096];
-    do_rounds(disk, list, 0, g, number, head, content, random, state, offered, hidden, &mut nodes[..bytes], &mut block[..size])
+    do_rounds(
+        disk,
+        list,
+        0,
+        g,
+        number,
+        head,
+        content,
+        random,
+        state,
+        offered,
+        hidden,
+        &mut nodes[..bytes],
+        &mut block[..size],
+    )
 }

@@ -1,4 +1,5 @@
-// The one store function, and a block of the disk stored with one change or none, through a buffer of its own.
+// The one store function, and a block of the disk stored with one change or none, through a buffer of its
+// own.
 use crate::changes::Change;
 use layout::geometry::Geometry;
 use layout::numbers::DiskAddress;

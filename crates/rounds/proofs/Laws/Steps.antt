@@ -48,102 +48,102 @@ module _ (g : Geometry) (disk : Bytes) (number slot : ℕ) (content random hidde
     (ready : Ready g disk number slot content random hidden) (state : State) (offered : ℕ) (plans : Plans)
     (nodes : Bytes) (planned : Planned g disk slot state offered plans nodes) (list : List DiskAddress) (next : ℕ)
     (room : next + length (roundAt g disk number slot content random (stateOf state offered hidden)) ≤ length list)
-    where
-  trace-is :
-      hiddenHalf g disk slot random (stateOf state offered hidden) .trace ≡
-      planTrace plans g disk slot offered hidden random nodes
-  trace-is = ap (λ (h : HiddenHalf). h .trace) (planned .half-is hidden random)
+  where
+    trace-is :
+        hiddenHalf g disk slot random (stateOf state offered hidden) .trace ≡
+        planTrace plans g disk slot offered hidden random nodes
+    trace-is = ap (λ (h : HiddenHalf). h .trace) (planned .half-is hidden random)
 
-  pub step-state :
-      stateOf (plans .after) offered hidden ≡ hiddenHalf g disk slot random (stateOf state offered hidden) .state
-  step-state = sym (ap (λ (h : HiddenHalf). h .state) (planned .half-is hidden random))
+    pub step-state :
+        stateOf (plans .after) offered hidden ≡ hiddenHalf g disk slot random (stateOf state offered hidden) .state
+    step-state = sym (ap (λ (h : HiddenHalf). h .state) (planned .half-is hidden random))
 
-  pub step-goes-on : goesOn (publicOf (plans .public)) ≡ goesOn (choiceAt g disk slot (stateOf state offered hidden))
-  step-goes-on = ap goesOn (planned .chosen hidden)
+    pub step-goes-on : goesOn (publicOf (plans .public)) ≡ goesOn (choiceAt g disk slot (stateOf state offered hidden))
+    step-goes-on = ap goesOn (planned .chosen hidden)
 
-  hides : Hides g slot (planTrace plans g disk slot offered hidden random nodes)
-  hides =
-      subst (Hides g slot) trace-is
-      (hiddenHalf-hides g (ready .drive .fits) disk (ready .drive .whole) slot (ready .slot-inside) random
-      (ready .random-enough) (WholeWrite g) (λ write h. h) (stateOf state offered hidden)
-      (waiting-whole g (state .offer) offered hidden (ready .hidden-whole)) .hides)
+    hides : Hides g slot (planTrace plans g disk slot offered hidden random nodes)
+    hides =
+        subst (Hides g slot) trace-is
+        (hiddenHalf-hides g (ready .drive .fits) disk (ready .drive .whole) slot (ready .slot-inside) random
+        (ready .random-enough) (WholeWrite g) (λ write h. h) (stateOf state offered hidden)
+        (waiting-whole g (state .offer) offered hidden (ready .hidden-whole)) .hides)
 
-  round-is :
-      roundAt g disk number slot content random (stateOf state offered hidden) ≡
-      roundTrace (publicOf (plans .public)) g disk number slot content
-      (planTrace plans g disk slot offered hidden random nodes)
-  round-is =
-      ap₂ (λ (choice : model.PublicChoice) (xs : Trace). roundTrace choice g disk number slot content xs)
-      (sym (planned .chosen hidden)) trace-is
+    round-is :
+        roundAt g disk number slot content random (stateOf state offered hidden) ≡
+        roundTrace (publicOf (plans .public)) g disk number slot content
+        (planTrace plans g disk slot offered hidden random nodes)
+    round-is =
+        ap₂ (λ (choice : model.PublicChoice) (xs : Trace). roundTrace choice g disk number slot content xs)
+        (sym (planned .chosen hidden)) trace-is
 
-  room-here :
-      next + length (roundTrace (publicOf (plans .public)) g disk number slot content
-      (planTrace plans g disk slot offered hidden random nodes)) ≤ length list
-  room-here = rw round-is at room
+    room-here :
+        next + length (roundTrace (publicOf (plans .public)) g disk number slot content
+        (planTrace plans g disk slot offered hidden random nodes)) ≤ length list
+    room-here = rw round-is at room
 
-  pub step-room-public : next < length list
-  step-room-public =
-      room-public g disk (ready .drive) number (ready .number-inside) slot (ready .slot-inside) content
-      (ready .content-whole) (ready .old-entry) (publicOf (plans .public))
-      (planTrace plans g disk slot offered hidden random nodes) hides list next room-here
-
-  module _ {middle : Bytes} {listed : List DiskAddress} {place : ℕ}
-      (first : Made (g .blockSize) (publicTrace (publicOf (plans .public)) g disk slot content) disk list next middle
-      listed place) where
-    pub step-drive-public : Drive g middle
-    step-drive-public =
-        drive-public g disk (ready .drive) number (ready .number-inside) slot (ready .slot-inside) content
+    pub step-room-public : next < length list
+    step-room-public =
+        room-public g disk (ready .drive) number (ready .number-inside) slot (ready .slot-inside) content
         (ready .content-whole) (ready .old-entry) (publicOf (plans .public))
-        (planTrace plans g disk slot offered hidden random nodes) hides list next room-here first
+        (planTrace plans g disk slot offered hidden random nodes) hides list next room-here
 
-    pub step-room-hidden : place + g .height + 1 ≤ length listed
-    step-room-hidden =
-        room-hidden g disk (ready .drive) number (ready .number-inside) slot (ready .slot-inside) content
-        (ready .content-whole) (ready .old-entry) (publicOf (plans .public))
-        (planTrace plans g disk slot offered hidden random nodes) hides list next room-here first
-
-    module _ {later : Bytes} {entered : List DiskAddress} {at : ℕ}
-        (stored : Made (g .blockSize) (planTrace plans g middle slot offered hidden random nodes) middle listed place
-        later entered at) where
-      -- the plan stores what it would on the disk that was read
-      second : Made (g .blockSize) (planTrace plans g disk slot offered hidden random nodes) middle listed place later
-          entered at
-      second =
-          subst (λ (xs : Trace). Made (g .blockSize) xs middle listed place later entered at)
-          (hiddenTrace-agree g (ready .drive .fits) slot middle disk
-          (same-hidden g disk (ready .drive) number (ready .number-inside) slot (ready .slot-inside) content
+    module _ {middle : Bytes} {listed : List DiskAddress} {place : ℕ}
+        (first : Made (g .blockSize) (publicTrace (publicOf (plans .public)) g disk slot content) disk list next middle
+        listed place) where
+      pub step-drive-public : Drive g middle
+      step-drive-public =
+          drive-public g disk (ready .drive) number (ready .number-inside) slot (ready .slot-inside) content
           (ready .content-whole) (ready .old-entry) (publicOf (plans .public))
-          (planTrace plans g disk slot offered hidden random nodes) hides list next room-here first)
-          (plans .hidden) offered hidden random (blocksIn (g .blockSize) (g .height) nodes)) stored
+          (planTrace plans g disk slot offered hidden random nodes) hides list next room-here first
 
-      pub step-drive-hidden : Drive g later
-      step-drive-hidden =
-          drive-hidden g disk (ready .drive) number (ready .number-inside) slot (ready .slot-inside) content
+      pub step-room-hidden : place + g .height + 1 ≤ length listed
+      step-room-hidden =
+          room-hidden g disk (ready .drive) number (ready .number-inside) slot (ready .slot-inside) content
           (ready .content-whole) (ready .old-entry) (publicOf (plans .public))
-          (planTrace plans g disk slot offered hidden random nodes) hides list next room-here first second
+          (planTrace plans g disk slot offered hidden random nodes) hides list next room-here first
 
-      pub step-old : OldEntry g (mapEntry g later number)
-      step-old =
-          old-hidden g disk (ready .drive) number (ready .number-inside) slot (ready .slot-inside) content
-          (ready .content-whole) (ready .old-entry) (publicOf (plans .public))
-          (planTrace plans g disk slot offered hidden random nodes) hides list next room-here first second
+      module _ {later : Bytes} {entered : List DiskAddress} {at : ℕ}
+          (stored : Made (g .blockSize) (planTrace plans g middle slot offered hidden random nodes) middle listed place
+          later entered at) where
+        -- the plan stores what it would on the disk that was read
+        second : Made (g .blockSize) (planTrace plans g disk slot offered hidden random nodes) middle listed place later
+            entered at
+        second =
+            subst (λ (xs : Trace). Made (g .blockSize) xs middle listed place later entered at)
+            (hiddenTrace-agree g (ready .drive .fits) slot middle disk
+            (same-hidden g disk (ready .drive) number (ready .number-inside) slot (ready .slot-inside) content
+            (ready .content-whole) (ready .old-entry) (publicOf (plans .public))
+            (planTrace plans g disk slot offered hidden random nodes) hides list next room-here first)
+            (plans .hidden) offered hidden random (blocksIn (g .blockSize) (g .height) nodes)) stored
 
-      pub step-room-ending :
-          at + length (mapStores (publicOf (plans .public)) g later number slot) + 1 ≤ length entered
-      step-room-ending =
-          room-ending g disk (ready .drive) number (ready .number-inside) slot (ready .slot-inside) content
-          (ready .content-whole) (ready .old-entry) (publicOf (plans .public))
-          (planTrace plans g disk slot offered hidden random nodes) hides list next room-here first second
+        pub step-drive-hidden : Drive g later
+        step-drive-hidden =
+            drive-hidden g disk (ready .drive) number (ready .number-inside) slot (ready .slot-inside) content
+            (ready .content-whole) (ready .old-entry) (publicOf (plans .public))
+            (planTrace plans g disk slot offered hidden random nodes) hides list next room-here first second
 
-      pub step-made :
-          {after : Bytes} {all : List DiskAddress} {last : ℕ} →
-          Made (g .blockSize)
-          (mapStores (publicOf (plans .public)) g later number slot ++ (headerStore g later slot ∷ [])) later entered at
-          after all last →
-          Made (g .blockSize) (roundAt g disk number slot content random (stateOf state offered hidden)) disk list next
-          after all last
-      step-made {after} {all} {last} third =
-          subst (λ (xs : Trace). Made (g .blockSize) xs disk list next after all last) (sym round-is)
-          (round-made g disk (ready .drive) number (ready .number-inside) slot (ready .slot-inside) content
-          (ready .content-whole) (ready .old-entry) (publicOf (plans .public))
-          (planTrace plans g disk slot offered hidden random nodes) hides list next room-here first second third)
+        pub step-old : OldEntry g (mapEntry g later number)
+        step-old =
+            old-hidden g disk (ready .drive) number (ready .number-inside) slot (ready .slot-inside) content
+            (ready .content-whole) (ready .old-entry) (publicOf (plans .public))
+            (planTrace plans g disk slot offered hidden random nodes) hides list next room-here first second
+
+        pub step-room-ending :
+            at + length (mapStores (publicOf (plans .public)) g later number slot) + 1 ≤ length entered
+        step-room-ending =
+            room-ending g disk (ready .drive) number (ready .number-inside) slot (ready .slot-inside) content
+            (ready .content-whole) (ready .old-entry) (publicOf (plans .public))
+            (planTrace plans g disk slot offered hidden random nodes) hides list next room-here first second
+
+        pub step-made :
+            {after : Bytes} {all : List DiskAddress} {last : ℕ} →
+            Made (g .blockSize)
+            (mapStores (publicOf (plans .public)) g later number slot ++ (headerStore g later slot ∷ [])) later entered at
+            after all last →
+            Made (g .blockSize) (roundAt g disk number slot content random (stateOf state offered hidden)) disk list next
+            after all last
+        step-made {after} {all} {last} third =
+            subst (λ (xs : Trace). Made (g .blockSize) xs disk list next after all last) (sym round-is)
+            (round-made g disk (ready .drive) number (ready .number-inside) slot (ready .slot-inside) content
+            (ready .content-whole) (ready .old-entry) (publicOf (plans .public))
+            (planTrace plans g disk slot offered hidden random nodes) hides list next room-here first second third)

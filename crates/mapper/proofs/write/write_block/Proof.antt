@@ -82,9 +82,9 @@ run-offer-requires : tie.Need-run-offer-requires
 run-offer-requires c κs =
     let s = c .before .before .before .before .before .before .before .before .before .before .before .before .before .before .before .before .before in (
       runnable (s .args .disk .now) (s .args .number .0) (s .args .content .now) (s .args .random .now) (s .args .list .now)
-    (s .args .offered) (s .args .hidden-number .0) (s .args .hidden .now) (accepted (c .before .before .before .before .before .before .before .before)) (geometryOf (c .before .before .before .before .before .before .geometry-in .result))
-    (c .before .before .before .before .before .before .geometry-in .ensures) (c .before .before .before .before .head-in .result) (c .before .before .before .before .head-in .ensures) (c .before .before .before .offer-fault .result) (c .before .before .before .offer-fault .ensures)
-    (c .before .before .is-taken .result) (c .before .before .is-taken .ensures),
+          (s .args .offered) (s .args .hidden-number .0) (s .args .hidden .now) (accepted (c .before .before .before .before .before .before .before .before)) (geometryOf (c .before .before .before .before .before .before .geometry-in .result))
+          (c .before .before .before .before .before .before .geometry-in .ensures) (c .before .before .before .before .head-in .result) (c .before .before .before .before .head-in .ensures) (c .before .before .before .offer-fault .result) (c .before .before .before .offer-fault .ensures)
+          (c .before .before .is-taken .result) (c .before .before .is-taken .ensures),
       taken-whole (geometryOf (c .before .before .before .before .before .before .geometry-in .result)) (s .args .hidden-number .0) (s .args .hidden .now) (c .before .before .before .offer-fault .result)
           (s .args .offered) (c .before .before .is-taken .result) (c .before .before .before .offer-fault .ensures) (c .before .before .is-taken .ensures),
     )
@@ -93,10 +93,13 @@ run-offer-requires c κs =
 cast-t32 : tie.Need-cast-t32
 cast-t32 c =
     let s = c .before .before .before .before .before .before .before .before .before .before .before .before .before .before .before .before .before .before .before .before .before .before .before in
-    omega (arith, stores-fit (s .args .disk .now) (s .args .number .0) (s .args .content .now) (s .args .random .now) (s .args .list .now)
-    (s .args .offered) (s .args .hidden-number .0) (s .args .hidden .now) (accepted (c .before .before .before .before .before .before .before .before .before .before .before .before .before .before)) (geometryOf (c .before .before .before .before .before .before .before .before .before .before .before .before .geometry-in .result))
-    (c .before .before .before .before .before .before .before .before .before .before .before .before .geometry-in .ensures) (c .before .before .before .before .before .before .before .before .before .before .head-in .result) (c .before .before .before .before .before .before .before .before .before .before .head-in .ensures) (c .before .before .before .before .before .before .before .before .before .offer-fault .result) (c .before .before .before .before .before .before .before .before .before .offer-fault .ensures)
-    (c .before .before .before .before .before .before .before .before .is-taken .result) (c .before .before .before .before .before .before .before .before .is-taken .ensures) (c .before .before .before .before .before .run-offer .last .0) (c .before .before .before .before .before .run-offer .last .1 .0) (c .before .before .before .before .before .run-offer .result) (c .before .before .before .before .before .run-offer .ensures))
+    omega (
+      arith,
+      stores-fit (s .args .disk .now) (s .args .number .0) (s .args .content .now) (s .args .random .now) (s .args .list .now)
+          (s .args .offered) (s .args .hidden-number .0) (s .args .hidden .now) (accepted (c .before .before .before .before .before .before .before .before .before .before .before .before .before .before)) (geometryOf (c .before .before .before .before .before .before .before .before .before .before .before .before .geometry-in .result))
+          (c .before .before .before .before .before .before .before .before .before .before .before .before .geometry-in .ensures) (c .before .before .before .before .before .before .before .before .before .before .head-in .result) (c .before .before .before .before .before .before .before .before .before .before .head-in .ensures) (c .before .before .before .before .before .before .before .before .before .offer-fault .result) (c .before .before .before .before .before .before .before .before .before .offer-fault .ensures)
+          (c .before .before .before .before .before .before .before .before .is-taken .result) (c .before .before .before .before .before .before .before .before .is-taken .ensures) (c .before .before .before .before .before .run-offer .last .0) (c .before .before .before .before .before .run-offer .last .1 .0) (c .before .before .before .before .before .run-offer .result) (c .before .before .before .before .before .run-offer .ensures),
+    )
 
 -- src/write.rt:158:18
 outcome-of-requires : tie.Need-outcome-of-requires

@@ -30,8 +30,7 @@ enum-told-2 c = search needs
 -- src/endings.rt:38:17
 store-map-requires : tie.Need-store-map-requires
 store-map-requires c κs =
-    let s = c .before .before .before .before .before .before in
-    (
+    let s = c .before .before .before .before .before .before in (
       s .pre .0,
       (
         s .pre .1 .0,
@@ -51,8 +50,7 @@ store-map-requires c κs =
 store-header-requires-2 : tie.Need-store-header-requires-2
 store-header-requires-2 c κs =
     let s = c .before .before .before .before .before .before .before .before .before .before .before .before .before in
-    let mapped = c .before .before .before .before .before .before in
-    (
+    let mapped = c .before .before .before .before .before .before in (
       drive-mapped (geometryOf (s .args .g)) (s .args .disk .now) (s .pre .0) (s .args .number .0) (s .pre .1 .0) (s .args .slot) (s .pre .1 .1 .0) (s .pre .1 .1 .1 .0) (mapped .store-map .ensures),
       (
         s .pre .1 .1 .0,

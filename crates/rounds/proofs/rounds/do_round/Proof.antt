@@ -24,22 +24,47 @@ plan-round-requires c κs = search needs
 store-public-requires : tie.Need-store-public-requires
 store-public-requires c κs =
     let s = c .before .before .before .before .before .before .before .before .before .before .before .before .before .before .before in
-    let p = c .before .before .before .before .before .plan-round in
-    (s .pre .0 .drive, (s .pre .0 .slot-inside, (s .pre .0 .content-whole, step-room-public (geometryOf (s .args .g)) (s .args .disk .now) (s .args .number .0) (s .args .slot) (s .args .content .now)
-    (s .args .random .now) (s .args .hidden .now) (s .pre .0) (s .args .state) (s .args .offered .0) (p .result)
-    (p .last .1 .1 .1 .1 .1 .0) (p .ensures) (s .args .list .now) (s .args .next) (s .pre .1 .1 .1))))
+    let p = c .before .before .before .before .before .plan-round in (
+      s .pre .0 .drive,
+      (
+        s .pre .0 .slot-inside,
+        (
+          s .pre .0 .content-whole,
+          step-room-public (geometryOf (s .args .g)) (s .args .disk .now) (s .args .number .0) (s .args .slot) (s .args .content .now)
+              (s .args .random .now) (s .args .hidden .now) (s .pre .0) (s .args .state) (s .args .offered .0) (p .result)
+              (p .last .1 .1 .1 .1 .1 .0) (p .ensures) (s .args .list .now) (s .args .next) (s .pre .1 .1 .1),
+        ),
+      ),
+    )
 
 -- src/rounds.rt:63:9
 store-hidden-requires : tie.Need-store-hidden-requires
 store-hidden-requires c κs =
     let s = c .before .before .before .before .before .before .before .before .before .before .before .before .before .before .before .before .before .before .before .before .before .before .before .before in
     let p = c .before .before .before .before .before .before .before .before .before .before .before .before .before .before .plan-round in
-    let first = c .before .before .before .before .before .before .before .before .store-public .ensures in
-    (step-drive-public (geometryOf (s .args .g)) (s .args .disk .now) (s .args .number .0) (s .args .slot) (s .args .content .now)
-    (s .args .random .now) (s .args .hidden .now) (s .pre .0) (s .args .state) (s .args .offered .0) (p .result)
-    (p .last .1 .1 .1 .1 .1 .0) (p .ensures) (s .args .list .now) (s .args .next) (s .pre .1 .1 .1) first, (s .pre .0 .slot-inside, (s .pre .0 .hidden-whole, (s .pre .0 .random-enough, (p .kept .1 .1 .1 .1 .1 .0 ∙ s .pre .1 .0, (s .pre .1 .1 .0, step-room-hidden (geometryOf (s .args .g)) (s .args .disk .now) (s .args .number .0) (s .args .slot) (s .args .content .now)
-    (s .args .random .now) (s .args .hidden .now) (s .pre .0) (s .args .state) (s .args .offered .0) (p .result)
-    (p .last .1 .1 .1 .1 .1 .0) (p .ensures) (s .args .list .now) (s .args .next) (s .pre .1 .1 .1) first))))))
+    let first = c .before .before .before .before .before .before .before .before .store-public .ensures in (
+      step-drive-public (geometryOf (s .args .g)) (s .args .disk .now) (s .args .number .0) (s .args .slot) (s .args .content .now)
+          (s .args .random .now) (s .args .hidden .now) (s .pre .0) (s .args .state) (s .args .offered .0) (p .result)
+          (p .last .1 .1 .1 .1 .1 .0) (p .ensures) (s .args .list .now) (s .args .next) (s .pre .1 .1 .1) first,
+      (
+        s .pre .0 .slot-inside,
+        (
+          s .pre .0 .hidden-whole,
+          (
+            s .pre .0 .random-enough,
+            (
+              p .kept .1 .1 .1 .1 .1 .0 ∙ s .pre .1 .0,
+              (
+                s .pre .1 .1 .0,
+                step-room-hidden (geometryOf (s .args .g)) (s .args .disk .now) (s .args .number .0) (s .args .slot) (s .args .content .now)
+                    (s .args .random .now) (s .args .hidden .now) (s .pre .0) (s .args .state) (s .args .offered .0) (p .result)
+                    (p .last .1 .1 .1 .1 .1 .0) (p .ensures) (s .args .list .now) (s .args .next) (s .pre .1 .1 .1) first,
+              ),
+            ),
+          ),
+        ),
+      ),
+    )
 
 -- src/rounds.rt:64:9
 store-ending-requires : tie.Need-store-ending-requires
@@ -47,14 +72,25 @@ store-ending-requires c κs =
     let s = c .before .before .before .before .before .before .before .before .before .before .before .before .before .before .before .before .before .before .before .before .before .before .before .before .before .before .before .before .before .before .before .before .before in
     let p = c .before .before .before .before .before .before .before .before .before .before .before .before .before .before .before .before .before .before .before .before .before .before .before .plan-round in
     let first = c .before .before .before .before .before .before .before .before .before .before .before .before .before .before .before .before .before .store-public .ensures in
-    let second = c .before .before .before .before .before .before .before .before .store-hidden .ensures in
-    (step-drive-hidden (geometryOf (s .args .g)) (s .args .disk .now) (s .args .number .0) (s .args .slot) (s .args .content .now)
-    (s .args .random .now) (s .args .hidden .now) (s .pre .0) (s .args .state) (s .args .offered .0) (p .result)
-    (p .last .1 .1 .1 .1 .1 .0) (p .ensures) (s .args .list .now) (s .args .next) (s .pre .1 .1 .1) first second, (s .pre .0 .number-inside, (s .pre .0 .slot-inside, (step-old (geometryOf (s .args .g)) (s .args .disk .now) (s .args .number .0) (s .args .slot) (s .args .content .now)
-    (s .args .random .now) (s .args .hidden .now) (s .pre .0) (s .args .state) (s .args .offered .0) (p .result)
-    (p .last .1 .1 .1 .1 .1 .0) (p .ensures) (s .args .list .now) (s .args .next) (s .pre .1 .1 .1) first second, step-room-ending (geometryOf (s .args .g)) (s .args .disk .now) (s .args .number .0) (s .args .slot) (s .args .content .now)
-    (s .args .random .now) (s .args .hidden .now) (s .pre .0) (s .args .state) (s .args .offered .0) (p .result)
-    (p .last .1 .1 .1 .1 .1 .0) (p .ensures) (s .args .list .now) (s .args .next) (s .pre .1 .1 .1) first second))))
+    let second = c .before .before .before .before .before .before .before .before .store-hidden .ensures in (
+      step-drive-hidden (geometryOf (s .args .g)) (s .args .disk .now) (s .args .number .0) (s .args .slot) (s .args .content .now)
+          (s .args .random .now) (s .args .hidden .now) (s .pre .0) (s .args .state) (s .args .offered .0) (p .result)
+          (p .last .1 .1 .1 .1 .1 .0) (p .ensures) (s .args .list .now) (s .args .next) (s .pre .1 .1 .1) first second,
+      (
+        s .pre .0 .number-inside,
+        (
+          s .pre .0 .slot-inside,
+          (
+            step-old (geometryOf (s .args .g)) (s .args .disk .now) (s .args .number .0) (s .args .slot) (s .args .content .now)
+                (s .args .random .now) (s .args .hidden .now) (s .pre .0) (s .args .state) (s .args .offered .0) (p .result)
+                (p .last .1 .1 .1 .1 .1 .0) (p .ensures) (s .args .list .now) (s .args .next) (s .pre .1 .1 .1) first second,
+            step-room-ending (geometryOf (s .args .g)) (s .args .disk .now) (s .args .number .0) (s .args .slot) (s .args .content .now)
+                (s .args .random .now) (s .args .hidden .now) (s .pre .0) (s .args .state) (s .args .offered .0) (p .result)
+                (p .last .1 .1 .1 .1 .1 .0) (p .ensures) (s .args .list .now) (s .args .next) (s .pre .1 .1 .1) first second,
+          ),
+        ),
+      ),
+    )
 
 -- src/rounds.rt:68:18
 is-kept-requires : tie.Need-is-kept-requires
@@ -85,14 +121,14 @@ returns c =
     let second = c .before .before .before .before .before .before .before .before .before .before .before .before .before .before .store-hidden .ensures in
     record {
       made = step-made (geometryOf (s .args .g)) (s .args .disk .now) (s .args .number .0) (s .args .slot) (s .args .content .now)
-    (s .args .random .now) (s .args .hidden .now) (s .pre .0) (s .args .state) (s .args .offered .0) (p .result)
-    (p .last .1 .1 .1 .1 .1 .0) (p .ensures) (s .args .list .now) (s .args .next) (s .pre .1 .1 .1) first second (c .before .before .before .before .before .store-ending .ensures);
+          (s .args .random .now) (s .args .hidden .now) (s .pre .0) (s .args .state) (s .args .offered .0) (p .result)
+          (p .last .1 .1 .1 .1 .1 .0) (p .ensures) (s .args .list .now) (s .args .next) (s .pre .1 .1 .1) first second (c .before .before .before .before .before .store-ending .ensures);
       state-is = step-state (geometryOf (s .args .g)) (s .args .disk .now) (s .args .number .0) (s .args .slot) (s .args .content .now)
-    (s .args .random .now) (s .args .hidden .now) (s .pre .0) (s .args .state) (s .args .offered .0) (p .result)
-    (p .last .1 .1 .1 .1 .1 .0) (p .ensures) (s .args .list .now) (s .args .next) (s .pre .1 .1 .1);
+          (s .args .random .now) (s .args .hidden .now) (s .pre .0) (s .args .state) (s .args .offered .0) (p .result)
+          (p .last .1 .1 .1 .1 .1 .0) (p .ensures) (s .args .list .now) (s .args .next) (s .pre .1 .1 .1);
       goes-on = c .is-kept .ensures ∙ step-goes-on (geometryOf (s .args .g)) (s .args .disk .now) (s .args .number .0) (s .args .slot) (s .args .content .now)
-    (s .args .random .now) (s .args .hidden .now) (s .pre .0) (s .args .state) (s .args .offered .0) (p .result)
-    (p .last .1 .1 .1 .1 .1 .0) (p .ensures) (s .args .list .now) (s .args .next) (s .pre .1 .1 .1);
+          (s .args .random .now) (s .args .hidden .now) (s .pre .0) (s .args .state) (s .args .offered .0) (p .result)
+          (p .last .1 .1 .1 .1 .1 .0) (p .ensures) (s .args .list .now) (s .args .next) (s .pre .1 .1 .1);
     }
 
 pub do-round-spec : {M : Type 1} → statement M

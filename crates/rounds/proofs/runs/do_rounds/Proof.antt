@@ -90,24 +90,30 @@ sub-do-round : tie.Need-sub-do-round Inv-loop μ-loop
 sub-do-round c =
     let s = c .before .before .before .before .before .before .before .before .before .before .before .before .before in
     let l = c .before .before .before .loop in
-    omega (arith, random-from (geometryOf (s .args .g)) (s .args .number .0) (s .args .content .now) (s .args .random .now) (s .args .hidden .now)
-    (s .args .offered .0) (theRun (geometryOf (s .args .g)) (s .args .number .0) (s .args .content .now) (s .args .random .now)
-    (s .args .hidden .now) (s .args .offered .0) (s .args .disk .now) (s .args .head) (s .args .list .now)
-    (s .args .next) (s .args .state)) (s .args .disk .now) (s .args .list .now) (s .args .next) (s .pre .0 .number-inside)
-    (s .pre .0 .content-whole) (s .pre .0 .hidden-whole) (s .pre .0 .random-enough) (s .pre .0 .room-enough) (l .disk)
-    (l .list) (l .slot) (l .at) (l .reached) (l .done) (l .inv .going) (c .before .before .loop-test .taken))
+    omega (
+      arith,
+      random-from (geometryOf (s .args .g)) (s .args .number .0) (s .args .content .now) (s .args .random .now) (s .args .hidden .now)
+          (s .args .offered .0) (theRun (geometryOf (s .args .g)) (s .args .number .0) (s .args .content .now) (s .args .random .now)
+          (s .args .hidden .now) (s .args .offered .0) (s .args .disk .now) (s .args .head) (s .args .list .now)
+          (s .args .next) (s .args .state)) (s .args .disk .now) (s .args .list .now) (s .args .next) (s .pre .0 .number-inside)
+          (s .pre .0 .content-whole) (s .pre .0 .hidden-whole) (s .pre .0 .random-enough) (s .pre .0 .room-enough) (l .disk)
+          (l .list) (l .slot) (l .at) (l .reached) (l .done) (l .inv .going) (c .before .before .loop-test .taken),
+    )
 
 -- src/runs.rt:50:71
 part-do-round-start : tie.Need-part-do-round-start Inv-loop μ-loop
 part-do-round-start c =
     let s = c .before .before .before .before .before .before .before .before .before .before .before .before .before in
     let l = c .before .before .before .loop in
-    omega (arith, random-from (geometryOf (s .args .g)) (s .args .number .0) (s .args .content .now) (s .args .random .now) (s .args .hidden .now)
-    (s .args .offered .0) (theRun (geometryOf (s .args .g)) (s .args .number .0) (s .args .content .now) (s .args .random .now)
-    (s .args .hidden .now) (s .args .offered .0) (s .args .disk .now) (s .args .head) (s .args .list .now)
-    (s .args .next) (s .args .state)) (s .args .disk .now) (s .args .list .now) (s .args .next) (s .pre .0 .number-inside)
-    (s .pre .0 .content-whole) (s .pre .0 .hidden-whole) (s .pre .0 .random-enough) (s .pre .0 .room-enough) (l .disk)
-    (l .list) (l .slot) (l .at) (l .reached) (l .done) (l .inv .going) (c .before .before .loop-test .taken))
+    omega (
+      arith,
+      random-from (geometryOf (s .args .g)) (s .args .number .0) (s .args .content .now) (s .args .random .now) (s .args .hidden .now)
+          (s .args .offered .0) (theRun (geometryOf (s .args .g)) (s .args .number .0) (s .args .content .now) (s .args .random .now)
+          (s .args .hidden .now) (s .args .offered .0) (s .args .disk .now) (s .args .head) (s .args .list .now)
+          (s .args .next) (s .args .state)) (s .args .disk .now) (s .args .list .now) (s .args .next) (s .pre .0 .number-inside)
+          (s .pre .0 .content-whole) (s .pre .0 .hidden-whole) (s .pre .0 .random-enough) (s .pre .0 .room-enough) (l .disk)
+          (l .list) (l .slot) (l .at) (l .reached) (l .done) (l .inv .going) (c .before .before .loop-test .taken),
+    )
 
 -- src/runs.rt:50:71
 part-do-round-end : tie.Need-part-do-round-end Inv-loop μ-loop
@@ -121,24 +127,24 @@ do-round-requires c κs =
     let from = l .done * (s .args .g .height * s .args .g .«block_size») in
     let e = sym (lent-rest (s .args .random .now) from) in (
       subst (λ (xs : Bytes). Ready (geometryOf (s .args .g)) (l .disk) (s .args .number .0) (l .slot)
-      (s .args .content .now) xs (s .args .hidden .now)) e (round-ready (geometryOf (s .args .g)) (s .args .number .0) (s .args .content .now) (s .args .random .now) (s .args .hidden .now)
-    (s .args .offered .0) (theRun (geometryOf (s .args .g)) (s .args .number .0) (s .args .content .now) (s .args .random .now)
-    (s .args .hidden .now) (s .args .offered .0) (s .args .disk .now) (s .args .head) (s .args .list .now)
-    (s .args .next) (s .args .state)) (s .args .disk .now) (s .args .list .now) (s .args .next) (s .pre .0 .number-inside)
-    (s .pre .0 .content-whole) (s .pre .0 .hidden-whole) (s .pre .0 .random-enough) (s .pre .0 .room-enough) (l .disk)
-    (l .list) (l .slot) (l .at) (l .reached) (l .done) (l .inv .going) (c .before .before .before .before .before .loop-test .taken)),
+          (s .args .content .now) xs (s .args .hidden .now)) e (round-ready (geometryOf (s .args .g)) (s .args .number .0) (s .args .content .now) (s .args .random .now) (s .args .hidden .now)
+          (s .args .offered .0) (theRun (geometryOf (s .args .g)) (s .args .number .0) (s .args .content .now) (s .args .random .now)
+          (s .args .hidden .now) (s .args .offered .0) (s .args .disk .now) (s .args .head) (s .args .list .now)
+          (s .args .next) (s .args .state)) (s .args .disk .now) (s .args .list .now) (s .args .next) (s .pre .0 .number-inside)
+          (s .pre .0 .content-whole) (s .pre .0 .hidden-whole) (s .pre .0 .random-enough) (s .pre .0 .room-enough) (l .disk)
+          (l .list) (l .slot) (l .at) (l .reached) (l .done) (l .inv .going) (c .before .before .before .before .before .loop-test .taken)),
       (
         l .inv .nodes-kept ∙ s .pre .1 .0,
         (
           l .inv .block-kept ∙ s .pre .1 .1,
           subst (λ (xs : Bytes). l .at + length (roundAt (geometryOf (s .args .g)) (l .disk) (s .args .number .0) (l .slot)
-          (s .args .content .now) xs (stateOf (l .reached) (s .args .offered .0) (s .args .hidden .now))) ≤ length (l .list)) e
-          (round-room (geometryOf (s .args .g)) (s .args .number .0) (s .args .content .now) (s .args .random .now) (s .args .hidden .now)
-    (s .args .offered .0) (theRun (geometryOf (s .args .g)) (s .args .number .0) (s .args .content .now) (s .args .random .now)
-    (s .args .hidden .now) (s .args .offered .0) (s .args .disk .now) (s .args .head) (s .args .list .now)
-    (s .args .next) (s .args .state)) (s .args .disk .now) (s .args .list .now) (s .args .next) (s .pre .0 .number-inside)
-    (s .pre .0 .content-whole) (s .pre .0 .hidden-whole) (s .pre .0 .random-enough) (s .pre .0 .room-enough) (l .disk)
-    (l .list) (l .slot) (l .at) (l .reached) (l .done) (l .inv .going) (c .before .before .before .before .before .loop-test .taken)),
+              (s .args .content .now) xs (stateOf (l .reached) (s .args .offered .0) (s .args .hidden .now))) ≤ length (l .list)) e
+              (round-room (geometryOf (s .args .g)) (s .args .number .0) (s .args .content .now) (s .args .random .now) (s .args .hidden .now)
+              (s .args .offered .0) (theRun (geometryOf (s .args .g)) (s .args .number .0) (s .args .content .now) (s .args .random .now)
+              (s .args .hidden .now) (s .args .offered .0) (s .args .disk .now) (s .args .head) (s .args .list .now)
+              (s .args .next) (s .args .state)) (s .args .disk .now) (s .args .list .now) (s .args .next) (s .pre .0 .number-inside)
+              (s .pre .0 .content-whole) (s .pre .0 .hidden-whole) (s .pre .0 .random-enough) (s .pre .0 .room-enough) (l .disk)
+              (l .list) (l .slot) (l .at) (l .reached) (l .done) (l .inv .going) (c .before .before .before .before .before .loop-test .taken)),
         ),
       ),
     )
@@ -177,11 +183,11 @@ returns c =
     (l .list) (l .slot) (l .at) (l .reached) (l .done) (l .inv .going) (c .before .before .before .before .before .before .before .before .before .before .before .before .before .before .before .before .before .loop-test .taken) (c .before .before .before .before .before .before .before .before .before .before .before .do-round .last .0) (c .before .before .before .before .before .before .before .before .before .before .before .do-round .last .1 .0) (c .before .before .before .before .before .before .before .before .before .before .before .do-round .result) (stepped (c .before .before .before .before .before .before .before .before .before .before .before)) e in
     record {
       made = made-ends (geometryOf (s .args .g)) (s .args .number .0) (s .args .content .now) (s .args .random .now) (s .args .hidden .now)
-    (s .args .offered .0) (theRun (geometryOf (s .args .g)) (s .args .number .0) (s .args .content .now) (s .args .random .now)
-    (s .args .hidden .now) (s .args .offered .0) (s .args .disk .now) (s .args .head) (s .args .list .now)
-    (s .args .next) (s .args .state)) (s .args .disk .now) (s .args .list .now) (s .args .next) (s .pre .0 .number-inside)
-    (s .pre .0 .content-whole) (s .pre .0 .hidden-whole) (s .pre .0 .random-enough) (s .pre .0 .room-enough) (l .disk)
-    (l .list) (l .slot) (l .at) (l .reached) (l .done) (l .inv .going) (c .before .before .before .before .before .before .before .before .before .before .before .before .before .before .before .before .before .loop-test .taken) (c .before .before .before .before .before .before .before .before .before .before .before .do-round .last .0) (c .before .before .before .before .before .before .before .before .before .before .before .do-round .last .1 .0) (c .before .before .before .before .before .before .before .before .before .before .before .do-round .result) (stepped (c .before .before .before .before .before .before .before .before .before .before .before)) e;
+          (s .args .offered .0) (theRun (geometryOf (s .args .g)) (s .args .number .0) (s .args .content .now) (s .args .random .now)
+          (s .args .hidden .now) (s .args .offered .0) (s .args .disk .now) (s .args .head) (s .args .list .now)
+          (s .args .next) (s .args .state)) (s .args .disk .now) (s .args .list .now) (s .args .next) (s .pre .0 .number-inside)
+          (s .pre .0 .content-whole) (s .pre .0 .hidden-whole) (s .pre .0 .random-enough) (s .pre .0 .room-enough) (l .disk)
+          (l .list) (l .slot) (l .at) (l .reached) (l .done) (l .inv .going) (c .before .before .before .before .before .before .before .before .before .before .before .before .before .before .before .before .before .loop-test .taken) (c .before .before .before .before .before .before .before .before .before .before .before .do-round .last .0) (c .before .before .before .before .before .before .before .before .before .before .before .do-round .last .1 .0) (c .before .before .before .before .before .before .before .before .before .before .before .do-round .result) (stepped (c .before .before .before .before .before .before .before .before .before .before .before)) e;
       rounds-are = sym (ap (λ (r : Run). r .rounds) ended);
       state-is = sym (ap (λ (r : Run). r .state) ended);
     }
@@ -206,11 +212,11 @@ loop-again c =
     let done = c .before .before .before .before .before .before .before .before .before .before .before .do-round in
     record {
       going = going-next (geometryOf (s .args .g)) (s .args .number .0) (s .args .content .now) (s .args .random .now) (s .args .hidden .now)
-    (s .args .offered .0) (theRun (geometryOf (s .args .g)) (s .args .number .0) (s .args .content .now) (s .args .random .now)
-    (s .args .hidden .now) (s .args .offered .0) (s .args .disk .now) (s .args .head) (s .args .list .now)
-    (s .args .next) (s .args .state)) (s .args .disk .now) (s .args .list .now) (s .args .next) (s .pre .0 .number-inside)
-    (s .pre .0 .content-whole) (s .pre .0 .hidden-whole) (s .pre .0 .random-enough) (s .pre .0 .room-enough) (l .disk)
-    (l .list) (l .slot) (l .at) (l .reached) (l .done) (l .inv .going) (c .before .before .before .before .before .before .before .before .before .before .before .before .before .before .before .before .before .loop-test .taken) (c .before .before .before .before .before .before .before .before .before .before .before .do-round .last .0) (c .before .before .before .before .before .before .before .before .before .before .before .do-round .last .1 .0) (c .before .before .before .before .before .before .before .before .before .before .before .do-round .result) (stepped (c .before .before .before .before .before .before .before .before .before .before .before)) (not-false (done .result .«goes_on») (c .if1 .left));
+          (s .args .offered .0) (theRun (geometryOf (s .args .g)) (s .args .number .0) (s .args .content .now) (s .args .random .now)
+          (s .args .hidden .now) (s .args .offered .0) (s .args .disk .now) (s .args .head) (s .args .list .now)
+          (s .args .next) (s .args .state)) (s .args .disk .now) (s .args .list .now) (s .args .next) (s .pre .0 .number-inside)
+          (s .pre .0 .content-whole) (s .pre .0 .hidden-whole) (s .pre .0 .random-enough) (s .pre .0 .room-enough) (l .disk)
+          (l .list) (l .slot) (l .at) (l .reached) (l .done) (l .inv .going) (c .before .before .before .before .before .before .before .before .before .before .before .before .before .before .before .before .before .loop-test .taken) (c .before .before .before .before .before .before .before .before .before .before .before .do-round .last .0) (c .before .before .before .before .before .before .before .before .before .before .before .do-round .last .1 .0) (c .before .before .before .before .before .before .before .before .before .before .before .do-round .result) (stepped (c .before .before .before .before .before .before .before .before .before .before .before)) (not-false (done .result .«goes_on») (c .if1 .left));
       disk-kept = done .kept .0 ∙ l .inv .disk-kept;
       nodes-kept = done .kept .1 .1 .1 .1 .1 .1 .1 .1 .1 .1 .1 .0 ∙ l .inv .nodes-kept;
       block-kept = done .kept .1 .1 .1 .1 .1 .1 .1 .1 .1 .1 .1 .1 .0 ∙ l .inv .block-kept;
@@ -245,11 +251,11 @@ returns-2 c =
     (l .list) (l .slot) (l .at) (l .reached) (l .done) (l .inv .going) (c .loop-test .left) in
     record {
       made = made-over (geometryOf (s .args .g)) (s .args .number .0) (s .args .content .now) (s .args .random .now) (s .args .hidden .now)
-    (s .args .offered .0) (theRun (geometryOf (s .args .g)) (s .args .number .0) (s .args .content .now) (s .args .random .now)
-    (s .args .hidden .now) (s .args .offered .0) (s .args .disk .now) (s .args .head) (s .args .list .now)
-    (s .args .next) (s .args .state)) (s .args .disk .now) (s .args .list .now) (s .args .next) (s .pre .0 .number-inside)
-    (s .pre .0 .content-whole) (s .pre .0 .hidden-whole) (s .pre .0 .random-enough) (s .pre .0 .room-enough) (l .disk)
-    (l .list) (l .slot) (l .at) (l .reached) (l .done) (l .inv .going) (c .loop-test .left);
+          (s .args .offered .0) (theRun (geometryOf (s .args .g)) (s .args .number .0) (s .args .content .now) (s .args .random .now)
+          (s .args .hidden .now) (s .args .offered .0) (s .args .disk .now) (s .args .head) (s .args .list .now)
+          (s .args .next) (s .args .state)) (s .args .disk .now) (s .args .list .now) (s .args .next) (s .pre .0 .number-inside)
+          (s .pre .0 .content-whole) (s .pre .0 .hidden-whole) (s .pre .0 .random-enough) (s .pre .0 .room-enough) (l .disk)
+          (l .list) (l .slot) (l .at) (l .reached) (l .done) (l .inv .going) (c .loop-test .left);
       rounds-are = sym (ap (λ (r : Run). r .rounds) over);
       state-is = sym (ap (λ (r : Run). r .state) over);
     }

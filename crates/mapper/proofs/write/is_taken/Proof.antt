@@ -5,11 +5,9 @@ use Rattle.mapper.proofs.write.is_taken.Tie as tie
 use Rattle.mapper.proofs.write.is_taken.Reads as reads
 use Rattle.mapper.proofs.write.is_taken.Lts as lts
 
--- src/write.rt:57:9
 returns : tie.Need-returns
 returns c = taken-good (c .before .args .offered) (c .before .args .bad) (c .if1 .taken)
 
--- src/write.rt:53:1
 returns-2 : tie.Need-returns-2
 returns-2 c = taken-bad (c .before .args .offered) (c .before .args .bad) (c .if1 .left)
 

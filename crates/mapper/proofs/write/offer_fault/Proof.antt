@@ -9,17 +9,14 @@ use Rattle.mapper.proofs.write.offer_fault.Reads as reads
 use Rattle.mapper.proofs.write.offer_fault.Lts as lts
 use Rattle.mapper.proofs.hidden.number_fault.Reads as number-fault-reads
 
--- src/write.rt:47:9
 number-fault-requires : tie.Need-number-fault-requires
 number-fault-requires c κs = search needs
 
--- src/write.rt:47:9
 returns : tie.Need-returns
 returns c =
     let s = c .before .before .before in
     c .number-fault .ensures ∙ refusal-offered (geometryOf (s .args .g)) (s .args .number .0) (s .args .hidden .now) (s .args .offered) (c .before .if1 .taken)
 
--- src/write.rt:43:1
 returns-2 : tie.Need-returns-2
 returns-2 c = let s = c .before .before in refusal-none (geometryOf (s .args .g)) (s .args .number .0) (s .args .hidden .now) (s .args .offered) (c .if1 .left)
 

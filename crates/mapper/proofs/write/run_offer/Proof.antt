@@ -10,7 +10,6 @@ use Rattle.mapper.proofs.write.run_offer.Reads as reads
 use Rattle.mapper.proofs.write.run_offer.Lts as lts
 use Rattle.rounds.proofs.runs.run_write.Reads as run-write-reads
 
--- src/write.rt:114:9
 run-write-requires : tie.Need-run-write-requires
 run-write-requires c κs =
     let s = c .before .before .before .before .before .before .before .before in
@@ -18,15 +17,12 @@ run-write-requires c κs =
     runnable-taken (geometryOf (s .args .g)) (s .args .disk .now) (s .args .number .0) (s .args .head) (s .args .content .now) (s .args .random .now)
     (s .args .taken) (s .args .hidden-number .0) (s .args .hidden .now) (length (s .args .list .now)) (s .pre .0) e (s .pre .1 e)
 
--- src/write.rt:114:9
 same-length : tie.Need-same-length
 same-length c = search needs
 
--- src/write.rt:114:9
 same-length-2 : tie.Need-same-length-2
 same-length-2 c = search needs
 
--- src/write.rt:114:9
 returns : tie.Need-returns
 returns c =
     let s = c .before .before .before .before .before .before .before .before .before .before .before .before .before in
@@ -35,22 +31,18 @@ returns c =
     (s .args .taken) (s .args .hidden-number .0) (s .args .hidden .now) (s .args .list .now) (done .last .0) (done .last .1 .0) (done .result)
     (c .before .before .before .before .before .before .before .if1 .taken) (done .ensures)
 
--- src/write.rt:120:5
 run-write-requires-2 : tie.Need-run-write-requires-2
 run-write-requires-2 c κs =
     let s = c .before .before .before .before .before .before .before .before in
     runnable-absent (geometryOf (s .args .g)) (s .args .disk .now) (s .args .number .0) (s .args .head) (s .args .content .now) (s .args .random .now)
     (s .args .taken) (s .args .hidden-number .0) (s .args .hidden .now) (length (s .args .list .now)) (s .pre .0) (c .before .before .if1 .left)
 
--- src/write.rt:93:1
 same-length-3 : tie.Need-same-length-3
 same-length-3 c = search needs
 
--- src/write.rt:93:1
 same-length-4 : tie.Need-same-length-4
 same-length-4 c = search needs
 
--- src/write.rt:93:1
 returns-2 : tie.Need-returns-2
 returns-2 c =
     let s = c .before .before .before .before .before .before .before .before .before .before .before .before .before in

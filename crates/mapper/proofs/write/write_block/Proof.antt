@@ -23,7 +23,6 @@ use Rattle.mapper.proofs.write.offer_fault.Reads as offer-fault-reads
 use Rattle.mapper.proofs.write.outcome_of.Reads as outcome-of-reads
 use Rattle.mapper.proofs.write.run_offer.Reads as run-offer-reads
 
--- src/write.rt:137:9
 -- the write is not refused
 accepted :
     (c : tie.Else1) →
@@ -35,15 +34,12 @@ accepted c = sym (c .before .write-fault .ensures) ∙ c .if1 .left
 write-fault-requires : tie.Need-write-fault-requires
 write-fault-requires c κs = search needs
 
--- src/write.rt:139:9
 same-length : tie.Need-same-length
 same-length c = search needs
 
--- src/write.rt:139:9
 same-length-2 : tie.Need-same-length-2
 same-length-2 c = search needs
 
--- src/write.rt:139:9
 returns : tie.Need-returns
 returns c =
     let s = c .before .before .before .before .before .before .before .before .before in
@@ -51,7 +47,6 @@ returns c =
     (s .args .list .now) (offerOf (s .args .offered) (s .args .hidden-number .0) (s .args .hidden .now))
     (c .before .write-fault .result) (c .before .write-fault .ensures) (c .if1 .taken)
 
--- src/write.rt:146:9
 geometry-in-requires : tie.Need-geometry-in-requires
 geometry-in-requires c κs =
     let s = c .before .before .before .before .before .before .before .before .before .before in
@@ -60,7 +55,6 @@ geometry-in-requires c κs =
     (length (s .args .random .now)) (length (s .args .list .now)) (accepted (c .before)))
     .sized .long
 
--- src/write.rt:147:9
 head-in-requires : tie.Need-head-in-requires
 head-in-requires c κs =
     let s = c .before .before .before .before .before .before .before .before .before .before .before .before in
@@ -69,15 +63,12 @@ head-in-requires c κs =
     (length (s .args .random .now)) (length (s .args .list .now)) (accepted (c .before .before .before)))
     .sized .long
 
--- src/write.rt:148:9
 offer-fault-requires : tie.Need-offer-fault-requires
 offer-fault-requires c κs = search needs
 
--- src/write.rt:149:9
 is-taken-requires : tie.Need-is-taken-requires
 is-taken-requires c κs = search needs
 
--- src/write.rt:150:9
 run-offer-requires : tie.Need-run-offer-requires
 run-offer-requires c κs =
     let s = c .before .before .before .before .before .before .before .before .before .before .before .before .before .before .before .before .before in (
@@ -89,7 +80,6 @@ run-offer-requires c κs =
           (s .args .offered) (c .before .before .is-taken .result) (c .before .before .before .offer-fault .ensures) (c .before .before .is-taken .ensures),
     )
 
--- src/write.rt:157:17
 cast-t32 : tie.Need-cast-t32
 cast-t32 c =
     let s = c .before .before .before .before .before .before .before .before .before .before .before .before .before .before .before .before .before .before .before .before .before .before .before in
@@ -101,19 +91,15 @@ cast-t32 c =
           (c .before .before .before .before .before .before .before .before .is-taken .result) (c .before .before .before .before .before .before .before .before .is-taken .ensures) (c .before .before .before .before .before .run-offer .last .0) (c .before .before .before .before .before .run-offer .last .1 .0) (c .before .before .before .before .before .run-offer .result) (c .before .before .before .before .before .run-offer .ensures),
     )
 
--- src/write.rt:158:18
 outcome-of-requires : tie.Need-outcome-of-requires
 outcome-of-requires c κs = search needs
 
--- src/write.rt:125:1
 same-length-3 : tie.Need-same-length-3
 same-length-3 c = search needs
 
--- src/write.rt:125:1
 same-length-4 : tie.Need-same-length-4
 same-length-4 c = search needs
 
--- src/write.rt:125:1
 returns-2 : tie.Need-returns-2
 returns-2 c =
     let s = c .before .before .before .before .before .before .before .before .before .before .before .before .before .before .before .before .before .before .before .before .before .before .before .before in

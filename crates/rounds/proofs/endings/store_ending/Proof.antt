@@ -15,19 +15,15 @@ use Rattle.rounds.proofs.endings.store_ending.Lts as lts
 use Rattle.public_half.proofs.header.store_header.Reads as store-header-reads
 use Rattle.public_half.proofs.public_map.store_map.Reads as store-map-reads
 
--- src/endings.rt:36:44
 enum-told : tie.Need-enum-told
 enum-told c = search needs
 
--- src/endings.rt:36:31
 store-header-requires : tie.Need-store-header-requires
 store-header-requires c κs = search needs
 
--- src/endings.rt:38:32
 enum-told-2 : tie.Need-enum-told-2
 enum-told-2 c = search needs
 
--- src/endings.rt:38:17
 store-map-requires : tie.Need-store-map-requires
 store-map-requires c κs =
     let s = c .before .before .before .before .before .before in (
@@ -46,7 +42,6 @@ store-map-requires c κs =
       ),
     )
 
--- src/endings.rt:39:13
 store-header-requires-2 : tie.Need-store-header-requires-2
 store-header-requires-2 c κs =
     let s = c .before .before .before .before .before .before .before .before .before .before .before .before .before in
@@ -65,30 +60,24 @@ store-header-requires-2 c κs =
       ),
     )
 
--- src/endings.rt:19:1
 same-length : tie.Need-same-length
 same-length c = search needs
 
--- src/endings.rt:19:1
 same-length-2 : tie.Need-same-length-2
 same-length-2 c = search needs
 
--- src/endings.rt:19:1
 returns : tie.Need-returns
 returns c =
     let s = c .before .before .before .before .before .before .before .before .before .before .before in
     ending-kept (geometryOf (s .args .g)) (s .args .disk .now) (s .args .number .0) (s .args .slot)
     (publicOf (s .args .choice)) (ap publicOf (c .before .before .before .before .before .before .before .enum-told .given .1)) (c .before .before .before .before .store-header .ensures)
 
--- src/endings.rt:19:1
 same-length-3 : tie.Need-same-length-3
 same-length-3 c = search needs
 
--- src/endings.rt:19:1
 same-length-4 : tie.Need-same-length-4
 same-length-4 c = search needs
 
--- src/endings.rt:19:1
 returns-2 : tie.Need-returns-2
 returns-2 c =
     let s = c .before .before .before .before .before .before .before .before .before .before .before .before .before .before .before .before .before .before in

@@ -17,7 +17,6 @@ use Rattle.rounds.proofs.plans.is_live.Reads as is-live-reads
 use Rattle.rounds.proofs.states.is_waiting.Reads as is-waiting-reads
 use Rattle.table.proofs.row_at.Reads as row-at-reads
 
--- src/plans.rt:63:9
 -- all that the answers lean on
 known :
     (c : tie.After-is-blocked) →
@@ -36,77 +35,60 @@ known c =
 is-waiting-requires : tie.Need-is-waiting-requires
 is-waiting-requires c κs = search needs
 
--- src/plans.rt:64:9
 slot-status-requires : tie.Need-slot-status-requires
 slot-status-requires c κs = let s = c .before .before .before .before in (s .pre .0, (s .pre .1 .0, s .pre .1 .1))
 
--- src/plans.rt:65:31
 is-allocated-requires : tie.Need-is-allocated-requires
 is-allocated-requires c κs = search needs
 
--- src/plans.rt:65:60
 is-live-requires : tie.Need-is-live-requires
 is-live-requires c κs = search needs
 
--- src/plans.rt:65:9
 row-at-requires : tie.Need-row-at-requires
 row-at-requires c κs = search needs
 
--- src/plans.rt:68:8
 is-blocked-requires : tie.Need-is-blocked-requires
 is-blocked-requires c κs = search needs
 
--- src/plans.rt:69:9
 same-length : tie.Need-same-length
 same-length c = search needs
 
--- src/plans.rt:69:9
 returns : tie.Need-returns
 returns c =
     let s = c .before .before .before .before .before .before .before .before .before .before .before .before .before .before .before in
     planned-back (geometryOf (s .args .g)) (s .args .disk .now) (s .pre .0) (s .args .slot) (s .args .state) (s .args .number .0) (c .before .before .before .before .before .row-at .result) (c .before .before .before .is-blocked .result) (c .before .before .before .is-blocked .last .1 .1 .1 .1 .1 .0) (known (c .before .before .before)) (c .if1 .taken)
 
--- src/plans.rt:80:17
 enum-told : tie.Need-enum-told
 enum-told c = search needs
 
--- src/plans.rt:80:17
 owner-of-requires : tie.Need-owner-of-requires
 owner-of-requires c κs = let s = c .before .before .before .before .before .before .before .before .before .before .before .before .before .before .before .before .before in (s .pre .0, s .pre .1 .0)
 
--- src/plans.rt:89:21
 enum-told-2 : tie.Need-enum-told-2
 enum-told-2 c = search needs
 
--- src/plans.rt:97:21
 enum-told-3 : tie.Need-enum-told-3
 enum-told-3 c = search needs
 
--- src/plans.rt:56:1
 same-length-2 : tie.Need-same-length-2
 same-length-2 c = search needs
 
--- src/plans.rt:56:1
 returns-2 : tie.Need-returns-2
 returns-2 c =
     let s = c .before .before .before .before .before .before .before .before .before .before .before .before .before .before .before .before .before .before in
     planned-keep (geometryOf (s .args .g)) (s .args .disk .now) (s .pre .0) (s .args .slot) (s .args .state) (s .args .number .0) (c .before .before .before .before .before .before .before .before .row-at .result) (c .before .before .before .before .before .before .is-blocked .result) (c .before .before .before .before .before .before .is-blocked .last .1 .1 .1 .1 .1 .0) (known (c .before .before .before .before .before .before)) (c .before .before .before .if1 .left) (ap hiddenOf (c .before .enum-told .given .1)) (c .owner-of .result) (c .owner-of .ensures)
 
--- src/plans.rt:56:1
 same-length-3 : tie.Need-same-length-3
 same-length-3 c = search needs
 
--- src/plans.rt:56:1
 returns-3 : tie.Need-returns-3
 returns-3 c =
     let s = c .before .before .before .before .before .before .before .before .before .before .before .before .before .before .before .before .before in
     planned-place (geometryOf (s .args .g)) (s .args .disk .now) (s .pre .0) (s .args .slot) (s .args .state) (s .args .number .0) (c .before .before .before .before .before .before .before .row-at .result) (c .before .before .before .before .before .is-blocked .result) (c .before .before .before .before .before .is-blocked .last .1 .1 .1 .1 .1 .0) (known (c .before .before .before .before .before)) (c .before .before .if1 .left) (ap hiddenOf (c .enum-told2 .given .1))
 
--- src/plans.rt:56:1
 same-length-4 : tie.Need-same-length-4
 same-length-4 c = search needs
 
--- src/plans.rt:56:1
 returns-4 : tie.Need-returns-4
 returns-4 c =
     let s = c .before .before .before .before .before .before .before .before .before .before .before .before .before .before .before .before .before in

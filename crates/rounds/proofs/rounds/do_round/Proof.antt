@@ -16,11 +16,9 @@ use Rattle.rounds.proofs.endings.store_ending.Reads as store-ending-rea
 use Rattle.rounds.proofs.plans.plan_round.Reads as plan-round-reads
 use Rattle.rounds.proofs.rounds.is_kept.Reads as is-kept-reads
 
--- src/rounds.rt:58:9
 plan-round-requires : tie.Need-plan-round-requires
 plan-round-requires c κs = search needs
 
--- src/rounds.rt:62:9
 store-public-requires : tie.Need-store-public-requires
 store-public-requires c κs =
     let s = c .before .before .before .before .before .before .before .before .before .before .before .before .before .before .before in
@@ -37,7 +35,6 @@ store-public-requires c κs =
       ),
     )
 
--- src/rounds.rt:63:9
 store-hidden-requires : tie.Need-store-hidden-requires
 store-hidden-requires c κs =
     let s = c .before .before .before .before .before .before .before .before .before .before .before .before .before .before .before .before .before .before .before .before .before .before .before .before in
@@ -66,7 +63,6 @@ store-hidden-requires c κs =
       ),
     )
 
--- src/rounds.rt:64:9
 store-ending-requires : tie.Need-store-ending-requires
 store-ending-requires c κs =
     let s = c .before .before .before .before .before .before .before .before .before .before .before .before .before .before .before .before .before .before .before .before .before .before .before .before .before .before .before .before .before .before .before .before .before in
@@ -92,27 +88,21 @@ store-ending-requires c κs =
       ),
     )
 
--- src/rounds.rt:68:18
 is-kept-requires : tie.Need-is-kept-requires
 is-kept-requires c κs = search needs
 
--- src/rounds.rt:37:1
 same-length : tie.Need-same-length
 same-length c = search needs
 
--- src/rounds.rt:37:1
 same-length-2 : tie.Need-same-length-2
 same-length-2 c = search needs
 
--- src/rounds.rt:37:1
 same-length-3 : tie.Need-same-length-3
 same-length-3 c = search needs
 
--- src/rounds.rt:37:1
 same-length-4 : tie.Need-same-length-4
 same-length-4 c = search needs
 
--- src/rounds.rt:37:1
 returns : tie.Need-returns
 returns c =
     let s = c .before .before .before .before .before .before .before .before .before .before .before .before .before .before .before .before .before .before .before .before .before .before .before .before .before .before .before .before .before .before .before .before .before .before .before .before .before .before .before in

@@ -30,7 +30,6 @@ Inv-loop disk₀ list₀ next g number head content random offered hidden nodes�
 abbrev μ-loop : tie.MeasureT-loop
 μ-loop disk₀ list₀ next g number head content random offered hidden nodes₀ block₀ slots width slot₀ at₀ reached₀ done₀ disk list nodes block slot at reached done = slots - done
 
--- src/runs.rt:43:18
 -- what a round has done, with the random bytes from its place on
 stepped :
     (c : tie.After-do-round Inv-loop μ-loop) →
@@ -49,15 +48,12 @@ stepped c =
 cast-width : tie.Need-cast-width Inv-loop μ-loop
 cast-width c = search needs
 
--- src/runs.rt:43:40
 cast-width-2 : tie.Need-cast-width-2 Inv-loop μ-loop
 cast-width-2 c = search needs
 
--- src/runs.rt:43:17
 mul-width : tie.Need-mul-width Inv-loop μ-loop
 mul-width c = let f = c .before .before .before .before .before .before .before .before .before .pre .0 .drive .fits in omega (arith, mul-le-mul (f .height-high) (f .size-high))
 
--- src/runs.rt:48:5
 loop-holds : tie.Need-loop-holds Inv-loop μ-loop
 loop-holds c =
     let s = c .before .before .before .before .before .before .before .before .before in
@@ -71,11 +67,9 @@ loop-holds c =
       block-kept = refl;
     }
 
--- src/runs.rt:49:21
 cast-from : tie.Need-cast-from Inv-loop μ-loop
 cast-from c = search needs
 
--- src/runs.rt:49:20
 mul-from : tie.Need-mul-from Inv-loop μ-loop
 mul-from c =
     let s = c .before .before .before .before .before .before .before .before .before .before .before in
@@ -85,7 +79,6 @@ mul-from c =
     let wide : s .args .g .height * s .args .g .«block_size» ≤ 4 * 4096 = mul-le-mul (f .height-high) (f .size-high) in
     omega (arith, mul-le-mul most wide)
 
--- src/runs.rt:50:71
 sub-do-round : tie.Need-sub-do-round Inv-loop μ-loop
 sub-do-round c =
     let s = c .before .before .before .before .before .before .before .before .before .before .before .before .before in
@@ -100,7 +93,6 @@ sub-do-round c =
           (l .list) (l .slot) (l .at) (l .reached) (l .done) (l .inv .going) (c .before .before .loop-test .taken),
     )
 
--- src/runs.rt:50:71
 part-do-round-start : tie.Need-part-do-round-start Inv-loop μ-loop
 part-do-round-start c =
     let s = c .before .before .before .before .before .before .before .before .before .before .before .before .before in
@@ -115,11 +107,9 @@ part-do-round-start c =
           (l .list) (l .slot) (l .at) (l .reached) (l .done) (l .inv .going) (c .before .before .loop-test .taken),
     )
 
--- src/runs.rt:50:71
 part-do-round-end : tie.Need-part-do-round-end Inv-loop μ-loop
 part-do-round-end c = omega arith
 
--- src/runs.rt:50:13
 do-round-requires : tie.Need-do-round-requires Inv-loop μ-loop
 do-round-requires c κs =
     let s = c .before .before .before .before .before .before .before .before .before .before .before .before .before .before .before .before in
@@ -149,27 +139,21 @@ do-round-requires c κs =
       ),
     )
 
--- src/runs.rt:53:9
 add-done : tie.Need-add-done Inv-loop μ-loop
 add-done c = omega arith
 
--- src/runs.rt:55:13
 same-length : tie.Need-same-length Inv-loop μ-loop
 same-length c = omega (arith, c .before .before .before .before .before .before .before .before .before .before .before .do-round .kept .0, c .before .before .before .before .before .before .before .before .before .before .before .before .before .before .before .before .before .before .loop .inv .disk-kept)
 
--- src/runs.rt:55:13
 same-length-2 : tie.Need-same-length-2 Inv-loop μ-loop
 same-length-2 c = omega (arith, c .before .before .before .before .before .before .before .before .before .before .before .do-round .kept .1 .0, c .before .before .before .before .before .before .before .before .before .before .before .before .before .before .before .before .before .before .loop .inv .going .list-kept)
 
--- src/runs.rt:55:13
 same-length-3 : tie.Need-same-length-3 Inv-loop μ-loop
 same-length-3 c = omega (arith, c .before .before .before .before .before .before .before .before .before .before .before .do-round .kept .1 .1 .1 .1 .1 .1 .1 .1 .1 .1 .1 .0, c .before .before .before .before .before .before .before .before .before .before .before .before .before .before .before .before .before .before .loop .inv .nodes-kept)
 
--- src/runs.rt:55:13
 same-length-4 : tie.Need-same-length-4 Inv-loop μ-loop
 same-length-4 c = omega (arith, c .before .before .before .before .before .before .before .before .before .before .before .do-round .kept .1 .1 .1 .1 .1 .1 .1 .1 .1 .1 .1 .1 .0, c .before .before .before .before .before .before .before .before .before .before .before .before .before .before .before .before .before .before .loop .inv .block-kept)
 
--- src/runs.rt:55:13
 returns : tie.Need-returns Inv-loop μ-loop
 returns c =
     let s = c .before .before .before .before .before .before .before .before .before .before .before .before .before .before .before .before .before .before .before .before .before .before .before .before .before .before .before .before in
@@ -192,19 +176,15 @@ returns c =
       state-is = sym (ap (λ (r : Run). r .state) ended);
     }
 
--- src/runs.rt:61:17
 add-slot : tie.Need-add-slot Inv-loop μ-loop
 add-slot c = omega arith
 
--- src/runs.rt:61:16
 rem-slot : tie.Need-rem-slot Inv-loop μ-loop
 rem-slot c = omega arith
 
--- src/runs.rt:48:5
 loop-less : tie.Need-loop-less Inv-loop μ-loop
 loop-less c = omega arith
 
--- src/runs.rt:48:5
 loop-again : tie.Need-loop-again Inv-loop μ-loop
 loop-again c =
     let s = c .before .before .before .before .before .before .before .before .before .before .before .before .before .before .before .before .before .before .before .before .before .before .before .before .before .before .before .before in
@@ -222,23 +202,18 @@ loop-again c =
       block-kept = done .kept .1 .1 .1 .1 .1 .1 .1 .1 .1 .1 .1 .1 .0 ∙ l .inv .block-kept;
     }
 
--- src/runs.rt:22:1
 same-length-5 : tie.Need-same-length-5 Inv-loop μ-loop
 same-length-5 c = omega (arith, c .before .loop .inv .disk-kept)
 
--- src/runs.rt:22:1
 same-length-6 : tie.Need-same-length-6 Inv-loop μ-loop
 same-length-6 c = omega (arith, c .before .loop .inv .going .list-kept)
 
--- src/runs.rt:22:1
 same-length-7 : tie.Need-same-length-7 Inv-loop μ-loop
 same-length-7 c = omega (arith, c .before .loop .inv .nodes-kept)
 
--- src/runs.rt:22:1
 same-length-8 : tie.Need-same-length-8 Inv-loop μ-loop
 same-length-8 c = omega (arith, c .before .loop .inv .block-kept)
 
--- src/runs.rt:22:1
 returns-2 : tie.Need-returns-2 Inv-loop μ-loop
 returns-2 c =
     let s = c .before .before .before .before .before .before .before .before .before .before .before in

@@ -13,40 +13,32 @@ use Rattle.rounds.proofs.runs.run_write.Reads as reads
 use Rattle.rounds.proofs.runs.run_write.Lts as lts
 use Rattle.rounds.proofs.runs.do_rounds.Reads as do-rounds-reads
 
--- src/runs.rt:86:16
 cast-size : tie.Need-cast-size
 cast-size c = search needs
 
--- src/runs.rt:87:18
 cast-bytes : tie.Need-cast-bytes
 cast-bytes c = search needs
 
--- src/runs.rt:87:17
 mul-bytes : tie.Need-mul-bytes
 mul-bytes c = let f = c .before .before .before .before .before .before .before .pre .drive .fits in omega (arith, mul-le-mul (f .height-high) (f .size-high))
 
--- src/runs.rt:90:88
 array-borrow-prefix-nodes : tie.Need-array-borrow-prefix-nodes
 array-borrow-prefix-nodes c = let f = c .before .before .before .before .before .before .before .before .before .pre .drive .fits in omega (arith, mul-le-mul (f .height-high) (f .size-high))
 
--- src/runs.rt:90:88
 slice-aggregate-do-rounds : tie.Need-slice-aggregate-do-rounds
 slice-aggregate-do-rounds c =
     let s = c .before .before .before .before .before .before .before .before .before .before in
     let f = s .pre .drive .fits in
     sym (length-take-le (s .args .g .height * s .args .g .«block_size») (replicate 16384 0) (mul-le-mul (f .height-high) (f .size-high)))
 
--- src/runs.rt:90:109
 array-borrow-prefix-block : tie.Need-array-borrow-prefix-block
 array-borrow-prefix-block c = search needs
 
--- src/runs.rt:90:109
 slice-aggregate-do-rounds-2 : tie.Need-slice-aggregate-do-rounds-2
 slice-aggregate-do-rounds-2 c =
     let s = c .before .before .before .before .before .before .before .before .before .before .before in
     sym (length-take-le (s .args .g .«block_size») (replicate 4096 0) (s .pre .drive .fits .size-high))
 
--- src/runs.rt:90:5
 do-rounds-requires : tie.Need-do-rounds-requires
 do-rounds-requires c κs =
     let s = c .before .before .before .before .before .before .before .before .before .before .before in
@@ -58,15 +50,12 @@ do-rounds-requires c κs =
       ),
     )
 
--- src/runs.rt:71:1
 same-length : tie.Need-same-length
 same-length c = search needs
 
--- src/runs.rt:71:1
 same-length-2 : tie.Need-same-length-2
 same-length-2 c = search needs
 
--- src/runs.rt:71:1
 returns : tie.Need-returns
 returns c = search needs
 

@@ -1,3 +1,1 @@
-pub mod NodeBlocks
-pub mod Statuses
 pub mod Plans

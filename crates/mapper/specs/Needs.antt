@@ -1,14 +1,17 @@
--- What a write takes now, for a caller who has yet to lend it buffers: the refusal that no buffer can avert, or the rounds,
+-- What a write takes now, for a caller who has yet to lend it buffers: the refusal that no buffer can avert,
+-- or the rounds,
 -- stores and random blocks of a write whose data is one block. Assumes nothing.
+use mathlib.Core.Path.{_≡_}
 use mathlib.Core.Bool.{cond}
 use mathlib.Core.List.{[], _∷_, _++_}
-use Prim.Native.Nat.{ℕ, _*_}
+use Prim.Native.Nat.{ℕ, _*_, _≤_}
 use lib.Dec.{eqb}
+use lib.ListN.{length}
 use Rattle.laws.specs.Checks.{check, firstOf}
 use Rattle.model.specs.Geometry.{Geometry}
 use Rattle.model.specs.Blocks.{Bytes}
 use Rattle.model.specs.Layout.{geometryIn, mapEntry}
-use Rattle.model.specs.Refusals.{driveChecks, placeChecks, roundCount, storeCount}
+use Rattle.model.specs.Refusals.{driveChecks, placeChecks, roundCount, storeCount, writeRefusal}
 use Rattle.mapper.specs.declared.needs.Needs as declared
 
 -- the answer, and what is to be lent: random bytes for so many blocks, a list for so many stores
@@ -53,3 +56,10 @@ unfoldable pub needsOf : (disk : Bytes) → (number : ℕ) → Needed
 needsOf disk number =
     cond (eqb (needsRefusal disk number) 0) (neededFor (geometryIn disk) disk number)
     (refusedNeeds (needsRefusal disk number))
+
+-- a write of one block of data that is lent at least so much is not refused
+abbrev pub Suffices : (disk : Bytes) → (number : ℕ) → Needed → Type 0
+Suffices disk number needed =
+    (content : Bytes) (random room : ℕ) → needed .answer ≡ 0 → length content ≡ geometryIn disk .blockSize →
+    needed .randomBlocks * geometryIn disk .blockSize ≤ random → needed .stores ≤ room →
+    writeRefusal disk number content random room ≡ 0

@@ -13,7 +13,8 @@ use Rattle.model.specs.Calls as model
 use Rattle.rounds.specs.declared.runs.Ran.{Ran}
 use Rattle.rounds.specs.Runs.{RunMade}
 use Rattle.mapper.specs.declared.write.Outcome.{Outcome}
-use Rattle.mapper.specs.declared.write.Outcome.the-variants.{NoWrite, Placed, Waiting, NotTried, BadNumber, BadSize, DamagedWalk}
+use Rattle.mapper.specs.declared.write.Outcome.the-variants.{NoWrite, Placed, Waiting, NotTried}
+use Rattle.mapper.specs.declared.write.Outcome.the-variants.{BadNumber, BadSize, DamagedWalk}
 use Rattle.mapper.specs.declared.write.Written.{Written}
 
 -- the outcome that a declared one says; `outcomeNumber` of the model gives document 01's number for it

@@ -1,19 +1,18 @@
 // The calls of the mapper (document 01, "Public numbers and hidden outcomes"). None has a `requires`: each
-// contract fixes the answer and the bytes that the call leaves, for every input.
+// contract fixes the answer and the bytes that the call leaves, for every input. The reads stand in `reads`.
 mod formatting; // header, map, bitmap and root of a fresh drive
-mod public; // refusals 4 to 6, and the public read
-mod hidden; // refusals 10 to 12, and the hidden read
 mod needs; // the rounds, stores and random bytes that a write takes, and its refusals
 mod write; // the write, with or without an offer
 
 pub use formatting::format_drive;
-pub use hidden::hidden_fault;
-pub use hidden::hidden_read;
 pub use needs::Needs;
 pub use needs::write_fault;
 pub use needs::write_needs;
-pub use public::public_fault;
-pub use public::public_read;
+pub use reads::hidden::hidden_fault;
+pub use reads::hidden::hidden_read;
+pub use reads::public::public_fault;
+pub use reads::public::public_read;
 pub use write::Outcome;
 pub use write::Written;
+pub use write::outcome_number;
 pub use write::write_block;

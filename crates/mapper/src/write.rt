@@ -1,15 +1,15 @@
 // The write: a public number's data, and what is offered to the hidden volume.
-use crate::hidden::number_fault;
 use crate::needs::write_fault;
+use checks::numbers::number_fault;
 use layout::geometry::Geometry;
 use layout::geometry::geometry_in;
 use layout::geometry::head_in;
 use layout::numbers::HiddenNumber;
 use layout::numbers::PublicNumber;
+use plans::states::Offer;
+use plans::states::State;
 use rounds::runs::Ran;
 use rounds::runs::run_write;
-use rounds::states::Offer;
-use rounds::states::State;
 ghost use mathlib.Core.Path.{_≡_};
 ghost use mathlib.Core.Bool.{true, _&&_};
 ghost use Prim.Native.Nat.{ℕ};
@@ -17,9 +17,9 @@ ghost use lib.Dec.{eqb};
 ghost use lib.ListN.{length};
 ghost use Rattle.model.specs.Blocks.{Bytes};
 ghost use Rattle.model.specs.Rounds.{runFrom};
-ghost use Rattle.model.specs.Calls.{offerRefusal, outcomeOf, startState, written};
+ghost use Rattle.model.specs.Calls.{offerRefusal, outcomeNumber, outcomeOf, startState, written};
 ghost use Rattle.layout.specs.Geometries.{geometryOf};
-ghost use Rattle.rounds.specs.States.{stateOf};
+ghost use Rattle.plans.specs.States.{stateOf};
 ghost use Rattle.rounds.specs.Runs.{Runnable};
 ghost use Rattle.mapper.specs.Writes.{outcomeSaid, offerOf, takenWrites, RanWith, Answered};
 
@@ -33,6 +33,21 @@ pub enum Outcome {
     BadNumber,
     BadSize,
     DamagedWalk,
+}
+
+// Document 01's number of an outcome; none, placed, waiting and not tried are 0 to 3.
+pub fn outcome_number(outcome: Outcome) -> u8
+    ensures { λ r. ⌜ r ≡ outcomeNumber (outcomeSaid outcome) ⌝ }
+{
+    match outcome {
+        Outcome::NoWrite => 0,
+        Outcome::Placed => 1,
+        Outcome::Waiting => 2,
+        Outcome::NotTried => 3,
+        Outcome::BadNumber => 10,
+        Outcome::BadSize => 11,
+        Outcome::DamagedWalk => 12,
+    }
 }
 
 // 0 or the refusal, the rounds, the stores, and what has become of the offer.
@@ -67,7 +82,8 @@ fn is_taken(offered: bool, bad: u8) -> bool
 
 // What has become of an offer with this refusal, by the state after the rounds.
 fn outcome_of(bad: u8, state: State) -> Outcome
-    ensures { λ r. ⌜ ((number : ℕ) (content : Bytes) → outcomeSaid r ≡ outcomeOf bad (stateOf state number content)) ⌝ }
+    ensures { λ r. ⌜
+        ((number : ℕ) (content : Bytes) → outcomeSaid r ≡ outcomeOf bad (stateOf state number content)) ⌝ }
 {
     if bad == 10 {
         return Outcome::BadNumber;
@@ -108,9 +124,15 @@ fn run_offer(
     hidden_number: HiddenNumber,
     hidden: &[u8],
 ) -> Ran
-    requires { ⌜ Runnable (geometryOf g) (now disk) (number .0) head (now content) (now random) (now content) (runFrom (geometryOf g .slots) (geometryOf g) (number .0) (now content) head (now random) (now disk) (startState (takenWrites taken («hidden_number» .0) (now hidden)))) 0 (length (now list)) ⌝ }
+    requires { ⌜ Runnable (geometryOf g) (now disk) (number .0) head (now content) (now random)
+        (now content) (runFrom (geometryOf g .slots) (geometryOf g) (number .0) (now content) head
+        (now random) (now disk) (startState (takenWrites taken («hidden_number» .0) (now hidden)))) 0
+        (length (now list)) ⌝ }
     requires { ⌜ (taken ≡ true → length (now hidden) ≡ geometryOf g .blockSize) ⌝ }
-    ensures { λ r. ⌜ RanWith (geometryOf g) (now (disk .entry)) (now (list .entry)) (runFrom (geometryOf g .slots) (geometryOf g) (number .0) (now (content .entry)) head (now (random .entry)) (now (disk .entry)) (startState (takenWrites taken («hidden_number» .0) (now (hidden .entry))))) (now (disk .exit)) (now (list .exit)) r ⌝ }
+    ensures { λ r. ⌜ RanWith (geometryOf g) (now (disk .entry)) (now (list .entry)) (runFrom
+        (geometryOf g .slots) (geometryOf g) (number .0) (now (content .entry)) head (now (random .entry))
+        (now (disk .entry)) (startState (takenWrites taken («hidden_number» .0) (now (hidden .entry)))))
+        (now (disk .exit)) (now (list .exit)) r ⌝ }
 {
     if taken {
         let waiting = State {
@@ -160,7 +182,10 @@ pub fn write_block(
     random: &[u8],
     list: &mut [u32],
 ) -> Written
-    ensures { λ r. ⌜ Answered (written (now (disk .entry)) (number .0) (now (content .entry)) (now (random .entry)) (length (now (list .entry))) (offerOf offered («hidden_number» .0) (now (hidden .entry)))) (now (disk .entry)) (now (list .entry)) (now (disk .exit)) (now (list .exit)) r ⌝ }
+    ensures { λ r. ⌜ Answered (written (now (disk .entry)) (number .0) (now (content .entry))
+        (now (random .entry)) (length (now (list .entry)))
+        (offerOf offered («hidden_number» .0) (now (hidden .entry)))) (now (disk .entry))
+        (now (list .entry)) (now (disk .exit)) (now (list .exit)) r ⌝ }
 {
     let fault = write_fault(disk, number, content, random, list);
     if fault != 0 {

@@ -28,7 +28,7 @@ fn slot_of(g: Geometry, address: DiskAddress) -> u32
     (address.0 - start.0) / (g.height + 1)
 }
 
-// Stores a slot's bitmap block with its bit 1 or 0 as asked.
+// Stores a slot's bitmap block with its bit 1 or 0 as asked. The block is a buffer.
 fn store_bit(
     disk: &mut [u8],
     list: &mut [u32],
@@ -36,9 +36,11 @@ fn store_bit(
     g: Geometry,
     slot: u32,
     is_set: bool,
+    block: &mut [u8],
 ) -> usize
     requires { ⌜ Drive (geometryOf g) (now disk) ⌝ }
     requires { ⌜ slot < g .slots ⌝ }
+    requires { ⌜ length (now block) ≡ geometryOf g .blockSize ⌝ }
     requires { ⌜ next < length (now list) ⌝ }
     ensures { λ r. ⌜ Made (geometryOf g .blockSize)
         (bitStore (geometryOf g) (now (disk .entry)) slot «is_set» ∷ [])
@@ -46,10 +48,19 @@ fn store_bit(
 {
     let address = bit_address(g, slot);
     let place = bit_place(g, slot);
-    store_changed(disk, list, next, g, address, Change::Bit(place, is_set))
+    store_changed(
+        disk,
+        list,
+        next,
+        g,
+        address,
+        Change::Bit(place, is_set),
+        block,
+    )
 }
 
-// Stores the new slot's bit set and, where the number had a place, the old slot's bit cleared.
+// Stores the new slot's bit set and, where the number had a place, the old slot's bit cleared. The block is a
+// buffer.
 pub fn store_bits(
     disk: &mut [u8],
     list: &mut [u32],
@@ -57,19 +68,21 @@ pub fn store_bits(
     g: Geometry,
     slot: u32,
     entry: DiskAddress,
+    block: &mut [u8],
 ) -> usize
     requires { ⌜ Drive (geometryOf g) (now disk) ⌝ }
     requires { ⌜ slot < g .slots ⌝ }
     requires { ⌜ OldEntry (geometryOf g) (entry .0) ⌝ }
+    requires { ⌜ length (now block) ≡ geometryOf g .blockSize ⌝ }
     requires { ⌜ next + 2 ≤ length (now list) ⌝ }
     ensures { λ r. ⌜ Made (geometryOf g .blockSize)
         (bitStores (geometryOf g) (now (disk .entry)) (entry .0) slot)
         (now (disk .entry)) (now (list .entry)) next (now (disk .exit)) (now (list .exit)) r ⌝ }
 {
-    let place = store_bit(disk, list, next, g, slot, true);
+    let place = store_bit(disk, list, next, g, slot, true, block);
     if entry.0 == 0 {
         return place;
     }
     let old = slot_of(g, entry);
-    store_bit(disk, list, place, g, old, false)
+    store_bit(disk, list, place, g, old, false, block)
 }

@@ -15,7 +15,7 @@ ghost use Rattle.layout.specs.Geometries.{geometryOf};
 ghost use Rattle.stores.specs.Made.{Made};
 ghost use Rattle.table.specs.Rows.{publicOf};
 
-// Stores the slot's public block: as it is, or the call's data.
+// Stores the slot's public block: as it is, or the call's data. The block is a buffer.
 pub fn store_public(
     disk: &mut [u8],
     list: &mut [u32],
@@ -24,10 +24,12 @@ pub fn store_public(
     slot: u32,
     choice: PublicChoice,
     content: &[u8],
+    block: &mut [u8],
 ) -> usize
     requires { ⌜ Drive (geometryOf g) (now disk) ⌝ }
     requires { ⌜ slot < g .slots ⌝ }
     requires { ⌜ length (now content) ≡ geometryOf g .blockSize ⌝ }
+    requires { ⌜ length (now block) ≡ geometryOf g .blockSize ⌝ }
     requires { ⌜ next < length (now list) ⌝ }
     ensures { λ r. ⌜ Made (geometryOf g .blockSize)
         (publicStore (publicOf choice) (geometryOf g) (now (disk .entry)) slot (now (content .entry)) ∷ [])
@@ -35,7 +37,7 @@ pub fn store_public(
 {
     let address = slot_start(g, slot);
     match choice {
-        PublicChoice::Keep => store_changed(disk, list, next, g, address, Change::Nothing),
+        PublicChoice::Keep => store_changed(disk, list, next, g, address, Change::Nothing, block),
         PublicChoice::Write => store_block(disk, list, next, g, address, content),
     }
 }

@@ -1,4 +1,2 @@
-pub mod States
-pub mod Plans
 pub mod Rounds
 pub mod Runs

@@ -12,9 +12,9 @@ use Rattle.model.specs.HiddenHalf.{HiddenState, hiddenHalf, rowOf}
 use Rattle.model.specs.Rounds.{goesOn, roundTrace}
 use Rattle.stores.specs.Made.{Made}
 use Rattle.public_half.specs.Entries.{OldEntry}
-use Rattle.rounds.specs.declared.states.State.{State}
+use Rattle.plans.specs.declared.states.State.{State}
 use Rattle.rounds.specs.declared.rounds.Step.{Step}
-use Rattle.rounds.specs.States.{stateOf}
+use Rattle.plans.specs.States.{stateOf}
 
 -- what the table says of a slot's public block
 abbrev pub choiceAt : Geometry → (disk : Bytes) → (slot : ℕ) → HiddenState → PublicChoice
@@ -24,25 +24,32 @@ choiceAt g disk slot state = rowOf g disk slot (state .waiting) .public
 abbrev pub roundAt :
     Geometry → (disk : Bytes) → (number slot : ℕ) → (content random : Bytes) → HiddenState → Trace
 roundAt g disk number slot content random state =
-    roundTrace (choiceAt g disk slot state) g disk number slot content (hiddenHalf g disk slot random state .trace)
+    roundTrace (choiceAt g disk slot state) g disk number slot content
+    (hiddenHalf g disk slot random state .trace)
 
--- a whole drive, a public number with a place or none, a slot, whole blocks of data, and random bytes for one round
-pub record Ready (g : Geometry) (disk : Bytes) (number slot : ℕ) (content random hidden : Bytes) : Type 0 where
-  pub drive : Drive g disk
-  pub number-inside : number < g .publics
-  pub slot-inside : slot < g .slots
-  pub content-whole : length content ≡ g .blockSize
-  pub hidden-whole : length hidden ≡ g .blockSize
-  pub random-enough : g .height * g .blockSize ≤ length random
-  pub old-entry : OldEntry g (mapEntry g disk number)
+-- a whole drive, a public number with a place or none, a slot, whole blocks of data, and random bytes for one
+-- round
+pub record Ready (g : Geometry) (disk : Bytes) (number slot : ℕ) (content random hidden : Bytes) : Type 0
+  where
+    pub drive : Drive g disk
+    pub number-inside : number < g .publics
+    pub slot-inside : slot < g .slots
+    pub content-whole : length content ≡ g .blockSize
+    pub hidden-whole : length hidden ≡ g .blockSize
+    pub random-enough : g .height * g .blockSize ≤ length random
+    pub old-entry : OldEntry g (mapEntry g disk number)
 
 -- its stores are made, and it answers the state of the offer and whether another round follows
-pub record Stepped (g : Geometry) (disk : Bytes) (list : List DiskAddress) (next number slot : ℕ) (content random : Bytes)
-    (state : State) (offered : ℕ) (hidden : Bytes) (diskAfter : Bytes) (listAfter : List DiskAddress) (step : Step)
+pub record Stepped (g : Geometry) (disk : Bytes) (list : List DiskAddress) (next number slot : ℕ)
+    (content random : Bytes)
+    (state : State) (offered : ℕ) (hidden : Bytes) (diskAfter : Bytes) (listAfter : List DiskAddress)
+    (step : Step)
     : Type 0 where
   pub made :
-      Made (g .blockSize) (roundAt g disk number slot content random (stateOf state offered hidden)) disk list next
+      Made (g .blockSize) (roundAt g disk number slot content random (stateOf state offered hidden)) disk list
+      next
       diskAfter listAfter (step .next)
   pub state-is :
-      stateOf (step .state) offered hidden ≡ hiddenHalf g disk slot random (stateOf state offered hidden) .state
+      stateOf (step .state) offered hidden ≡ hiddenHalf g disk slot random (stateOf state offered hidden)
+      .state
   pub goes-on : step .«goes_on» ≡ goesOn (choiceAt g disk slot (stateOf state offered hidden))

@@ -8,13 +8,15 @@ use lib.ListN.{length}
 use Rattle.model.specs.Geometry.{Geometry}
 use Rattle.model.specs.Blocks.{Bytes, DiskAddress}
 use Rattle.model.specs.Layout.{Drive, mapEntry, isPlace}
-use Rattle.model.specs.Rounds.{Run, runFrom}
+use Rattle.model.specs.Rounds.{Run}
 use Rattle.stores.specs.Made.{Made}
 use Rattle.rounds.specs.declared.runs.Ran.{Ran}
-use Rattle.rounds.specs.States.{stateOf}
+use Rattle.plans.specs.States.{stateOf}
 
--- a whole drive, a public number with a place or none, a head, whole blocks of data, random bytes and a list for the run
-pub record Runnable (g : Geometry) (disk : Bytes) (number head : ℕ) (content random hidden : Bytes) (run : Run)
+-- a whole drive, a public number with a place or none, a head, whole blocks of data, random bytes and a list
+-- for the run
+pub record Runnable (g : Geometry) (disk : Bytes) (number head : ℕ) (content random hidden : Bytes)
+    (run : Run)
     (next room : ℕ) : Type 0 where
   pub drive : Drive g disk
   pub number-inside : number < g .publics
@@ -26,7 +28,8 @@ pub record Runnable (g : Geometry) (disk : Bytes) (number head : ℕ) (content r
   pub room-enough : next + length (run .trace) ≤ room
 
 -- the run's stores are made, and its rounds and the state of the offer answered
-pub record RunMade (g : Geometry) (disk : Bytes) (list : List DiskAddress) (next : ℕ) (run : Run) (offered : ℕ)
+pub record RunMade (g : Geometry) (disk : Bytes) (list : List DiskAddress) (next : ℕ) (run : Run)
+    (offered : ℕ)
     (hidden : Bytes) (diskAfter : Bytes) (listAfter : List DiskAddress) (ran : Ran) : Type 0 where
   pub made : Made (g .blockSize) (run .trace) disk list next diskAfter listAfter (ran .next)
   pub rounds-are : ran .rounds ≡ run .rounds

@@ -15,7 +15,7 @@ ghost use Rattle.stores.specs.Made.{Made};
 ghost use Rattle.table.specs.Rows.{publicOf};
 ghost use Rattle.public_half.specs.Entries.{OldEntry};
 
-// Stores map and bits where the round took the call's data, and the header.
+// Stores map and bits where the round took the call's data, and the header. The block is a buffer.
 pub fn store_ending(
     disk: &mut [u8],
     list: &mut [u32],
@@ -24,19 +24,33 @@ pub fn store_ending(
     number: PublicNumber,
     slot: u32,
     choice: PublicChoice,
+    block: &mut [u8],
 ) -> usize
     requires { ⌜ Drive (geometryOf g) (now disk) ⌝ }
     requires { ⌜ number .0 < g .publics ⌝ }
     requires { ⌜ slot < g .slots ⌝ }
     requires { ⌜ OldEntry (geometryOf g) (mapEntry (geometryOf g) (now disk) (number .0)) ⌝ }
-    requires { ⌜ next + length (mapStores (publicOf choice) (geometryOf g) (now disk) (number .0) slot) + 1 ≤ length (now list) ⌝ }
-    ensures { λ r. ⌜ Made (geometryOf g .blockSize) (mapStores (publicOf choice) (geometryOf g) (now (disk .entry)) (number .0) slot ++ (headerStore (geometryOf g) (now (disk .entry)) slot ∷ [])) (now (disk .entry)) (now (list .entry)) next (now (disk .exit)) (now (list .exit)) r ⌝ }
+    requires { ⌜ length (now block) ≡ geometryOf g .blockSize ⌝ }
+    requires { ⌜ next + length (mapStores (publicOf choice) (geometryOf g) (now disk) (number .0) slot) + 1
+        ≤ length (now list) ⌝ }
+    ensures { λ r. ⌜ Made (geometryOf g .blockSize) (mapStores (publicOf choice) (geometryOf g)
+        (now (disk .entry)) (number .0) slot ++ (headerStore (geometryOf g) (now (disk .entry)) slot ∷ []))
+        (now (disk .entry)) (now (list .entry)) next (now (disk .exit)) (now (list .exit)) r ⌝ }
 {
     match choice {
-        PublicChoice::Keep => store_header(disk, list, next, g, slot),
+        PublicChoice::Keep => store_header(disk, list, next, g, slot, block),
         PublicChoice::Write => {
-            let at = store_map(disk, list, next, g, number, slot, PublicChoice::Write);
-            store_header(disk, list, at, g, slot)
+            let at = store_map(
+                disk,
+                list,
+                next,
+                g,
+                number,
+                slot,
+                PublicChoice::Write,
+                block,
+            );
+            store_header(disk, list, at, g, slot, block)
         }
     }
 }

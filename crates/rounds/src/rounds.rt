@@ -1,12 +1,12 @@
 // One round: the slot's public block, its hidden blocks and the root, map and bits in the last round, the
 // header.
 use crate::endings::store_ending;
-use crate::plans::plan_round;
-use crate::states::State;
 use hidden_half::halves::store_hidden;
 use layout::geometry::Geometry;
 use layout::numbers::HiddenNumber;
 use layout::numbers::PublicNumber;
+use plans::plans::plan_round;
+use plans::states::State;
 use public_half::public_block::store_public;
 use table::PublicChoice;
 ghost use mathlib.Core.Path.{_≡_};
@@ -15,7 +15,7 @@ ghost use lib.ListN.{length};
 ghost use Rattle.model.specs.Rounds.{goesOn};
 ghost use Rattle.layout.specs.Geometries.{geometryOf};
 ghost use Rattle.table.specs.Rows.{publicOf};
-ghost use Rattle.rounds.specs.States.{stateOf};
+ghost use Rattle.plans.specs.States.{stateOf};
 ghost use Rattle.rounds.specs.Rounds.{roundAt, Ready, Stepped};
 
 // The place after a round's stores, the state of the offer, and whether another round follows.
@@ -54,14 +54,17 @@ pub fn do_round(
     requires { ⌜ Ready (geometryOf g) (now disk) (number .0) slot (now content) (now random) (now hidden) ⌝ }
     requires { ⌜ length (now nodes) ≡ geometryOf g .height * geometryOf g .blockSize ⌝ }
     requires { ⌜ length (now block) ≡ geometryOf g .blockSize ⌝ }
-    requires { ⌜ next + length (roundAt (geometryOf g) (now disk) (number .0) slot (now content) (now random) (stateOf state (offered .0) (now hidden))) ≤ length (now list) ⌝ }
-    ensures { λ r. ⌜ Stepped (geometryOf g) (now (disk .entry)) (now (list .entry)) next (number .0) slot (now (content .entry)) (now (random .entry)) state (offered .0) (now (hidden .entry)) (now (disk .exit)) (now (list .exit)) r ⌝ }
+    requires { ⌜ next + length (roundAt (geometryOf g) (now disk) (number .0) slot (now content)
+        (now random) (stateOf state (offered .0) (now hidden))) ≤ length (now list) ⌝ }
+    ensures { λ r. ⌜ Stepped (geometryOf g) (now (disk .entry)) (now (list .entry)) next (number .0) slot
+        (now (content .entry)) (now (random .entry)) state (offered .0) (now (hidden .entry))
+        (now (disk .exit)) (now (list .exit)) r ⌝ }
 {
     let plans = plan_round(disk, g, slot, state, offered, nodes);
     let public = plans.public;
     let plan = plans.hidden;
     let after = plans.after;
-    let first = store_public(disk, list, next, g, slot, public, content);
+    let first = store_public(disk, list, next, g, slot, public, content, block);
     let second = store_hidden(
         disk,
         list,
@@ -75,7 +78,7 @@ pub fn do_round(
         nodes,
         block,
     );
-    let last = store_ending(disk, list, second, g, number, slot, public);
+    let last = store_ending(disk, list, second, g, number, slot, public, block);
     Step {
         next: last,
         state: after,

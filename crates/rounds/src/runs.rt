@@ -1,15 +1,15 @@
 // The rounds of a write, from the head on until one takes the call's data.
 use crate::rounds::do_round;
-use crate::states::State;
 use layout::geometry::Geometry;
 use layout::numbers::HiddenNumber;
 use layout::numbers::PublicNumber;
+use plans::states::State;
 ghost use mathlib.Core.Path.{_≡_};
 ghost use Prim.Native.Nat.{_*_};
 ghost use lib.ListN.{length};
 ghost use Rattle.model.specs.Rounds.{runFrom};
 ghost use Rattle.layout.specs.Geometries.{geometryOf};
-ghost use Rattle.rounds.specs.States.{stateOf};
+ghost use Rattle.plans.specs.States.{stateOf};
 ghost use Rattle.rounds.specs.Runs.{Runnable, RunMade};
 
 // The place after all stores, how many rounds there were, and the state of the offer.
@@ -35,10 +35,15 @@ pub fn do_rounds(
     nodes: &mut [u8],
     block: &mut [u8],
 ) -> Ran
-    requires { ⌜ Runnable (geometryOf g) (now disk) (number .0) head (now content) (now random) (now hidden) (runFrom (geometryOf g .slots) (geometryOf g) (number .0) (now content) head (now random) (now disk) (stateOf state (offered .0) (now hidden))) next (length (now list)) ⌝ }
+    requires { ⌜ Runnable (geometryOf g) (now disk) (number .0) head (now content) (now random) (now hidden)
+        (runFrom (geometryOf g .slots) (geometryOf g) (number .0) (now content) head (now random) (now disk)
+        (stateOf state (offered .0) (now hidden))) next (length (now list)) ⌝ }
     requires { ⌜ length (now nodes) ≡ geometryOf g .height * geometryOf g .blockSize ⌝ }
     requires { ⌜ length (now block) ≡ geometryOf g .blockSize ⌝ }
-    ensures { λ r. ⌜ RunMade (geometryOf g) (now (disk .entry)) (now (list .entry)) next (runFrom (geometryOf g .slots) (geometryOf g) (number .0) (now (content .entry)) head (now (random .entry)) (now (disk .entry)) (stateOf state (offered .0) (now (hidden .entry)))) (offered .0) (now (hidden .entry)) (now (disk .exit)) (now (list .exit)) r ⌝ }
+    ensures { λ r. ⌜ RunMade (geometryOf g) (now (disk .entry)) (now (list .entry)) next (runFrom
+        (geometryOf g .slots) (geometryOf g) (number .0) (now (content .entry)) head (now (random .entry))
+        (now (disk .entry)) (stateOf state (offered .0) (now (hidden .entry)))) (offered .0)
+        (now (hidden .entry)) (now (disk .exit)) (now (list .exit)) r ⌝ }
 {
     let slots = g.slots;
     let width = (g.height as usize) * (g.block_size as usize);
@@ -96,8 +101,13 @@ pub fn run_write(
     offered: HiddenNumber,
     hidden: &[u8],
 ) -> Ran
-    requires { ⌜ Runnable (geometryOf g) (now disk) (number .0) head (now content) (now random) (now hidden) (runFrom (geometryOf g .slots) (geometryOf g) (number .0) (now content) head (now random) (now disk) (stateOf state (offered .0) (now hidden))) 0 (length (now list)) ⌝ }
-    ensures { λ r. ⌜ RunMade (geometryOf g) (now (disk .entry)) (now (list .entry)) 0 (runFrom (geometryOf g .slots) (geometryOf g) (number .0) (now (content .entry)) head (now (random .entry)) (now (disk .entry)) (stateOf state (offered .0) (now (hidden .entry)))) (offered .0) (now (hidden .entry)) (now (disk .exit)) (now (list .exit)) r ⌝ }
+    requires { ⌜ Runnable (geometryOf g) (now disk) (number .0) head (now content) (now random) (now hidden)
+        (runFrom (geometryOf g .slots) (geometryOf g) (number .0) (now content) head (now random) (now disk)
+        (stateOf state (offered .0) (now hidden))) 0 (length (now list)) ⌝ }
+    ensures { λ r. ⌜ RunMade (geometryOf g) (now (disk .entry)) (now (list .entry)) 0 (runFrom
+        (geometryOf g .slots) (geometryOf g) (number .0) (now (content .entry)) head (now (random .entry))
+        (now (disk .entry)) (stateOf state (offered .0) (now (hidden .entry)))) (offered .0)
+        (now (hidden .entry)) (now (disk .exit)) (now (list .exit)) r ⌝ }
 {
     let size = g.block_size as usize;
     let bytes = (g.height as usize) * size;

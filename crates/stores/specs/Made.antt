@@ -1,6 +1,5 @@
 -- What every function that stores leaves: the stores of a trace on the disk, their addresses in the lent list
--- from a
--- place on, and the place after them. Assumes nothing.
+-- from a place on, and the place after them. Assumes nothing.
 use mathlib.Core.Path.{_≡_}
 use mathlib.Core.List.{List}
 use Prim.Native.Nat.{ℕ, _+_}

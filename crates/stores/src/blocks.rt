@@ -1,11 +1,10 @@
-// The one store function, and a block of the disk stored with one change or none, through a buffer of its
-// own.
+// The one store function, and a block of the disk stored with one change or none, through a lent buffer.
 use crate::changes::Change;
 use layout::geometry::Geometry;
 use layout::numbers::DiskAddress;
 ghost use mathlib.Core.Path.{_≡_};
 ghost use mathlib.Core.List.{[], _∷_};
-ghost use Prim.Native.Nat.{_+_, _*_, _≤_, _<_};
+ghost use Prim.Native.Nat.{_<_};
 ghost use lib.ListN.{length};
 ghost use Rattle.model.specs.Geometry.{blockCount};
 ghost use Rattle.model.specs.Blocks.{blockAt};
@@ -28,7 +27,8 @@ pub fn store_block(
     requires { ⌜ address .0 < blockCount (geometryOf g) ⌝ }
     requires { ⌜ length (now block) ≡ geometryOf g .blockSize ⌝ }
     requires { ⌜ next < length (now list) ⌝ }
-    ensures { λ r. ⌜ Made (geometryOf g .blockSize) (store (address .0) (now (block .entry)) ∷ []) (now (disk .entry)) (now (list .entry)) next (now (disk .exit)) (now (list .exit)) r ⌝ }
+    ensures { λ r. ⌜ Made (geometryOf g .blockSize) (store (address .0) (now (block .entry)) ∷ [])
+        (now (disk .entry)) (now (list .entry)) next (now (disk .exit)) (now (list .exit)) r ⌝ }
 {
     let at = (address.0 as usize) * (g.block_size as usize);
     copies::copy_at(disk, at, block);
@@ -36,29 +36,7 @@ pub fn store_block(
     next + 1
 }
 
-// Stores a block of the disk with a change, through a lent buffer of one block.
-fn store_through(
-    disk: &mut [u8],
-    list: &mut [u32],
-    next: usize,
-    g: Geometry,
-    address: DiskAddress,
-    change: Change,
-    own: &mut [u8],
-) -> usize
-    requires { ⌜ Drive (geometryOf g) (now disk) ⌝ }
-    requires { ⌜ address .0 < blockCount (geometryOf g) ⌝ }
-    requires { ⌜ Inside (geometryOf g .blockSize) change ⌝ }
-    requires { ⌜ length (now own) ≡ geometryOf g .blockSize ⌝ }
-    requires { ⌜ next < length (now list) ⌝ }
-    ensures { λ r. ⌜ Made (geometryOf g .blockSize) (store (address .0) (changed change (blockAt (geometryOf g .blockSize) (now (disk .entry)) (address .0))) ∷ []) (now (disk .entry)) (now (list .entry)) next (now (disk .exit)) (now (list .exit)) r ⌝ }
-{
-    copies::copy_at(own, 0, layout::blocks::block_at(disk, g, address));
-    crate::changes::change_block(own, change);
-    store_block(disk, list, next, g, address, own)
-}
-
-// Stores a block of the disk with one change or none.
+// Stores a block of the disk with one change or none, through a lent buffer of one block.
 pub fn store_changed(
     disk: &mut [u8],
     list: &mut [u32],
@@ -66,14 +44,18 @@ pub fn store_changed(
     g: Geometry,
     address: DiskAddress,
     change: Change,
+    block: &mut [u8],
 ) -> usize
     requires { ⌜ Drive (geometryOf g) (now disk) ⌝ }
     requires { ⌜ address .0 < blockCount (geometryOf g) ⌝ }
     requires { ⌜ Inside (geometryOf g .blockSize) change ⌝ }
+    requires { ⌜ length (now block) ≡ geometryOf g .blockSize ⌝ }
     requires { ⌜ next < length (now list) ⌝ }
-    ensures { λ r. ⌜ Made (geometryOf g .blockSize) (store (address .0) (changed change (blockAt (geometryOf g .blockSize) (now (disk .entry)) (address .0))) ∷ []) (now (disk .entry)) (now (list .entry)) next (now (disk .exit)) (now (list .exit)) r ⌝ }
+    ensures { λ r. ⌜ Made (geometryOf g .blockSize) (store (address .0)
+        (changed change (blockAt (geometryOf g .blockSize) (now (disk .entry)) (address .0))) ∷ [])
+        (now (disk .entry)) (now (list .entry)) next (now (disk .exit)) (now (list .exit)) r ⌝ }
 {
-    let width = g.block_size as usize;
-    let mut own = [0u8; 4096];
-    store_through(disk, list, next, g, address, change, &mut own[..width])
+    copies::copy_at(block, 0, layout::blocks::block_at(disk, g, address));
+    crate::changes::change_block(block, change);
+    store_block(disk, list, next, g, address, block)
 }

@@ -9,8 +9,10 @@ use Rattle.formal_statements.proofs.implied.Statement.{statement}
 use Rattle.formal_statements.proofs.implied.Tie as tie
 
 returns : tie.Need-returns
-returns c =
-    (figures-implied figures, (noninterference-implied noninterference, read-after-write-implied read-after-write))
+returns c = (
+  figures-implied figures,
+  (noninterference-implied noninterference, read-after-write-implied read-after-write),
+)
 
 pub implied-spec : {M : Type 1} → statement M
 implied-spec = tie.close (tie.spec returns)

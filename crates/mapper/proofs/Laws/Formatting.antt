@@ -1,4 +1,5 @@
--- Laws of formatting: entries written one after another, and the header over zeros as the front of a fresh drive.
+-- Laws of formatting: entries written one after another, and the header over zeros as the front of a fresh
+-- drive.
 -- Assumes nothing.
 use mathlib.Core.Path.{_≡_, refl, sym, ap, _∙_}
 use mathlib.Core.Logic.{_≢_}

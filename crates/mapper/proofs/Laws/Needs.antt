@@ -14,8 +14,9 @@ use Rattle.model.specs.Geometry.{Geometry}
 use Rattle.model.specs.Blocks.{Bytes}
 use Rattle.model.specs.Layout.{geometryIn, mapEntry}
 use Rattle.model.specs.Refusals.{driveRefusal, placeChecks, roundCount, storeCount, roundChecks, writeRefusal}
-use Rattle.mapper.specs.Needs.{Needed, needsRefusal, refusedNeeds, neededFor, needsOf}
-use Rattle.mapper.proofs.Laws.WriteRefusals.{rounds-good, chain, chain-drive, chain-place, chain-rest}
+use Rattle.mapper.specs.Needs.{Needed, needsRefusal, refusedNeeds, neededFor, needsOf, Suffices}
+use Rattle.checks.proofs.Laws.RoundRefusals.{rounds-good}
+use Rattle.mapper.proofs.Laws.WriteRefusals.{chain, chain-drive, chain-place, chain-rest}
 use Rattle.mapper.proofs.Laws.WriteRefusals.{writeRefusal-is}
 
 -- ---- the answer ----
@@ -31,7 +32,8 @@ unfolding needsRefusal
 needsRefusal-is disk number = refl
 
 module _ (disk : Bytes) (number : ℕ) where
-  needsOf-refused : (answer : ℕ) → answer ≡ needsRefusal disk number → answer ≢ 0 → refusedNeeds answer ≡ needsOf disk number
+  needsOf-refused : (answer : ℕ) → answer ≡ needsRefusal disk number → answer ≢ 0 → refusedNeeds answer ≡
+      needsOf disk number
   unfolding needsOf
   needsOf-refused answer e f =
       ap refusedNeeds e ∙ sym (cond-false _ _ (ne-eqb (needsRefusal disk number) 0 (λ z. f (e ∙ z))))
@@ -43,19 +45,22 @@ module _ (disk : Bytes) (number : ℕ) where
   pub needs-drive : driveRefusal disk ≢ 0 → refusedNeeds (driveRefusal disk) ≡ needsOf disk number
   needs-drive f =
       needsOf-refused (driveRefusal disk)
-      (chain-drive disk number (geometryIn disk .blockSize) (lastCheck disk) f ∙ needsRefusal-is disk number) f
+      (chain-drive disk number (geometryIn disk .blockSize) (lastCheck disk) f ∙ needsRefusal-is disk number)
+      f
 
   module _ (accepted : driveRefusal disk ≡ 0) (g : Geometry) (same : g ≡ geometryIn disk) where
     abbrev places : ℕ
     places = firstOf (placeChecks g disk number (g .blockSize))
 
-    sized : firstOf (placeChecks g disk number (g .blockSize)) ≡ firstOf (placeChecks g disk number (geometryIn disk .blockSize))
+    sized : firstOf (placeChecks g disk number (g .blockSize)) ≡
+        firstOf (placeChecks g disk number (geometryIn disk .blockSize))
     sized = ap (λ (h : Geometry). firstOf (placeChecks g disk number (h .blockSize))) same
 
     pub needs-place : places ≢ 0 → refusedNeeds places ≡ needsOf disk number
     needs-place f =
         needsOf-refused places
-        (sized ∙ chain-place disk number (geometryIn disk .blockSize) (lastCheck disk) accepted g same (λ z. f (sized ∙ z))
+        (sized ∙ chain-place disk number (geometryIn disk .blockSize) (lastCheck disk) accepted g same
+        (λ z. f (sized ∙ z))
         ∙ needsRefusal-is disk number) f
 
     pub needs-none : places ≡ 0 → roundCount g disk ≡ 0 → refusedNeeds 7 ≡ needsOf disk number
@@ -69,7 +74,13 @@ module _ (disk : Bytes) (number : ℕ) where
     pub needs-some :
         places ≡ 0 → (rounds entry stores : ℕ) → rounds ≡ roundCount g disk → entry ≡ mapEntry g disk number →
         stores ≡ storeCount g rounds entry → rounds ≢ 0 →
-        _≡_ {A = Needed} (record { answer = 0; rounds = rounds; stores = stores; randomBlocks = rounds * g .height })
+        _≡_ {A = Needed} (record {
+          answer = 0;
+          rounds = rounds;
+          stores = stores;
+          randomBlocks =
+              rounds * g .height;
+        })
         (needsOf disk number)
     needs-some z rounds entry stores counted mapped stored f =
         let e : _≡_ {A = Needed}
@@ -102,7 +113,8 @@ module _ (disk : Bytes) (number : ℕ) (content : Bytes) (whole : length content
       needsOf disk number .stores ≤ room → writeRefusal disk number content random room ≡ 0
   needs-suffice e long wide =
       ⊎-elim (λ a. ⊎-elim (λ p. ⊎-elim (λ r. absurd (by-seven a p r)) (λ r. good a p r)
-      (eq-cases (roundCount g disk) 0)) (λ p. absurd (by-place a p)) (eq-cases (places disk number a g refl) 0))
+      (eq-cases (roundCount g disk) 0)) (λ p. absurd (by-place a p))
+      (eq-cases (places disk number a g refl) 0))
       (λ a. absurd (by-drive a)) (eq-cases (driveRefusal disk) 0)
     where
       by-drive : driveRefusal disk ≢ 0 → ⊥
@@ -113,7 +125,8 @@ module _ (disk : Bytes) (number : ℕ) (content : Bytes) (whole : length content
 
       by-seven : (a : driveRefusal disk ≡ 0) → places disk number a g refl ≡ 0 → roundCount g disk ≡ 0 → ⊥
       by-seven a p r =
-          let z : _≡_ {A = ℕ} 7 0 = ap (λ (n : Needed). n .answer) (needs-none disk number a g refl p r) ∙ e in omega arith
+          let z : _≡_ {A = ℕ} 7 0 = ap (λ (n : Needed). n .answer) (needs-none disk number a g refl p r) ∙ e
+          in omega arith
 
       good : (a : driveRefusal disk ≡ 0) → places disk number a g refl ≡ 0 → roundCount g disk ≢ 0 →
           writeRefusal disk number content random room ≡ 0
@@ -122,4 +135,10 @@ module _ (disk : Bytes) (number : ℕ) (content : Bytes) (whole : length content
           (storeCount g (roundCount g disk) (mapEntry g disk number)) refl refl refl r in
           sym write-chain ∙ sym (chain-rest disk number (g .blockSize) rest a g refl p)
           ∙ sym (rounds-good g disk number random room r
-          (rw (ap (λ (n : Needed). n .randomBlocks) told) long) (rw (ap (λ (n : Needed). n .stores) told) wide))
+          (rw (ap (λ (n : Needed). n .randomBlocks) told) long)
+          (rw (ap (λ (n : Needed). n .stores) told) wide))
+
+pub told-suffice :
+    (disk : Bytes) (number : ℕ) {told : Needed} → told ≡ needsOf disk number → Suffices disk number told
+told-suffice disk number told content random room =
+    rw told (λ e whole long wide. needs-suffice disk number content whole random room e long wide)

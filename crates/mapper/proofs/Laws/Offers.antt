@@ -16,10 +16,10 @@ use Rattle.model.specs.HiddenHalf.{HiddenWrite, isWaiting}
 use Rattle.model.specs.Refusals.{hiddenChecks, hiddenWriteRefusal}
 use Rattle.model.specs.Calls as model
 use Rattle.model.proofs.Laws.Accepted.{accepted-of-hiddenWrite}
-use Rattle.rounds.specs.declared.states.Offer.{Offer}
-use Rattle.rounds.specs.declared.states.Offer.the-variants.{Absent, Waiting, Placed}
-use Rattle.rounds.specs.declared.states.State.{State}
-use Rattle.rounds.specs.States.{waitingOf, placedOf, stateOf}
+use Rattle.plans.specs.declared.states.Offer.{Offer}
+use Rattle.plans.specs.declared.states.Offer.the-variants.{Absent, Waiting, Placed}
+use Rattle.plans.specs.declared.states.State.{State}
+use Rattle.plans.specs.States.{waitingOf, placedOf, stateOf}
 use Rattle.mapper.specs.Writes.{offerOf, takenWrites}
 
 -- ---- its refusal ----
@@ -90,11 +90,13 @@ module _ (bad : ℕ) (state : State) (number : ℕ) (content : Bytes) where
           (cond (isWaiting (waitingOf offer number content)) model.waiting model.noWrite))
 
       outcome-good :
-          goodOutcome (state .offer) (state .«met_damage») ≡ model.outcomeOf bad (stateOf state number content)
+          goodOutcome (state .offer) (state .«met_damage») ≡
+          model.outcomeOf bad (stateOf state number content)
       unfolding model.outcomeOf
       outcome-good = sym (cond-false _ _ (ne-eqb bad 10 f) ∙ cond-false _ _ (ne-eqb bad 11 s))
 
-      pub outcome-placed : state .offer ≡ Placed → model.placed ≡ model.outcomeOf bad (stateOf state number content)
+      pub outcome-placed : state .offer ≡ Placed → model.placed ≡
+          model.outcomeOf bad (stateOf state number content)
       outcome-placed e = ap (λ (o : Offer). goodOutcome o (state .«met_damage»)) (sym e) ∙ outcome-good
 
       -- 12, waiting or none, by whether a round met damage
@@ -102,10 +104,12 @@ module _ (bad : ℕ) (state : State) (number : ℕ) (content : Bytes) where
           (metDamage : Bool) → state .offer ≡ Waiting → state .«met_damage» ≡ metDamage →
           goodOutcome Waiting metDamage ≡ model.outcomeOf bad (stateOf state number content)
       outcome-waiting metDamage e d =
-          ap (λ (o : Offer). goodOutcome o metDamage) (sym e) ∙ ap (goodOutcome (state .offer)) (sym d) ∙ outcome-good
+          ap (λ (o : Offer). goodOutcome o metDamage) (sym e) ∙ ap (goodOutcome (state .offer)) (sym d) ∙
+          outcome-good
 
       pub outcome-absent :
           (metDamage : Bool) → state .offer ≡ Absent → state .«met_damage» ≡ metDamage →
           goodOutcome Absent metDamage ≡ model.outcomeOf bad (stateOf state number content)
       outcome-absent metDamage e d =
-          ap (λ (o : Offer). goodOutcome o metDamage) (sym e) ∙ ap (goodOutcome (state .offer)) (sym d) ∙ outcome-good
+          ap (λ (o : Offer). goodOutcome o metDamage) (sym e) ∙ ap (goodOutcome (state .offer)) (sym d) ∙
+          outcome-good

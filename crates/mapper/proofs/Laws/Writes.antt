@@ -1,4 +1,5 @@
--- Laws of a write: a refused one leaves all as it was; one that is not refused can be run, and its run is the model's write.
+-- Laws of a write: a refused one leaves all as it was; one that is not refused can be run, and its run is the
+-- model's write.
 -- Assumes nothing.
 use mathlib.Core.Path.{_≡_, refl, sym, ap, subst, _∙_}
 use mathlib.Core.Logic.{_≢_}
@@ -29,26 +30,29 @@ use Rattle.model.proofs.Laws.Calls.{written-refused, written-done}
 use Rattle.model.proofs.Laws.WriteRuns.{writeRun-ran}
 use Rattle.model.proofs.Refusals.Circle.{roundsTo-le}
 use Rattle.rounds.specs.declared.runs.Ran.{Ran}
-use Rattle.rounds.specs.declared.states.Offer.the-variants.{Absent, Waiting}
-use Rattle.rounds.specs.States.{stateOf}
+use Rattle.plans.specs.declared.states.Offer.the-variants.{Absent, Waiting}
+use Rattle.plans.specs.States.{stateOf}
 use Rattle.rounds.specs.Runs.{Runnable, RunMade}
 use Rattle.mapper.specs.declared.write.Written.{Written}
 use Rattle.mapper.specs.declared.write.Outcome.{Outcome}
 use Rattle.mapper.specs.declared.write.Outcome.the-variants.{NotTried}
 use Rattle.mapper.specs.Writes.{outcomeSaid, offerOf, takenWrites, RanWith, Answered}
 use Rattle.mapper.proofs.Laws.Offers.{writes-taken}
-use Rattle.mapper.proofs.Laws.RoundCounts.{stores-small}
+use Rattle.checks.proofs.Laws.RoundCounts.{stores-small}
 
 -- ---- with the offer or without ----
 
 -- rounds from a head on with these hidden writes
 abbrev pub runTaken :
-    Geometry → (disk : Bytes) → (number head : ℕ) → (content random : Bytes) → (taken : Bool) → (hiddenNumber : ℕ) →
+    Geometry → (disk : Bytes) → (number head : ℕ) → (content random : Bytes) → (taken : Bool) →
+    (hiddenNumber : ℕ) →
     (hidden : Bytes) → Run
 runTaken g disk number head content random taken hiddenNumber hidden =
-    runFrom (g .slots) g number content head random disk (model.startState (takenWrites taken hiddenNumber hidden))
+    runFrom (g .slots) g number content head random disk
+    (model.startState (takenWrites taken hiddenNumber hidden))
 
-module _ (g : Geometry) (disk : Bytes) (number head : ℕ) (content random : Bytes) (taken : Bool) (hiddenNumber : ℕ)
+module _ (g : Geometry) (disk : Bytes) (number head : ℕ) (content random : Bytes) (taken : Bool)
+    (hiddenNumber : ℕ)
     (hidden : Bytes) where
   abbrev run : Run
   run = runTaken g disk number head content random taken hiddenNumber hidden
@@ -91,7 +95,8 @@ module _ (g : Geometry) (disk : Bytes) (number head : ℕ) (content random : Byt
         taken ≡ true →
         RunMade g disk list 0
         (runFrom (g .slots) g number content head random disk
-        (stateOf (record { offer = Waiting; «met_damage» = false }) hiddenNumber hidden)) hiddenNumber hidden diskAfter
+        (stateOf (record { offer = Waiting; «met_damage» = false }) hiddenNumber hidden)) hiddenNumber hidden
+        diskAfter
         listAfter ran → RanWith g disk list run diskAfter listAfter ran
     ran-taken e made = rw e (record { offered = hiddenNumber; hidden = hidden; run-made = made })
 
@@ -99,14 +104,16 @@ module _ (g : Geometry) (disk : Bytes) (number head : ℕ) (content random : Byt
         taken ≡ false →
         RunMade g disk list 0
         (runFrom (g .slots) g number content head random disk
-        (stateOf (record { offer = Absent; «met_damage» = false }) hiddenNumber content)) hiddenNumber content diskAfter
+        (stateOf (record { offer = Absent; «met_damage» = false }) hiddenNumber content)) hiddenNumber content
+        diskAfter
         listAfter ran → RanWith g disk list run diskAfter listAfter ran
     ran-absent e made = rw e (record { offered = hiddenNumber; hidden = content; run-made = made })
 
 -- ---- refused ----
 
 pub answered-refused :
-    (disk : Bytes) (number : ℕ) (content random : Bytes) (list : List DiskAddress) (offer : Option HiddenWrite)
+    (disk : Bytes) (number : ℕ) (content random : Bytes) (list : List DiskAddress)
+    (offer : Option HiddenWrite)
     (fault : ℕ) → fault ≡ writeRefusal disk number content (length random) (length list) → fault ≢ 0 →
     Answered (model.written disk number content random (length list) offer) disk list disk list
     (record { answer = fault; rounds = 0; stores = 0; outcome = NotTried })
@@ -138,7 +145,8 @@ module _ (disk : Bytes) (number : ℕ) (content random : Bytes) (list : List Dis
 
   drive : Accepted disk
   drive =
-      accepted-of-refusal disk (driveRefusal-of-write disk number content (length random) (length list) accepted)
+      accepted-of-refusal disk (driveRefusal-of-write disk number content (length random) (length list)
+      accepted)
 
   allowed : AcceptedWrite (geometryIn disk) disk number (length content) (length random) (length list)
   allowed = accepted-of-write disk number content (length random) (length list) accepted
@@ -151,24 +159,30 @@ module _ (disk : Bytes) (number : ℕ) (content random : Bytes) (list : List Dis
   unfolding model.writeRun
   run-is =
       ap (λ (h : Geometry). runTaken h disk number head content random taken hiddenNumber hidden) same
-      ∙ ap (λ (k : ℕ). runTaken (geometryIn disk) disk number k content random taken hiddenNumber hidden) first
-      ∙ ap (λ writes. runFrom (geometryIn disk .slots) (geometryIn disk) number content (headIn disk) random disk
+      ∙ ap (λ (k : ℕ). runTaken (geometryIn disk) disk number k content random taken hiddenNumber hidden)
+      first
+      ∙ ap (λ writes. runFrom (geometryIn disk .slots) (geometryIn disk) number content (headIn disk) random
+      disk
       (model.startState writes))
       (writes-taken (geometryIn disk) hiddenNumber hidden bad offered taken bad-is decided)
 
   rounds-are : theirs .rounds ≡ roundCount (geometryIn disk) disk
   rounds-are =
       rounds-ran (geometryIn disk) number content (headIn disk) (roundCount (geometryIn disk) disk)
-      (allowed .some-rounds) disk theirs (writeRun-ran disk number content random (length list) offer accepted)
+      (allowed .some-rounds) disk theirs (writeRun-ran disk number content random (length list) offer
+      accepted)
 
   stores-are :
       length (theirs .trace) ≡
-      storeCount (geometryIn disk) (roundCount (geometryIn disk) disk) (mapEntry (geometryIn disk) disk number)
+      storeCount (geometryIn disk) (roundCount (geometryIn disk) disk)
+      (mapEntry (geometryIn disk) disk number)
   stores-are =
       length-ran (geometryIn disk) number content (headIn disk) (roundCount (geometryIn disk) disk)
-      (allowed .some-rounds) disk theirs (writeRun-ran disk number content random (length list) offer accepted)
+      (allowed .some-rounds) disk theirs (writeRun-ran disk number content random (length list) offer
+      accepted)
 
-  runnable-theirs : Runnable (geometryIn disk) disk number (headIn disk) content random content theirs 0 (length list)
+  runnable-theirs : Runnable (geometryIn disk) disk number (headIn disk) content random content theirs 0
+      (length list)
   runnable-theirs =
       let a = allowed .accepted in
       record {
@@ -180,7 +194,8 @@ module _ (disk : Bytes) (number : ℕ) (content random : Bytes) (list : List Dis
         old-place = a .in-place;
         random-enough =
             rw rounds-are
-            (rw (mul-assoc (roundCount (geometryIn disk) disk) (geometryIn disk .height) (geometryIn disk .blockSize)) at
+            (rw (mul-assoc (roundCount (geometryIn disk) disk) (geometryIn disk .height)
+            (geometryIn disk .blockSize)) at
             (allowed .enough-random));
         room-enough = omega (arith, stores-are, allowed .enough-room);
       }
@@ -190,12 +205,15 @@ module _ (disk : Bytes) (number : ℕ) (content random : Bytes) (list : List Dis
       (runTaken g disk number head content random taken hiddenNumber hidden) 0 (length list)
   runnable =
       rw run-is
-      (subst (λ (h : Geometry). Runnable h disk number head content random content theirs 0 (length list)) (sym same)
-      (subst (λ (k : ℕ). Runnable (geometryIn disk) disk number k content random content theirs 0 (length list))
+      (subst (λ (h : Geometry). Runnable h disk number head content random content theirs 0 (length list))
+      (sym same)
+      (subst (λ (k : ℕ). Runnable (geometryIn disk) disk number k content random content theirs 0
+      (length list))
       (sym first) runnable-theirs))
 
   module _ (diskAfter : Bytes) (listAfter : List DiskAddress) (ran : Ran)
-      (done : RanWith g disk list (runTaken g disk number head content random taken hiddenNumber hidden) diskAfter
+      (done : RanWith g disk list (runTaken g disk number head content random taken hiddenNumber hidden)
+      diskAfter
       listAfter ran) where
     done-theirs : RanWith (geometryIn disk) disk list theirs diskAfter listAfter ran
     done-theirs =
@@ -226,7 +244,8 @@ module _ (disk : Bytes) (number : ℕ) (content random : Bytes) (list : List Dis
           stores-are = omega (arith, m .made .counted);
           outcome-is =
               said (done-theirs .offered) (done-theirs .hidden)
-              ∙ ap (model.outcomeOf bad) (m .state-is) ∙ ap (λ (n : ℕ). model.outcomeOf n (theirs .state)) bad-is;
+              ∙ ap (model.outcomeOf bad) (m .state-is) ∙ ap (λ (n : ℕ). model.outcomeOf n (theirs .state))
+              bad-is;
           stored = m .made .on-disk;
           listed = m .made .in-list;
         })

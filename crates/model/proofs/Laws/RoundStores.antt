@@ -117,7 +117,8 @@ afterRound choice g disk number slot content hidden =
 -- the public block's store is of a whole block and inside the disk
 pub publicStore-stored :
     (g : Geometry) (f : Fits g) (disk : Bytes) (whole : length disk ≡ blockCount g * g .blockSize) (slot : ℕ)
-    (inside : slot < g .slots) (content : Bytes) (sized : length content ≡ g .blockSize) (choice : PublicChoice) →
+    (inside : slot < g .slots) (content : Bytes) (sized : length content ≡ g .blockSize)
+    (choice : PublicChoice) →
     Stored (g .blockSize) (blockCount g) (publicStore choice g disk slot content)
 unfolding publicStore
 publicStore-stored g f disk whole slot inside content sized choice =

@@ -16,8 +16,8 @@ use Rattle.model.specs.Rounds.{publicStore, bitStores, mapStores, roundT
 use Rattle.model.specs.Refusals.{sizeChecks, sizeRefusal, driveChecks, placeChecks, roundsTo}
 use Rattle.model.specs.Refusals.{roundChecks, hiddenChecks, walkChecks, driveRefusal, publicReadRefusal}
 use Rattle.model.specs.Refusals.{writeRefusal, hiddenReadRefusal, hiddenWriteRefusal}
-use Rattle.model.specs.Calls.{headerBlock, freshFront, formatted, publicRead, hiddenRead, outcomeOf, offerRefusal}
-use Rattle.model.specs.Calls.{offeredWrites, writeRun, written}
+use Rattle.model.specs.Calls.{headerBlock, freshFront, formatted, publicRead, hiddenRead, outcomeOf}
+use Rattle.model.specs.Calls.{offerRefusal, offeredWrites, writeRun, written}
 
 -- to unfold it is to unfold all that its own line names
 unfoldable pub computing : Type 0

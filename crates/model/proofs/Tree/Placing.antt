@@ -89,7 +89,8 @@ module _ (g : Geometry) (f : Fits g) (disk after : Bytes) (tree : Tree)
             inl (
               top,
               on-path .in-root ∙ path-root g disk tree number slot content (g .height - 1) top _
-                  ∙ ap (λ (n : ℕ). linkedNode g number slot (g .height - 1) (nodeAt g disk tree n number)) top,
+                  ∙ ap (λ (n : ℕ).
+                  linkedNode g number slot (g .height - 1) (nodeAt g disk tree n number)) top,
             );
       }
 

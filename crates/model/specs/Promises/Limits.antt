@@ -1,6 +1,6 @@
 -- What is computed at document 01's limits: each geometry limit at and past it, the example of each refusal,
--- what formatting leaves, and every byte of the drive after the three lines of the listing and after three more, worked out by
--- hand from document 01 (docs/ON-DISK-FORMAT.md has the working). Assumes nothing.
+-- what formatting leaves, and every byte of the drive after the three lines of the listing and after three
+-- more, worked out by hand from document 01 (docs/ON-DISK-FORMAT.md has the working). Assumes nothing.
 use mathlib.Core.Path.{_≡_}
 use mathlib.Core.List.{List, [], _∷_, _++_}
 use mathlib.Core.Option.{Option, none, some}

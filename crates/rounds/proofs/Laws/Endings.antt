@@ -1,23 +1,23 @@
--- Laws of what a round stores after its slot and the root: how many stores, and the header after map and bits.
+-- Laws of what a round stores after its slot and the root: how many stores, and the header after map and
+-- bits.
 -- Assumes nothing.
-use mathlib.Core.Path.{_≡_, refl, sym, ap, subst, _∙_}
-use mathlib.Core.Bool.{Bool, true, false, cond}
-use mathlib.Core.Logic.{_≢_, _⊎_, inl, inr}
+use mathlib.Core.Path.{_≡_, refl, ap}
+use mathlib.Core.Logic.{_≢_, inl, inr}
 use mathlib.Core.List.{List, [], _∷_, _++_}
-use Prim.Native.Nat.{ℕ, suc, _+_, _*_, _≤_, _<_}
+use Prim.Native.Nat.{ℕ, _+_, _≤_, _<_}
 use native.Mathlib.Omega.{arith}
 use lib.ListN.{length}
-use Rattle.model.specs.Geometry.{Geometry, Fits, blockCount}
-use Rattle.model.specs.Blocks.{Bytes, DiskAddress, blockAt, setEntry}
-use Rattle.model.specs.Layout.{Drive, isSlotBlock, nextSlot, mapEntry}
-use Rattle.model.specs.Stores.{Trace, store, apply, addresses}
+use Rattle.model.specs.Geometry.{Geometry, blockCount}
+use Rattle.model.specs.Blocks.{Bytes, DiskAddress, setEntry}
+use Rattle.model.specs.Layout.{Drive, nextSlot, mapEntry}
+use Rattle.model.specs.Stores.{Trace, store, addresses}
 use Rattle.model.specs.Table.{PublicChoice, keepPublic, writePublic}
 use Rattle.model.specs.Rounds.{bitStores, headerStore, mapStores}
 use Rattle.model.proofs.Laws.MapStores.{InFront, mapStores-inFront, mapStores-stored}
 use Rattle.model.proofs.Laws.PublicHalf.{OldPlace, all-map}
 use Rattle.model.proofs.Laws.Slots.{slotBlock-of}
 use Rattle.stores.specs.Made.{Made}
-use Rattle.stores.proofs.Laws.Made.{made-then, drive-made, blockAt-made-outside, length-made-list}
+use Rattle.stores.proofs.Laws.Made.{made-then, drive-made, blockAt-made-outside}
 use Rattle.public_half.specs.Entries.{OldEntry}
 
 -- an entry that may be left, as the model's laws say it
@@ -25,7 +25,8 @@ pub old-of-entry : (g : Geometry) (entry : DiskAddress) → OldEntry g entry →
 old-of-entry g entry (inl e) = inl e
 old-of-entry g entry (inr e) = inr (slotBlock-of g 0 entry e)
 
-pub mapStores-keep : (g : Geometry) (disk : Bytes) (number slot : ℕ) → mapStores keepPublic g disk number slot ≡ []
+pub mapStores-keep : (g : Geometry) (disk : Bytes) (number slot : ℕ) →
+    mapStores keepPublic g disk number slot ≡ []
 unfolding mapStores
 mapStores-keep g disk number slot = refl
 
@@ -35,7 +36,8 @@ pub length-mapStores-write :
 unfolding mapStores bitStores
 length-mapStores-write g disk number slot = omega arith
 
-module _ (g : Geometry) (disk : Bytes) (drive : Drive g disk) (number : ℕ) (counted : number < g .publics) (slot : ℕ)
+module _ (g : Geometry) (disk : Bytes) (drive : Drive g disk) (number : ℕ) (counted : number < g .publics)
+    (slot : ℕ)
     (inside : slot < g .slots) (old : OldEntry g (mapEntry g disk number)) where
   abbrev front : Trace
   front = mapStores writePublic g disk number slot
@@ -60,10 +62,12 @@ module _ (g : Geometry) (disk : Bytes) (drive : Drive g disk) (number : ℕ) (co
         (old-of-entry g (mapEntry g disk number) old) writePublic)))
 
     pub ending-written :
-        (choice : PublicChoice) {after : Bytes} {entered : List DiskAddress} {last : ℕ} → choice ≡ writePublic →
+        (choice : PublicChoice) {after : Bytes} {entered : List DiskAddress} {last : ℕ} → choice ≡
+        writePublic →
         next + length (mapStores choice g disk number slot) + 1 ≤ length list →
         Made (g .blockSize) (headerStore g middle slot ∷ []) middle listed at after entered last →
-        Made (g .blockSize) (mapStores choice g disk number slot ++ (headerStore g disk slot ∷ [])) disk list next
+        Made (g .blockSize) (mapStores choice g disk number slot ++ (headerStore g disk slot ∷ [])) disk list
+        next
         after entered last
     ending-written choice e room header =
         rw e (made-then front (headerStore g disk slot ∷ []) (omega (arith, rw e at room)) made
@@ -73,7 +77,8 @@ module _ (g : Geometry) (disk : Bytes) (number slot : ℕ) (choice : PublicChoic
   pub ending-kept :
       {after : Bytes} {list entered : List DiskAddress} {next last : ℕ} → choice ≡ keepPublic →
       Made (g .blockSize) (headerStore g disk slot ∷ []) disk list next after entered last →
-      Made (g .blockSize) (mapStores choice g disk number slot ++ (headerStore g disk slot ∷ [])) disk list next
+      Made (g .blockSize) (mapStores choice g disk number slot ++ (headerStore g disk slot ∷ [])) disk list
+      next
       after entered last
   ending-kept e header = rw (e, mapStores-keep) header
 

@@ -1,17 +1,18 @@
--- Disks with the same blocks before the root: map, bitmap and header stores lean on these alone. Assumes nothing.
+-- Disks with the same blocks before the root: map, bitmap and header stores lean on these alone. Assumes
+-- nothing.
 use mathlib.Core.Path.{_≡_, refl, sym, ap, ap₂, _∙_}
-use mathlib.Core.Bool.{Bool, true, false, cond}
+use mathlib.Core.Bool.{Bool, true, false}
 use mathlib.Core.Logic.{inl, inr}
 use mathlib.Core.List.{[], _∷_}
 use Prim.Native.Nat.{ℕ, _*_, _%_, _<_}
 use native.Mathlib.Omega.{arith}
-use lib.Dec.{eqb}
 use lib.ListN.{length}
 use borrow.Author.Tests.{eq-eqb, ne-eqb}
 use Rattle.laws.specs.Bits.{setBit}
 use Rattle.model.specs.Geometry.{Geometry, Fits, fanout, rootAddress, blockCount}
 use Rattle.model.specs.Blocks.{Bytes, DiskAddress, blockAt, entryAt, setEntry}
-use Rattle.model.specs.Layout.{slotStart, slotOf, nextSlot, bitAddress, bitPlace, bitmapWith, mapAddress, mapEntry}
+use Rattle.model.specs.Layout.{slotStart, slotOf, nextSlot, bitAddress, bitPlace, bitmapWith, mapAddress}
+use Rattle.model.specs.Layout.{mapEntry}
 use Rattle.model.specs.Stores.{Store, Trace, store, apply}
 use Rattle.model.specs.Table.{PublicChoice, keepPublic, writePublic}
 use Rattle.model.specs.Rounds.{mapStore, bitStore, bitStores, headerStore, mapStores}
@@ -32,7 +33,8 @@ module _ (g : Geometry) (f : Fits g) (disk other : Bytes) (same : SameFront g di
       ap (λ (block : Bytes). store 0 (setEntry 5 (nextSlot g slot) block)) (same 0 (omega arith))
 
   module _ (number : ℕ) (counted : number < g .publics) where
-    map-block : blockAt (g .blockSize) disk (mapAddress g number) ≡ blockAt (g .blockSize) other (mapAddress g number)
+    map-block : blockAt (g .blockSize) disk (mapAddress g number) ≡
+        blockAt (g .blockSize) other (mapAddress g number)
     map-block = same (mapAddress g number) (omega (arith, mapAddress-lt g f number counted))
 
     pub mapEntry-same : mapEntry g disk number ≡ mapEntry g other number
@@ -41,7 +43,8 @@ module _ (g : Geometry) (f : Fits g) (disk other : Bytes) (same : SameFront g di
 
     mapStore-same : (slot : ℕ) → mapStore g disk number slot ≡ mapStore g other number slot
     mapStore-same slot =
-        ap (λ (block : Bytes). store (mapAddress g number) (setEntry (number % fanout g) (slotStart g slot) block))
+        ap (λ (block : Bytes). store (mapAddress g number)
+        (setEntry (number % fanout g) (slotStart g slot) block))
         map-block
 
 -- a bit's store leans on its block
@@ -60,7 +63,8 @@ module _ (g : Geometry) (f : Fits g) (slot : ℕ) (inside : slot < g .slots) whe
   new-stored disk whole =
       (omega (arith, bitAddress-lt g f slot inside), length-bitmapWith g f disk whole slot inside true)
 
-  module _ (disk other : Bytes) (same : SameFront g disk other) (whole : length disk ≡ blockCount g * g .blockSize)
+  module _ (disk other : Bytes) (same : SameFront g disk other)
+      (whole : length disk ≡ blockCount g * g .blockSize)
       (there : length other ≡ blockCount g * g .blockSize) where
     new-same : bitStore g disk slot true ≡ bitStore g other slot true
     new-same = bitStore-same g disk other slot true (same (bitAddress g slot) (bitAddress-lt g f slot inside))
@@ -82,7 +86,8 @@ module _ (g : Geometry) (f : Fits g) (slot : ℕ) (inside : slot < g .slots) whe
     bitStores-same entry (inr block) =
         let old = bitStore-same g (apply (g .blockSize) (bitStore g disk slot true ∷ []) disk)
         (apply (g .blockSize) (bitStore g other slot true ∷ []) other) (slotOf g entry) false
-        (after-same (bitAddress g (slotOf g entry)) (bitAddress-lt g f (slotOf g entry) (block .slot-inside))) in
+        (after-same (bitAddress g (slotOf g entry)) (bitAddress-lt g f (slotOf g entry) (block .slot-inside)))
+        in
         rw (ne-eqb entry 0 (entry-not-zero g entry block))
         (ap₂ {C = Trace} (λ (x y : Store). x ∷ y ∷ []) new-same old)
 
@@ -92,6 +97,8 @@ module _ (g : Geometry) (f : Fits g) (slot : ℕ) (inside : slot < g .slots) whe
     unfolding mapStores
     mapStores-same keepPublic number counted old = refl
     mapStores-same writePublic number counted old =
-        ap₂ {C = Trace} (λ (x : Store) (xs : Trace). x ∷ xs) (mapStore-same g f disk other same number counted slot)
-        (ap (λ (entry : DiskAddress). bitStores g disk entry slot) (mapEntry-same g f disk other same number counted)
+        ap₂ {C = Trace} (λ (x : Store) (xs : Trace). x ∷ xs)
+        (mapStore-same g f disk other same number counted slot)
+        (ap (λ (entry : DiskAddress). bitStores g disk entry slot)
+        (mapEntry-same g f disk other same number counted)
         ∙ bitStores-same (mapEntry g other number) old)

@@ -1,15 +1,16 @@
--- Laws of one round's stores: how many there are, what each part leaves for the next, and all of them one after another.
+-- Laws of one round's stores: how many there are, what each part leaves for the next, and all of them one
+-- after another.
 -- Assumes nothing.
-use mathlib.Core.Path.{_≡_, refl, sym, ap, ap₂, subst, _∙_}
-use mathlib.Core.Logic.{_≢_, _⊎_, inl, inr}
+use mathlib.Core.Path.{_≡_, sym, ap, ap₂, subst, _∙_}
+use mathlib.Core.Logic.{_≢_, inl, inr}
 use mathlib.Core.List.{List, [], _∷_, _++_}
-use Prim.Native.Nat.{ℕ, suc, _+_, _*_, _≤_, _<_}
+use Prim.Native.Nat.{ℕ, _+_, _≤_, _<_}
 use native.Mathlib.Omega.{arith}
 use lib.ListN.{length, length-append}
-use Rattle.model.specs.Geometry.{Geometry, Fits, rootAddress, blockCount}
+use Rattle.model.specs.Geometry.{Geometry, rootAddress, blockCount}
 use Rattle.model.specs.Blocks.{Bytes, DiskAddress, blockAt}
 use Rattle.model.specs.Layout.{Drive, slotStart, mapEntry}
-use Rattle.model.specs.Stores.{Trace, store, apply, addresses}
+use Rattle.model.specs.Stores.{Trace, addresses}
 use Rattle.model.specs.Simulator.{addressesFrom}
 use Rattle.model.specs.Table.{PublicChoice}
 use Rattle.model.specs.Rounds.{publicStore, headerStore, mapStores, roundTrace}
@@ -17,7 +18,8 @@ use Rattle.model.proofs.Laws.Geometry.{slot-block-lt, rootAddress-lt}
 use Rattle.model.proofs.Laws.Paths.{Hides}
 use Rattle.model.proofs.Laws.PublicHalf.{all-map}
 use Rattle.model.proofs.Laws.RoundCounts.{length-addressesFrom}
-use Rattle.model.proofs.Laws.RoundStores.{HiddenAddress, hides-addresses, stored-of-whole, publicStore-address, publicStore-stored}
+use Rattle.model.proofs.Laws.RoundStores.{HiddenAddress, hides-addresses, stored-of-whole}
+use Rattle.model.proofs.Laws.RoundStores.{publicStore-address, publicStore-stored}
 use Rattle.model.proofs.Laws.Stores.{All, Stored, length-addresses}
 use Rattle.stores.specs.Made.{Made}
 use Rattle.stores.proofs.Laws.Made.{made-then, drive-made, blockAt-made-outside, length-made-list}
@@ -28,14 +30,16 @@ use Rattle.rounds.proofs.Laws.Endings.{old-of-entry}
 
 -- ---- how many stores ----
 
-length-hides : (g : Geometry) (slot : ℕ) (hidden : Trace) → Hides g slot hidden → length hidden ≡ g .height + 1
+length-hides : (g : Geometry) (slot : ℕ) (hidden : Trace) → Hides g slot hidden → length hidden ≡
+    g .height + 1
 length-hides g slot hidden hides =
     sym (length-addresses hidden) ∙ ap length (hides .runs)
     ∙ length-append (addressesFrom (slotStart g slot + 1) (g .height)) (rootAddress g ∷ [])
     ∙ ap (λ (n : ℕ). n + 1) (length-addressesFrom (slotStart g slot + 1) (g .height))
 
 length-roundTrace :
-    (choice : PublicChoice) (g : Geometry) (disk : Bytes) (number slot : ℕ) (content : Bytes) (hidden : Trace) →
+    (choice : PublicChoice) (g : Geometry) (disk : Bytes) (number slot : ℕ) (content : Bytes) (hidden : Trace)
+    →
     length (roundTrace choice g disk number slot content hidden) ≡
     1 + length hidden + length (mapStores choice g disk number slot) + 1
 unfolding roundTrace
@@ -53,9 +57,11 @@ publicTrace choice g disk slot content = publicStore choice g disk slot content 
 
 -- ---- the parts of a round, each on the disk that the last one left ----
 
-module _ (g : Geometry) (disk : Bytes) (drive : Drive g disk) (number : ℕ) (counted : number < g .publics) (slot : ℕ)
+module _ (g : Geometry) (disk : Bytes) (drive : Drive g disk) (number : ℕ) (counted : number < g .publics)
+    (slot : ℕ)
     (inside : slot < g .slots) (content : Bytes) (sized : length content ≡ g .blockSize)
-    (old : OldEntry g (mapEntry g disk number)) (choice : PublicChoice) (hidden : Trace) (hides : Hides g slot hidden)
+    (old : OldEntry g (mapEntry g disk number)) (choice : PublicChoice) (hidden : Trace)
+    (hides : Hides g slot hidden)
     (list : List DiskAddress) (next : ℕ)
     (room : next + length (roundTrace choice g disk number slot content hidden) ≤ length list) where
   -- the list has room for all parts
@@ -85,7 +91,8 @@ module _ (g : Geometry) (disk : Bytes) (drive : Drive g disk) (number : ℕ) (co
       below a (inr (place, low, high, e)) = omega (arith, slot-block-lt g slot place inside high)
 
   module _ {middle : Bytes} {listed : List DiskAddress} {place : ℕ}
-      (first : Made (g .blockSize) (publicTrace choice g disk slot content) disk list next middle listed place) where
+      (first : Made (g .blockSize) (publicTrace choice g disk slot content) disk list next middle listed
+      place) where
     pub drive-public : Drive g middle
     drive-public = drive-made g first drive public-stored
 
@@ -140,7 +147,8 @@ module _ (g : Geometry) (disk : Bytes) (drive : Drive g disk) (number : ℕ) (co
 
       stores-same : mapStores choice g later number slot ≡ mapStores choice g disk number slot
       stores-same =
-          mapStores-same g (drive .fits) slot inside later disk same-front (drive-hidden .whole) (drive .whole) choice
+          mapStores-same g (drive .fits) slot inside later disk same-front (drive-hidden .whole)
+          (drive .whole) choice
           number counted (old-of-entry g (mapEntry g disk number) old)
 
       pub room-ending : at + length (mapStores choice g later number slot) + 1 ≤ length entered
@@ -158,19 +166,40 @@ module _ (g : Geometry) (disk : Bytes) (drive : Drive g disk) (number : ℕ) (co
 
       pub round-made :
           {after : Bytes} {all : List DiskAddress} {last : ℕ} →
-          Made (g .blockSize) (mapStores choice g later number slot ++ (headerStore g later slot ∷ [])) later entered at
+          Made (g .blockSize) (mapStores choice g later number slot ++ (headerStore g later slot ∷ [])) later
+          entered at
           after all last →
-          Made (g .blockSize) (roundTrace choice g disk number slot content hidden) disk list next after all last
+          Made (g .blockSize) (roundTrace choice g disk number slot content hidden) disk list next after all
+          last
       unfolding roundTrace
       round-made {after} {all} {last} third =
           let ending = mapStores choice g disk number slot ++ (headerStore g disk slot ∷ []) in
           let e : mapStores choice g later number slot ++ (headerStore g later slot ∷ []) ≡ ending =
-          ap₂ (λ (xs : Trace) x. xs ++ (x ∷ [])) stores-same (headerStore-same g (drive .fits) later disk same-front slot) in
+          ap₂ (λ (xs : Trace) x. xs ++ (x ∷ [])) stores-same
+          (headerStore-same g (drive .fits) later disk same-front slot) in
           let closed : Made (g .blockSize) ending later entered at after all last =
           subst (λ (xs : Trace). Made (g .blockSize) xs later entered at after all last) e third in
           made-then (publicTrace choice g disk slot content) (hidden ++ ending)
-          (omega (arith, roomy, length-append hidden ending, length-append (mapStores choice g disk number slot) (headerStore g disk slot ∷ []), length-hides g slot hidden hides))
+          (omega (
+            arith,
+            roomy,
+            length-append hidden ending,
+            length-append
+                (mapStores choice g disk number slot) (headerStore g disk slot ∷ []),
+            length-hides g slot hidden
+                hides,
+          ))
           first
           (made-then hidden ending
-          (omega (arith, room-hidden, roomy, length-listed, first .counted, length-append (mapStores choice g disk number slot) (headerStore g disk slot ∷ []), length-hides g slot hidden hides))
+          (omega (
+            arith,
+            room-hidden,
+            roomy,
+            length-listed,
+            first .counted,
+            length-append
+                (mapStores choice g disk number slot) (headerStore g disk slot ∷ []),
+            length-hides g slot hidden
+                hides,
+          ))
           second closed)

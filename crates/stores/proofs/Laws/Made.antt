@@ -1,6 +1,5 @@
 -- Laws of `Made`: nothing stored, one store, one trace after another, and what stays: lengths, a whole drive,
--- blocks
--- that are not stored to. Assumes nothing.
+-- blocks that are not stored to. Assumes nothing.
 use mathlib.Core.Path.{_≡_, refl, sym, ap, _∙_}
 use mathlib.Core.Logic.{_≢_}
 use mathlib.Core.List.{List, [], _∷_, _++_}
@@ -9,10 +8,10 @@ use native.Mathlib.Omega.{arith}
 use lib.ListN.{length, set, length-append}
 use Rattle.laws.specs.Lists.{over}
 use Rattle.laws.proofs.Lists.{length-over, over-append, over-nil, over-one}
-use Rattle.model.specs.Geometry.{Geometry, blockCount, driveSize}
+use Rattle.model.specs.Geometry.{Geometry, blockCount}
 use Rattle.model.specs.Blocks.{Bytes, DiskAddress, blockAt}
 use Rattle.model.specs.Layout.{Drive}
-use Rattle.model.specs.Stores.{Store, Trace, store, apply, addresses}
+use Rattle.model.specs.Stores.{Trace, store, apply, addresses}
 use Rattle.model.proofs.Laws.Blocks.{setBlock-is}
 use Rattle.model.proofs.Laws.Stores.{All, Stored, apply-append, apply-nil, apply-one, addresses-append}
 use Rattle.model.proofs.Laws.Stores.{length-addresses, length-apply, blockAt-apply-outside}

@@ -1,20 +1,34 @@
--- `mapper::formatting::put_header` meets its contract: six entries one after another are the packed ones.
--- Assumes nothing.
+-- `put_header` meets its contract: six entries one after another are the packed ones. Assumes nothing.
 use borrow.Author.Needs.{needs}
 use Rattle.layout.specs.Geometries.{geometryOf}
 use Rattle.mapper.proofs.Laws.Formatting.{header-put}
 use Rattle.mapper.proofs.formatting.put_header.Statement.{statement}
 use Rattle.mapper.proofs.formatting.put_header.Tie as tie
 
--- the places before: the fourth and the second entry put, and the start
-abbrev after-fourth : tie.After-slice-known7 → tie.After-put-entry4
-after-fourth c = c .before .before .before .before .before .before .before .before .before .before
+-- ---- the places on the way: an entry is put, each named from the next one ----
 
-abbrev after-second : tie.After-put-entry4 → tie.After-put-entry2
-after-second c = c .before .before .before .before .before .before .before .before
+abbrev entryOf : tie.After-put-entry → tie.Start
+entryOf c = c .before .before .before
 
-abbrev start : tie.After-put-entry2 → tie.Start
-start c = c .before .before .before .before .before .before .before
+abbrev firstOf : tie.After-put-entry2 → tie.After-put-entry
+firstOf c = c .before .before .before .before
+
+abbrev secondOf : tie.After-put-entry3 → tie.After-put-entry2
+secondOf c = c .before .before .before .before
+
+abbrev thirdOf : tie.After-put-entry4 → tie.After-put-entry3
+thirdOf c = c .before .before .before .before
+
+abbrev fourthOf : tie.After-put-entry5 → tie.After-put-entry4
+fourthOf c = c .before .before .before .before
+
+abbrev fifthOf : tie.After-put-entry6 → tie.After-put-entry5
+fifthOf c = c .before .before .before .before
+
+abbrev startOf : tie.After-put-entry6 → tie.Start
+startOf c = entryOf (firstOf (secondOf (thirdOf (fourthOf (fifthOf c)))))
+
+-- ---- answers ----
 
 put-entry-requires : tie.Need-put-entry-requires
 put-entry-requires c κs = search needs
@@ -39,7 +53,7 @@ same-length c = search needs
 
 returns : tie.Need-returns
 returns c =
-    let s = start (after-second (after-fourth c)) in
+    let s = startOf (c .before .before) in
     cc (header-put (geometryOf (s .args .g)) (s .args .disk .now) (s .pre))
 
 pub put-header-spec : {M : Type 1} → statement M

@@ -1,40 +1,61 @@
--- `mapper::needs::write_needs` meets its contract: the drive's refusal, the number's, 7, or what the rounds take. Assumes
+-- `write_needs` meets its contract: the drive's refusal, the number's, 7, or what the rounds take. Assumes
 -- nothing.
 use mathlib.Core.Path.{_≡_, sym, ap, _∙_}
 use Prim.Native.Nat.{ℕ, _≤_, _<_}
 use native.Mathlib.Omega.{arith}
+use borrow.Author.Needs.{needs}
 use Rattle.model.specs.Geometry.{Geometry}
+use Rattle.model.specs.Blocks.{Bytes}
 use Rattle.model.specs.Layout.{Drive, headIn, isAllocated, mapEntry}
 use Rattle.model.specs.Refusals.{driveRefusal, roundCount, storeCount}
 use Rattle.model.proofs.Refusals.Circle.{roundsTo-le}
 use Rattle.layout.specs.Geometries.{geometryOf}
+use Rattle.checks.proofs.Laws.RoundCounts.{random-blocks-small}
 use Rattle.mapper.specs.Needs.{refusedNeeds}
-use Rattle.mapper.proofs.Laws.RoundCounts.{random-blocks-small}
-use Rattle.mapper.proofs.Laws.Drives.{long-enough, drive-read}
+use Rattle.reads.proofs.Laws.Drives.{long-enough, drive-read}
 use Rattle.mapper.proofs.Laws.WriteRefusals.{head-read, inside-of-places}
-use Rattle.mapper.proofs.Laws.Needs.{needs-drive, needs-place, needs-none, needs-some}
-use borrow.Author.Needs.{needs}
+use Rattle.mapper.proofs.Laws.Needs.{needs-drive, needs-place, needs-none, needs-some, told-suffice}
 use Rattle.mapper.proofs.needs.write_needs.Statement.{statement}
 use Rattle.mapper.proofs.needs.write_needs.Tie as tie
 
--- the drive is accepted
-accepted : (c : tie.Else1) → driveRefusal (c .before .before .before .args .disk .now) ≡ 0
+-- ---- the places on the way, each named from a later one ----
+
+abbrev startOf : tie.Else1 → tie.Start
+startOf c = c .before .before .before
+
+abbrev readOf : tie.Else2 → tie.After-geometry-in
+readOf c = c .before .before .before
+
+abbrev foundOf : tie.After-map-entry → tie.After-round-count
+foundOf c = c .before .before
+
+abbrev diskOf : tie.After-geometry-in → Bytes
+diskOf c = startOf (c .before) .args .disk .now
+
+abbrev numberOf : tie.After-geometry-in → ℕ
+numberOf c = startOf (c .before) .args .number .0
+
+abbrev shapeOf : tie.After-geometry-in → Geometry
+shapeOf c = geometryOf (c .geometry-in .result)
+
+-- ---- what is known there ----
+
+accepted : (c : tie.Else1) → driveRefusal (startOf c .args .disk .now) ≡ 0
 accepted c = sym (c .before .drive-fault .ensures) ∙ c .if1 .left
 
 -- the geometry that was read is that of a whole drive
-read-drive :
-    (c : tie.After-geometry-in) → Drive (geometryOf (c .geometry-in .result)) (c .before .before .before .before .args .disk .now)
-read-drive c =
-    drive-read (c .before .before .before .before .args .disk .now) (accepted (c .before))
-    (geometryOf (c .geometry-in .result)) (c .geometry-in .ensures)
+read-drive : (c : tie.After-geometry-in) → Drive (shapeOf c) (diskOf c)
+read-drive c = drive-read (diskOf c) (accepted (c .before)) (shapeOf c) (c .geometry-in .ensures)
 
 -- the rounds are at most the slots
-few :
-    (c : tie.After-round-count) → c .round-count .result ≤ c .before .before .before .before .geometry-in .result .slots
+few : (c : tie.After-round-count) → c .round-count .result ≤ shapeOf (readOf (c .before)) .slots
 few c =
-    let disk = c .before .before .before .before .before .before .before .before .args .disk .now in
-    let g = geometryOf (c .before .before .before .before .geometry-in .result) in
-    rw (c .round-count .ensures) (roundsTo-le (isAllocated g disk) g (g .slots) (headIn disk))
+    let read = readOf (c .before) in
+    let g = shapeOf read in
+    rw (c .round-count .ensures) (roundsTo-le (isAllocated g (diskOf read)) g (g .slots)
+    (headIn (diskOf read)))
+
+-- ---- what the calls need, and what is answered ----
 
 drive-fault-requires : tie.Need-drive-fault-requires
 drive-fault-requires c κs = search needs
@@ -44,13 +65,16 @@ refused-needs-requires c κs = search needs
 
 returns : tie.Need-returns
 returns c =
-    let s = c .before .before .before .before in
-    let told = c .before .before .drive-fault .ensures in
-    c .refused-needs .ensures ∙ ap refusedNeeds told
-    ∙ needs-drive (s .args .disk .now) (s .args .number .0) (λ e. c .before .if1 .taken (told ∙ e))
+    let start = c .before .before .before .before in
+    let fault = c .before .before .drive-fault .ensures in
+    let disk = start .args .disk .now in
+    let number = start .args .number .0 in
+    let told = c .refused-needs .ensures ∙ ap refusedNeeds fault
+    ∙ needs-drive disk number (λ e. c .before .if1 .taken (fault ∙ e)) in
+    (told, told-suffice disk number told)
 
 geometry-in-requires : tie.Need-geometry-in-requires
-geometry-in-requires c κs = long-enough (c .before .before .before .args .disk .now) (accepted c)
+geometry-in-requires c κs = long-enough (startOf c .args .disk .now) (accepted c)
 
 cast-place-fault : tie.Need-cast-place-fault
 cast-place-fault c = search needs
@@ -63,44 +87,64 @@ refused-needs-requires-2 c κs = search needs
 
 returns-2 : tie.Need-returns-2
 returns-2 c =
-    let s = c .before .before .before .before .before .before .before .before in
-    let told = c .before .before .place-fault .ensures in
-    c .refused-needs2 .ensures ∙ ap refusedNeeds told
-    ∙ needs-place (s .args .disk .now) (s .args .number .0) (accepted (c .before .before .before .before .before)) (geometryOf (c .before .before .before .before .geometry-in .result)) (c .before .before .before .before .geometry-in .ensures) (λ e. c .before .if2 .taken (told ∙ e))
+    let placed = c .before .before in
+    let read = placed .before .before in
+    let fault = placed .place-fault .ensures in
+    let told = c .refused-needs2 .ensures ∙ ap refusedNeeds fault
+    ∙ needs-place (diskOf read) (numberOf read) (accepted (read .before)) (shapeOf read)
+    (read .geometry-in .ensures) (λ e. c .before .if2 .taken (fault ∙ e)) in
+    (told, told-suffice (diskOf read) (numberOf read) told)
 
 round-count-requires : tie.Need-round-count-requires
-round-count-requires c κs = (read-drive (c .before .before .before), head-read (c .before .before .before .before .before .before .before .args .disk .now) (accepted (c .before .before .before .before)) (geometryOf (c .before .before .before .geometry-in .result)) (c .before .before .before .geometry-in .ensures))
+round-count-requires c κs =
+    let read = readOf c in (
+      read-drive read,
+      head-read (diskOf read) (accepted (read .before)) (shapeOf read) (read .geometry-in .ensures),
+    )
 
 refused-needs-requires-3 : tie.Need-refused-needs-requires-3
 refused-needs-requires-3 c κs = search needs
 
 returns-3 : tie.Need-returns-3
 returns-3 c =
-    let s = c .before .before .before .before .before .before .before .before .before .before in
-    c .refused-needs3 .ensures
-    ∙ needs-none (s .args .disk .now) (s .args .number .0) (accepted (c .before .before .before .before .before .before .before)) (geometryOf (c .before .before .before .before .before .before .geometry-in .result)) (c .before .before .before .before .before .before .geometry-in .ensures) (sym (c .before .before .before .before .place-fault .ensures) ∙ c .before .before .before .if2 .left) (sym (c .before .before .round-count .ensures) ∙ c .before .if3 .taken)
+    let found = c .before .before in
+    let passed = found .before in
+    let read = readOf passed in
+    let told = c .refused-needs3 .ensures
+    ∙ needs-none (diskOf read) (numberOf read) (accepted (read .before)) (shapeOf read)
+    (read .geometry-in .ensures) (sym (passed .before .place-fault .ensures) ∙ passed .if2 .left)
+    (sym (found .round-count .ensures) ∙ c .before .if3 .taken) in
+    (told, told-suffice (diskOf read) (numberOf read) told)
 
 map-entry-requires : tie.Need-map-entry-requires
 map-entry-requires c κs =
-    let s = c .before .before .before .before .before .before .before .before .before in
-    let g = geometryOf (c .before .before .before .before .before .geometry-in .result) in
-    (read-drive (c .before .before .before .before .before), inside-of-places g (s .args .disk .now) (s .args .number .0) (g .blockSize) (sym (c .before .before .before .place-fault .ensures) ∙ c .before .before .if2 .left))
+    let passed = c .before .before in
+    let read = readOf passed in
+    let g = shapeOf read in (
+      read-drive read,
+      inside-of-places g (diskOf read) (numberOf read) (g .blockSize)
+          (sym (passed .before .place-fault .ensures) ∙ passed .if2 .left),
+    )
 
 store-count-requires : tie.Need-store-count-requires
-store-count-requires c κs = (read-drive (c .before .before .before .before .before .before) .fits, few (c .before .before))
+store-count-requires c κs =
+    let found = foundOf c in (read-drive (readOf (found .before)) .fits, few found)
 
 mul-t11 : tie.Need-mul-t11
 mul-t11 c = search needs
 
 returns-4 : tie.Need-returns-4
 returns-4 c =
-    let s = c .before .before .before .before .before .before .before .before .before .before .before .before in
-    let read = c .before .before .before .before .before .before .before .before .geometry-in in
-    needs-some (s .args .disk .now) (s .args .number .0) (accepted (c .before .before .before .before .before .before .before .before .before)) (geometryOf (read .result)) (read .ensures)
-    (sym (c .before .before .before .before .before .before .place-fault .ensures) ∙ c .before .before .before .before .before .if2 .left)
-    (c .before .before .before .before .round-count .result) (c .before .before .map-entry .result .0) (c .before .store-count .result)
-    (c .before .before .before .before .round-count .ensures) (c .before .before .map-entry .ensures) (c .before .store-count .ensures)
-    (c .before .before .before .if3 .left)
+    let mapped = c .before .before in
+    let found = foundOf mapped in
+    let passed = found .before in
+    let read = readOf passed in
+    let told = needs-some (diskOf read) (numberOf read) (accepted (read .before)) (shapeOf read)
+    (read .geometry-in .ensures) (sym (passed .before .place-fault .ensures) ∙ passed .if2 .left)
+    (found .round-count .result) (mapped .map-entry .result .0) (c .before .store-count .result)
+    (found .round-count .ensures) (mapped .map-entry .ensures) (c .before .store-count .ensures)
+    (mapped .before .if3 .left) in
+    (told, told-suffice (diskOf read) (numberOf read) told)
 
 pub write-needs-spec : {M : Type 1} → statement M
 write-needs-spec =

@@ -5,6 +5,12 @@ use borrow.Author.Needs.{needs}
 use Rattle.public_half.proofs.header.store_header.Statement.{statement}
 use Rattle.public_half.proofs.header.store_header.Tie as tie
 
+abbrev startOf : tie.After-store-changed-arg3 → tie.Start
+startOf c = c .before .before .before .before .before .before
+
+abbrev after-store : tie.After-slice-known6 → tie.After-store-changed
+after-store c = c .before .before .before .before .before .before
+
 add-head : tie.Need-add-head
 add-head c = search needs
 
@@ -13,8 +19,8 @@ rem-head c = search needs
 
 store-changed-requires : tie.Need-store-changed-requires
 store-changed-requires c κs =
-    let start = c .before .before .before .before in
-    (start .pre .0, (omega arith, (omega (arith, start .pre .0 .fits .size-low), start .pre .1 .1)))
+    let pre = startOf c .pre in
+    (pre .0, (omega arith, (omega (arith, pre .0 .fits .size-low), pre .1 .1)))
 
 same-length : tie.Need-same-length
 same-length c = search needs
@@ -22,9 +28,13 @@ same-length c = search needs
 same-length-2 : tie.Need-same-length-2
 same-length-2 c = search needs
 
+same-length-3 : tie.Need-same-length-3
+same-length-3 c = search needs
+
 returns : tie.Need-returns
-returns c = c .before .before .before .before .store-changed .ensures
+returns c = after-store c .store-changed .ensures
 
 pub store-header-spec : {M : Type 1} → statement M
 store-header-spec =
-    tie.close (tie.spec add-head rem-head store-changed-requires same-length same-length-2 returns)
+    tie.close
+    (tie.spec add-head rem-head store-changed-requires same-length same-length-2 same-length-3 returns)

@@ -10,15 +10,28 @@ use Rattle.public_half.proofs.Laws.Stores.{made-store, publicStore-kept
 use Rattle.public_half.proofs.public_block.store_public.Statement.{statement}
 use Rattle.public_half.proofs.public_block.store_public.Tie as tie
 
+abbrev startOf : tie.After-slot-start → tie.Start
+startOf c = c .before .before .before .before .before
+
+abbrev to-keep : tie.After-store-changed-arg3 → tie.After-enum-told
+to-keep c = c .before .before .before
+
+abbrev to-write : tie.After-store-block-arg2 → tie.After-enum-told2
+to-write c = c .before .before
+
+abbrev after-keep : tie.After-slice-known6 → tie.After-store-changed
+after-keep c = c .before .before .before .before .before .before
+
+abbrev after-write : tie.After-slice-known8 → tie.After-store-block
+after-write c = c .before .before .before .before
+
 slot-start-requires : tie.Need-slot-start-requires
 slot-start-requires c κs = search needs
 
 -- the slot's public block stands on the disk
-inside :
-    (c : tie.After-slot-start) →
-    c .slot-start .result .0 < blockCount (geometryOf (c .before .before .before .before .args .g))
+inside : (c : tie.After-slot-start) → c .slot-start .result .0 < blockCount (geometryOf (startOf c .args .g))
 inside c =
-    let start = c .before .before .before .before in
+    let start = startOf c in
     omega (
       arith,
       c .slot-start .ensures,
@@ -30,18 +43,18 @@ enum-told c = search needs
 
 store-changed-requires : tie.Need-store-changed-requires
 store-changed-requires c κs =
-    let placed = c .before .before .before .before in
-    let start = placed .before .before .before .before in
-    (start .pre .0, (inside placed, (tt, start .pre .1 .1 .1)))
+    let placed = to-keep c .before .before in
+    let pre = startOf placed .pre in
+    (pre .0, (inside placed, (tt, pre .1 .1 .1)))
 
 enum-told-2 : tie.Need-enum-told-2
 enum-told-2 c = search needs
 
 store-block-requires : tie.Need-store-block-requires
 store-block-requires c κs =
-    let placed = c .before .before .before .before in
-    let start = placed .before .before .before .before in
-    (start .pre .0, (inside placed, start .pre .1 .1))
+    let placed = to-write c .before .before in
+    let pre = startOf placed .pre in
+    (pre .0, (inside placed, (pre .1 .1 .0, pre .1 .1 .1 .1)))
 
 same-length : tie.Need-same-length
 same-length c = search needs
@@ -49,29 +62,32 @@ same-length c = search needs
 same-length-2 : tie.Need-same-length-2
 same-length-2 c = search needs
 
+same-length-3 : tie.Need-same-length-3
+same-length-3 c = search needs
+
 returns : tie.Need-returns
 returns c =
-    let stored = c .before .before .before .before in
-    let told = stored .before .before .before in
+    let stored = after-keep c in
+    let told = to-keep (stored .before) in
     let placed = told .before .before in
-    let start = placed .before .before .before .before .args in
+    let start = startOf placed .args in
     made-store
     (publicStore-kept (geometryOf (start .g)) (start .disk .now) (start .slot) (start .content .now)
     (start .choice) (placed .slot-start .result .0) (told .enum-told .given .1) (placed .slot-start .ensures))
     (stored .store-changed .ensures)
 
-same-length-3 : tie.Need-same-length-3
-same-length-3 c = search needs
-
 same-length-4 : tie.Need-same-length-4
 same-length-4 c = search needs
 
+same-length-5 : tie.Need-same-length-5
+same-length-5 c = search needs
+
 returns-2 : tie.Need-returns-2
 returns-2 c =
-    let stored = c .before .before .before .before in
-    let told = stored .before .before .before in
+    let stored = after-write c in
+    let told = to-write (stored .before) in
     let placed = told .before .before in
-    let start = placed .before .before .before .before .args in
+    let start = startOf placed .args in
     made-store
     (publicStore-written (geometryOf (start .g)) (start .disk .now) (start .slot) (start .content .now)
     (start .choice) (placed .slot-start .result .0) (told .enum-told2 .given .1)
@@ -82,4 +98,4 @@ pub store-public-spec : {M : Type 1} → statement M
 store-public-spec =
     tie.close
     (tie.spec slot-start-requires enum-told store-changed-requires enum-told-2 store-block-requires
-    same-length same-length-2 returns same-length-3 same-length-4 returns-2)
+    same-length same-length-2 same-length-3 returns same-length-4 same-length-5 returns-2)

@@ -1,7 +1,9 @@
 -- `store_entry` meets its contract: the number's map block is one of the drive's, and its entry stands in it.
 -- Assumes nothing.
+use Prim.Native.Nat.{_+_, _/_, _<_}
 use native.Mathlib.Omega.{arith}
 use borrow.Author.Needs.{needs}
+use Rattle.model.specs.Geometry.{blockCount}
 use Rattle.model.proofs.Laws.Geometry.{mapAddress-lt}
 use Rattle.model.proofs.Laws.PublicMap.{map-index-fits}
 use Rattle.layout.specs.Geometries.{geometryOf}
@@ -9,17 +11,26 @@ use Rattle.public_half.proofs.Laws.Stores.{made-store, mapStore-changed
 use Rattle.public_half.proofs.public_map.store_entry.Statement.{statement}
 use Rattle.public_half.proofs.public_map.store_entry.Tie as tie
 
-div-t11 : tie.Need-div-t11
-div-t11 c = search needs
+abbrev startOf : tie.After-struct-known2 → tie.Start
+startOf c = c .before .before .before .before .before
 
-add-t12 : tie.Need-add-t12
-add-t12 c =
-    let start = c .before .before .before .before in
-    let g = geometryOf (start .args .g) in
+abbrev after-start : tie.After-store-changed-arg3 → tie.After-slot-start
+after-start c = c .before .before .before
+
+abbrev after-store : tie.After-slice-known6 → tie.After-store-changed
+after-store c = c .before .before .before .before .before .before
+
+div-t12 : tie.Need-div-t12
+div-t12 c = search needs
+
+add-t13 : tie.Need-add-t13
+add-t13 c =
+    let start = startOf c in
+    let fits = start .pre .0 .fits in
     omega (
       arith,
-      start .pre .0 .fits .blocks-high,
-      mapAddress-lt g (start .pre .0 .fits) (start .args .number .0) (start .pre .1 .0),
+      fits .blocks-high,
+      mapAddress-lt (geometryOf (start .args .g)) fits (start .args .number .0) (start .pre .1 .0),
     )
 
 rem-index : tie.Need-rem-index
@@ -27,27 +38,36 @@ rem-index c = search needs
 
 cast-index : tie.Need-cast-index
 cast-index c =
-    let start = c .before .before .before .before .before in
-    let g = geometryOf (start .args .g) in
+    let start = startOf (c .before) in
+    let fits = start .pre .0 .fits in
     omega (
       arith,
-      start .pre .0 .fits .size-high,
-      map-index-fits g (start .pre .0 .fits) (start .args .number .0),
+      fits .size-high,
+      map-index-fits (geometryOf (start .args .g)) fits (start .args .number .0),
     )
 
 slot-start-requires : tie.Need-slot-start-requires
 slot-start-requires c κs = search needs
 
+-- the map block stands on the disk
+inside :
+    (c : tie.After-struct-known2) →
+    let args = startOf c .args in
+    1 + args .number .0 / (args .g .«block_size» / 4) < blockCount (geometryOf (args .g))
+inside c =
+    let start = startOf c in
+    omega (
+      arith,
+      mapAddress-lt (geometryOf (start .args .g)) (start .pre .0 .fits) (start .args .number .0)
+          (start .pre .1 .0),
+    )
+
 store-changed-requires : tie.Need-store-changed-requires
 store-changed-requires c κs =
-    let start = c .before .before .before .before .before .before .before .before in
-    let g = geometryOf (start .args .g) in (
-      start .pre .0,
-      (
-        omega (arith, mapAddress-lt g (start .pre .0 .fits) (start .args .number .0) (start .pre .1 .0)),
-        (map-index-fits g (start .pre .0 .fits) (start .args .number .0), start .pre .1 .1 .1),
-      ),
-    )
+    let known = after-start c .before .before in
+    let start = startOf known in
+    let index-fits = map-index-fits (geometryOf (start .args .g)) (start .pre .0 .fits) in
+    (start .pre .0, (inside known, (index-fits (start .args .number .0), start .pre .1 .1 .1)))
 
 same-length : tie.Need-same-length
 same-length c = search needs
@@ -55,11 +75,14 @@ same-length c = search needs
 same-length-2 : tie.Need-same-length-2
 same-length-2 c = search needs
 
+same-length-3 : tie.Need-same-length-3
+same-length-3 c = search needs
+
 returns : tie.Need-returns
 returns c =
-    let stored = c .before .before .before .before in
-    let placed = stored .before .before .before in
-    let start = placed .before .before .before .before .before .before .args in
+    let stored = after-store c in
+    let placed = after-start (stored .before) in
+    let start = startOf (placed .before .before) .args in
     made-store
     (mapStore-changed (geometryOf (start .g)) (start .disk .now) (start .number .0) (start .slot)
     (placed .slot-start .result .0) (placed .slot-start .ensures))
@@ -68,5 +91,5 @@ returns c =
 pub store-entry-spec : {M : Type 1} → statement M
 store-entry-spec =
     tie.close
-    (tie.spec div-t11 add-t12 rem-index cast-index slot-start-requires store-changed-requires same-length
-    same-length-2 returns)
+    (tie.spec div-t12 add-t13 rem-index cast-index slot-start-requires store-changed-requires same-length
+    same-length-2 same-length-3 returns)

@@ -1,49 +1,109 @@
--- `rounds::runs::do_rounds` meets its contract. Invariant: the rounds done and the rest of the run from here are the whole
+-- `do_rounds` meets its contract. Invariant: the rounds done and the rest of the run from here are the whole
 -- run, and the buffers are as long as they were. The measure is the slots left. Assumes nothing.
-use mathlib.Core.Path.{_≡_, refl, sym, ap, subst, _∙_}
-use Prim.Native.Nat.{ℕ, _+_, _*_, _-_, _^_, _≤_, _<_}
+use mathlib.Core.Path.{refl, sym, ap, subst, _∙_}
+use Prim.Native.Nat.{ℕ, _+_, _*_, _-_, _^_, _≤_}
 use native.Mathlib.Nat.{mul-le-mul}
 use native.Mathlib.Omega.{arith}
 use lib.ListN.{length, drop}
 use borrow.Author.Needs.{needs}
 use borrow.Author.Tests.{not-true, not-false}
+use Rattle.model.specs.Geometry.{Geometry}
 use Rattle.model.specs.Blocks.{Bytes}
 use Rattle.model.specs.Rounds.{Run}
 use Rattle.layout.specs.Geometries.{geometryOf}
-use Rattle.rounds.specs.States.{stateOf}
+use Rattle.plans.specs.States.{stateOf}
 use Rattle.rounds.specs.Rounds.{roundAt, Ready, Stepped}
-use Rattle.rounds.proofs.Laws.Runs.{Going, Looping, theRun, lent-rest, going-none, going-over, made-over}
-use Rattle.rounds.proofs.Laws.Runs.{random-from, round-room}
-use Rattle.rounds.proofs.Laws.Runs.{round-ready, run-ends, made-ends, going-next}
+use Rattle.rounds.proofs.Laws.Runs.{Looping, theRun, lent-rest, going-none, going-over, made-over}
+use Rattle.rounds.proofs.Laws.Runs.{random-from, round-room, round-ready, run-ends, made-ends}
+use Rattle.rounds.proofs.Laws.Runs.{going-next}
 use Rattle.rounds.proofs.runs.do_rounds.Statement.{statement}
 use Rattle.rounds.proofs.runs.do_rounds.Tie as tie
-use Rattle.rounds.proofs.runs.do_rounds.Reads as reads
-use Rattle.rounds.proofs.runs.do_rounds.Lts as lts
-use Rattle.rounds.proofs.rounds.do_round.Reads as do-round-reads
 
 abbrev Inv-loop : tie.InvT-loop
-Inv-loop disk₀ list₀ next g number head content random offered hidden nodes₀ block₀ slots width slot₀ at₀ reached₀ done₀ disk list nodes block slot at reached done =
+Inv-loop disk₀ list₀ next g number head content random offered hidden nodes₀ block₀ slots width slot₀ at₀
+    reached₀ done₀ disk list nodes block slot at reached done =
     Looping (geometryOf g) (number .0) content random hidden (offered .0)
-    (theRun (geometryOf g) (number .0) content random hidden (offered .0) disk₀ head list₀ next reached₀) disk₀ list₀ next
-    nodes₀ block₀ disk list nodes block slot at reached done
+    (theRun (geometryOf g) (number .0) content random hidden (offered .0) disk₀ head list₀ next reached₀)
+    disk₀
+    list₀ next nodes₀ block₀ disk list nodes block slot at reached done
 
 abbrev μ-loop : tie.MeasureT-loop
-μ-loop disk₀ list₀ next g number head content random offered hidden nodes₀ block₀ slots width slot₀ at₀ reached₀ done₀ disk list nodes block slot at reached done = slots - done
+μ-loop disk₀ list₀ next g number head content random offered hidden nodes₀ block₀ slots width slot₀ at₀
+    reached₀ done₀ disk list nodes block slot at reached done = slots - done
+
+-- ---- places ----
+
+abbrev at-lent : tie.After-struct-known2 Inv-loop μ-loop → tie.After-shared-slice-known3 Inv-loop μ-loop
+at-lent c = c .before .before .before .before
+
+abbrev at-list : tie.After-struct-known2 Inv-loop μ-loop → tie.After-slice-known2 Inv-loop μ-loop
+at-list c = at-lent c .before .before .before
+
+abbrev at-start : tie.After-struct-known2 Inv-loop μ-loop → tie.Start Inv-loop μ-loop
+at-start c = at-list c .before .before
+
+-- the arguments, seen from the loop
+abbrev start-of : tie.At-loop Inv-loop μ-loop → tie.Start Inv-loop μ-loop
+start-of c = at-start (c .before)
+
+abbrev at-random : tie.After-do-round-arg5 Inv-loop μ-loop → tie.After-do-round-arg2 Inv-loop μ-loop
+at-random c = c .before .before .before
+
+abbrev test-of : tie.After-do-round-arg5 Inv-loop μ-loop → tie.In-loop Inv-loop μ-loop
+test-of c = at-random c .before .before
+
+abbrev at-test : tie.After-do-round Inv-loop μ-loop → tie.In-loop Inv-loop μ-loop
+at-test c = test-of (c .before)
+
+abbrev at-turn : tie.After-do-round Inv-loop μ-loop → tie.At-loop Inv-loop μ-loop
+at-turn c = at-test c .before
+
+abbrev at-block : tie.After-struct-known3 Inv-loop μ-loop → tie.After-block Inv-loop μ-loop
+at-block c = c .before .before .before
+
+abbrev at-entries : tie.After-struct-known3 Inv-loop μ-loop → tie.After-list Inv-loop μ-loop
+at-entries c = at-block c .before .before .before .before
+
+-- the round of this turn
+abbrev at-round : tie.After-struct-known3 Inv-loop μ-loop → tie.After-do-round Inv-loop μ-loop
+at-round c = at-entries c .before .before .before
+
+-- ---- what is known there ----
+
+abbrev shape-of : tie.At-loop Inv-loop μ-loop → Geometry
+shape-of c = geometryOf (start-of c .args .g)
+
+-- where this round's random bytes begin
+abbrev from-of : tie.At-loop Inv-loop μ-loop → ℕ
+from-of c = c .loop .done * (shape-of c .height * shape-of c .blockSize)
 
 -- what a round has done, with the random bytes from its place on
 stepped :
     (c : tie.After-do-round Inv-loop μ-loop) →
-    let s = c .before .before .before .before .before .before .before .before .before .before .before .before .before .before .before .before .before in
-    let l = c .before .before .before .before .before .before .before .loop in
-    Stepped (geometryOf (s .args .g)) (l .disk) (l .list) (l .at) (s .args .number .0) (l .slot) (s .args .content .now)
-    (drop (l .done * (s .args .g .height * s .args .g .«block_size»)) (s .args .random .now)) (l .reached) (s .args .offered .0) (s .args .hidden .now)
+    let s = start-of (at-turn c) .args in
+    let l = at-turn c .loop in
+    Stepped (shape-of (at-turn c)) (l .disk) (l .list) (l .at) (s .number .0) (l .slot) (s .content .now)
+    (drop (from-of (at-turn c)) (s .random .now)) (l .reached) (s .offered .0) (s .hidden .now)
     (c .do-round .last .0) (c .do-round .last .1 .0) (c .do-round .result)
 stepped c =
-    let s = c .before .before .before .before .before .before .before .before .before .before .before .before .before .before .before .before .before in
-    let l = c .before .before .before .before .before .before .before .loop in
-    subst (λ (xs : Bytes). Stepped (geometryOf (s .args .g)) (l .disk) (l .list) (l .at) (s .args .number .0) (l .slot)
-    (s .args .content .now) xs (l .reached) (s .args .offered .0) (s .args .hidden .now) (c .do-round .last .0)
-    (c .do-round .last .1 .0) (c .do-round .result)) (lent-rest (s .args .random .now) (l .done * (s .args .g .height * s .args .g .«block_size»))) (c .do-round .ensures)
+    let s = start-of (at-turn c) .args in
+    let l = at-turn c .loop in
+    subst (λ (bytes : Bytes).
+    Stepped (shape-of (at-turn c)) (l .disk) (l .list) (l .at) (s .number .0) (l .slot) (s .content .now)
+    bytes
+    (l .reached) (s .offered .0) (s .hidden .now) (c .do-round .last .0) (c .do-round .last .1 .0)
+    (c .do-round .result))
+    (lent-rest (s .random .now) (from-of (at-turn c))) (c .do-round .ensures)
+
+-- the random bytes of this round are lent
+random-inside :
+    (c : tie.In-loop Inv-loop μ-loop) →
+    from-of (c .before) + shape-of (c .before) .height * shape-of (c .before) .blockSize ≤
+    length (start-of (c .before) .args .random .now)
+random-inside c =
+    random-from (start-of (c .before) .pre .0) (c .before .loop .inv .going) (c .loop-test .taken)
+
+-- ---- before the loop ----
 
 cast-width : tie.Need-cast-width Inv-loop μ-loop
 cast-width c = search needs
@@ -52,89 +112,65 @@ cast-width-2 : tie.Need-cast-width-2 Inv-loop μ-loop
 cast-width-2 c = search needs
 
 mul-width : tie.Need-mul-width Inv-loop μ-loop
-mul-width c = let f = c .before .before .before .before .before .before .before .before .before .pre .0 .drive .fits in omega (arith, mul-le-mul (f .height-high) (f .size-high))
+mul-width c =
+    let f = at-start c .pre .0 .drive .fits in omega (arith, mul-le-mul (f .height-high) (f .size-high))
 
 loop-holds : tie.Need-loop-holds Inv-loop μ-loop
 loop-holds c =
-    let s = c .before .before .before .before .before .before .before .before .before in
+    let s = at-start c .args in
     record {
       going =
-          going-none (geometryOf (s .args .g)) (s .args .number .0) (s .args .content .now) (s .args .random .now)
-          (s .args .hidden .now) (s .args .offered .0) (s .args .disk .now) (s .args .head) (s .args .list .now)
-          (s .args .next) (s .args .state) (s .pre .0);
+          going-none (geometryOf (s .g)) (s .number .0) (s .content .now) (s .random .now) (s .hidden .now)
+          (s .offered .0) (s .disk .now) (s .head) (s .list .now) (s .next) (s .state) (at-start c .pre .0);
       disk-kept = refl;
       nodes-kept = refl;
       block-kept = refl;
     }
+
+-- ---- a round ----
 
 cast-from : tie.Need-cast-from Inv-loop μ-loop
 cast-from c = search needs
 
 mul-from : tie.Need-mul-from Inv-loop μ-loop
 mul-from c =
-    let s = c .before .before .before .before .before .before .before .before .before .before .before in
-    let l = c .before .loop in
-    let most : l .done ≤ 2 ^ 31 = omega (arith, l .inv .going .within, s .pre .0 .drive .fits .blocks-high) in
-    let f = s .pre .0 .drive .fits in
-    let wide : s .args .g .height * s .args .g .«block_size» ≤ 4 * 4096 = mul-le-mul (f .height-high) (f .size-high) in
+    let f = start-of (c .before) .pre .0 .drive .fits in
+    let most : c .before .loop .done ≤ 2 ^ 31 =
+    omega (arith, c .before .loop .inv .going .within, f .blocks-high) in
+    let wide : shape-of (c .before) .height * shape-of (c .before) .blockSize ≤ 4 * 4096 =
+    mul-le-mul (f .height-high) (f .size-high) in
     omega (arith, mul-le-mul most wide)
 
 sub-do-round : tie.Need-sub-do-round Inv-loop μ-loop
-sub-do-round c =
-    let s = c .before .before .before .before .before .before .before .before .before .before .before .before .before in
-    let l = c .before .before .before .loop in
-    omega (
-      arith,
-      random-from (geometryOf (s .args .g)) (s .args .number .0) (s .args .content .now) (s .args .random .now) (s .args .hidden .now)
-          (s .args .offered .0) (theRun (geometryOf (s .args .g)) (s .args .number .0) (s .args .content .now) (s .args .random .now)
-          (s .args .hidden .now) (s .args .offered .0) (s .args .disk .now) (s .args .head) (s .args .list .now)
-          (s .args .next) (s .args .state)) (s .args .disk .now) (s .args .list .now) (s .args .next) (s .pre .0 .number-inside)
-          (s .pre .0 .content-whole) (s .pre .0 .hidden-whole) (s .pre .0 .random-enough) (s .pre .0 .room-enough) (l .disk)
-          (l .list) (l .slot) (l .at) (l .reached) (l .done) (l .inv .going) (c .before .before .loop-test .taken),
-    )
+sub-do-round c = omega (arith, random-inside (c .before .before))
 
 part-do-round-start : tie.Need-part-do-round-start Inv-loop μ-loop
-part-do-round-start c =
-    let s = c .before .before .before .before .before .before .before .before .before .before .before .before .before in
-    let l = c .before .before .before .loop in
-    omega (
-      arith,
-      random-from (geometryOf (s .args .g)) (s .args .number .0) (s .args .content .now) (s .args .random .now) (s .args .hidden .now)
-          (s .args .offered .0) (theRun (geometryOf (s .args .g)) (s .args .number .0) (s .args .content .now) (s .args .random .now)
-          (s .args .hidden .now) (s .args .offered .0) (s .args .disk .now) (s .args .head) (s .args .list .now)
-          (s .args .next) (s .args .state)) (s .args .disk .now) (s .args .list .now) (s .args .next) (s .pre .0 .number-inside)
-          (s .pre .0 .content-whole) (s .pre .0 .hidden-whole) (s .pre .0 .random-enough) (s .pre .0 .room-enough) (l .disk)
-          (l .list) (l .slot) (l .at) (l .reached) (l .done) (l .inv .going) (c .before .before .loop-test .taken),
-    )
+part-do-round-start c = omega (arith, random-inside (c .before .before))
 
 part-do-round-end : tie.Need-part-do-round-end Inv-loop μ-loop
 part-do-round-end c = omega arith
 
 do-round-requires : tie.Need-do-round-requires Inv-loop μ-loop
 do-round-requires c κs =
-    let s = c .before .before .before .before .before .before .before .before .before .before .before .before .before .before .before .before in
-    let l = c .before .before .before .before .before .before .loop in
-    let from = l .done * (s .args .g .height * s .args .g .«block_size») in
-    let e = sym (lent-rest (s .args .random .now) from) in (
-      subst (λ (xs : Bytes). Ready (geometryOf (s .args .g)) (l .disk) (s .args .number .0) (l .slot)
-          (s .args .content .now) xs (s .args .hidden .now)) e (round-ready (geometryOf (s .args .g)) (s .args .number .0) (s .args .content .now) (s .args .random .now) (s .args .hidden .now)
-          (s .args .offered .0) (theRun (geometryOf (s .args .g)) (s .args .number .0) (s .args .content .now) (s .args .random .now)
-          (s .args .hidden .now) (s .args .offered .0) (s .args .disk .now) (s .args .head) (s .args .list .now)
-          (s .args .next) (s .args .state)) (s .args .disk .now) (s .args .list .now) (s .args .next) (s .pre .0 .number-inside)
-          (s .pre .0 .content-whole) (s .pre .0 .hidden-whole) (s .pre .0 .random-enough) (s .pre .0 .room-enough) (l .disk)
-          (l .list) (l .slot) (l .at) (l .reached) (l .done) (l .inv .going) (c .before .before .before .before .before .loop-test .taken)),
+    let test = test-of c in
+    let turn = test .before in
+    let s = start-of turn in
+    let l = turn .loop in
+    let e = sym (lent-rest (s .args .random .now) (from-of turn)) in (
+      subst (λ (bytes : Bytes).
+          Ready (shape-of turn) (l .disk) (s .args .number .0) (l .slot) (s .args .content .now) bytes
+          (s .args .hidden .now)) e
+          (round-ready (s .pre .0) (l .inv .going) (test .loop-test .taken)),
       (
         l .inv .nodes-kept ∙ s .pre .1 .0,
         (
           l .inv .block-kept ∙ s .pre .1 .1,
-          subst (λ (xs : Bytes). l .at + length (roundAt (geometryOf (s .args .g)) (l .disk) (s .args .number .0) (l .slot)
-              (s .args .content .now) xs (stateOf (l .reached) (s .args .offered .0) (s .args .hidden .now))) ≤ length (l .list)) e
-              (round-room (geometryOf (s .args .g)) (s .args .number .0) (s .args .content .now) (s .args .random .now) (s .args .hidden .now)
-              (s .args .offered .0) (theRun (geometryOf (s .args .g)) (s .args .number .0) (s .args .content .now) (s .args .random .now)
-              (s .args .hidden .now) (s .args .offered .0) (s .args .disk .now) (s .args .head) (s .args .list .now)
-              (s .args .next) (s .args .state)) (s .args .disk .now) (s .args .list .now) (s .args .next) (s .pre .0 .number-inside)
-              (s .pre .0 .content-whole) (s .pre .0 .hidden-whole) (s .pre .0 .random-enough) (s .pre .0 .room-enough) (l .disk)
-              (l .list) (l .slot) (l .at) (l .reached) (l .done) (l .inv .going) (c .before .before .before .before .before .loop-test .taken)),
+          subst (λ (bytes : Bytes).
+              l .at + length (roundAt (shape-of turn) (l .disk) (s .args .number .0) (l .slot)
+              (s .args .content .now) bytes (stateOf (l .reached) (s .args .offered .0)
+              (s .args .hidden .now))) ≤
+              length (l .list)) e
+              (round-room (s .pre .0) (l .inv .going) (test .loop-test .taken)),
         ),
       ),
     )
@@ -142,39 +178,51 @@ do-round-requires c κs =
 add-done : tie.Need-add-done Inv-loop μ-loop
 add-done c = omega arith
 
+-- ---- the last round ----
+
 same-length : tie.Need-same-length Inv-loop μ-loop
-same-length c = omega (arith, c .before .before .before .before .before .before .before .before .before .before .before .do-round .kept .0, c .before .before .before .before .before .before .before .before .before .before .before .before .before .before .before .before .before .before .loop .inv .disk-kept)
+same-length c =
+    let round = at-round (c .before) in
+    omega (arith, round .do-round .kept .0, at-turn round .loop .inv .disk-kept)
 
 same-length-2 : tie.Need-same-length-2 Inv-loop μ-loop
-same-length-2 c = omega (arith, c .before .before .before .before .before .before .before .before .before .before .before .do-round .kept .1 .0, c .before .before .before .before .before .before .before .before .before .before .before .before .before .before .before .before .before .before .loop .inv .going .list-kept)
+same-length-2 c =
+    let round = at-round (c .before) in
+    omega (arith, round .do-round .kept .1 .0, at-turn round .loop .inv .going .list-kept)
 
 same-length-3 : tie.Need-same-length-3 Inv-loop μ-loop
-same-length-3 c = omega (arith, c .before .before .before .before .before .before .before .before .before .before .before .do-round .kept .1 .1 .1 .1 .1 .1 .1 .1 .1 .1 .1 .0, c .before .before .before .before .before .before .before .before .before .before .before .before .before .before .before .before .before .before .loop .inv .nodes-kept)
+same-length-3 c =
+    let round = at-round (c .before) in
+    omega (
+      arith,
+      round .do-round .kept .1 .1 .1 .1 .1 .1 .1 .1 .1 .1 .1 .0,
+      at-turn round .loop .inv .nodes-kept,
+    )
 
 same-length-4 : tie.Need-same-length-4 Inv-loop μ-loop
-same-length-4 c = omega (arith, c .before .before .before .before .before .before .before .before .before .before .before .do-round .kept .1 .1 .1 .1 .1 .1 .1 .1 .1 .1 .1 .1 .0, c .before .before .before .before .before .before .before .before .before .before .before .before .before .before .before .before .before .before .loop .inv .block-kept)
+same-length-4 c =
+    let round = at-round (c .before) in
+    omega (
+      arith,
+      round .do-round .kept .1 .1 .1 .1 .1 .1 .1 .1 .1 .1 .1 .1 .0,
+      at-turn round .loop .inv .block-kept,
+    )
 
 returns : tie.Need-returns Inv-loop μ-loop
 returns c =
-    let s = c .before .before .before .before .before .before .before .before .before .before .before .before .before .before .before .before .before .before .before .before .before .before .before .before .before .before .before .before in
-    let l = c .before .before .before .before .before .before .before .before .before .before .before .before .before .before .before .before .before .before .loop in
-    let e = not-true (c .before .before .before .before .before .before .before .before .before .before .before .do-round .result .«goes_on») (c .if1 .taken) in
-    let ended = run-ends (geometryOf (s .args .g)) (s .args .number .0) (s .args .content .now) (s .args .random .now) (s .args .hidden .now)
-    (s .args .offered .0) (theRun (geometryOf (s .args .g)) (s .args .number .0) (s .args .content .now) (s .args .random .now)
-    (s .args .hidden .now) (s .args .offered .0) (s .args .disk .now) (s .args .head) (s .args .list .now)
-    (s .args .next) (s .args .state)) (s .args .disk .now) (s .args .list .now) (s .args .next) (s .pre .0 .number-inside)
-    (s .pre .0 .content-whole) (s .pre .0 .hidden-whole) (s .pre .0 .random-enough) (s .pre .0 .room-enough) (l .disk)
-    (l .list) (l .slot) (l .at) (l .reached) (l .done) (l .inv .going) (c .before .before .before .before .before .before .before .before .before .before .before .before .before .before .before .before .before .loop-test .taken) (c .before .before .before .before .before .before .before .before .before .before .before .do-round .last .0) (c .before .before .before .before .before .before .before .before .before .before .before .do-round .last .1 .0) (c .before .before .before .before .before .before .before .before .before .before .before .do-round .result) (stepped (c .before .before .before .before .before .before .before .before .before .before .before)) e in
+    let round = at-round (c .before) in
+    let ready = start-of (at-turn round) .pre .0 in
+    let going = at-turn round .loop .inv .going in
+    let more = at-test round .loop-test .taken in
+    let e = not-true (round .do-round .result .«goes_on») (c .if1 .taken) in
+    let ended = run-ends ready going more (stepped round) e in
     record {
-      made = made-ends (geometryOf (s .args .g)) (s .args .number .0) (s .args .content .now) (s .args .random .now) (s .args .hidden .now)
-          (s .args .offered .0) (theRun (geometryOf (s .args .g)) (s .args .number .0) (s .args .content .now) (s .args .random .now)
-          (s .args .hidden .now) (s .args .offered .0) (s .args .disk .now) (s .args .head) (s .args .list .now)
-          (s .args .next) (s .args .state)) (s .args .disk .now) (s .args .list .now) (s .args .next) (s .pre .0 .number-inside)
-          (s .pre .0 .content-whole) (s .pre .0 .hidden-whole) (s .pre .0 .random-enough) (s .pre .0 .room-enough) (l .disk)
-          (l .list) (l .slot) (l .at) (l .reached) (l .done) (l .inv .going) (c .before .before .before .before .before .before .before .before .before .before .before .before .before .before .before .before .before .loop-test .taken) (c .before .before .before .before .before .before .before .before .before .before .before .do-round .last .0) (c .before .before .before .before .before .before .before .before .before .before .before .do-round .last .1 .0) (c .before .before .before .before .before .before .before .before .before .before .before .do-round .result) (stepped (c .before .before .before .before .before .before .before .before .before .before .before)) e;
+      made = made-ends ready going more (stepped round) e;
       rounds-are = sym (ap (λ (r : Run). r .rounds) ended);
       state-is = sym (ap (λ (r : Run). r .state) ended);
     }
+
+-- ---- another round ----
 
 add-slot : tie.Need-add-slot Inv-loop μ-loop
 add-slot c = omega arith
@@ -187,20 +235,19 @@ loop-less c = omega arith
 
 loop-again : tie.Need-loop-again Inv-loop μ-loop
 loop-again c =
-    let s = c .before .before .before .before .before .before .before .before .before .before .before .before .before .before .before .before .before .before .before .before .before .before .before .before .before .before .before .before in
-    let l = c .before .before .before .before .before .before .before .before .before .before .before .before .before .before .before .before .before .before .loop in
-    let done = c .before .before .before .before .before .before .before .before .before .before .before .do-round in
+    let round = at-round (c .before) in
+    let kept = round .do-round .kept in
+    let inv = at-turn round .loop .inv in
     record {
-      going = going-next (geometryOf (s .args .g)) (s .args .number .0) (s .args .content .now) (s .args .random .now) (s .args .hidden .now)
-          (s .args .offered .0) (theRun (geometryOf (s .args .g)) (s .args .number .0) (s .args .content .now) (s .args .random .now)
-          (s .args .hidden .now) (s .args .offered .0) (s .args .disk .now) (s .args .head) (s .args .list .now)
-          (s .args .next) (s .args .state)) (s .args .disk .now) (s .args .list .now) (s .args .next) (s .pre .0 .number-inside)
-          (s .pre .0 .content-whole) (s .pre .0 .hidden-whole) (s .pre .0 .random-enough) (s .pre .0 .room-enough) (l .disk)
-          (l .list) (l .slot) (l .at) (l .reached) (l .done) (l .inv .going) (c .before .before .before .before .before .before .before .before .before .before .before .before .before .before .before .before .before .loop-test .taken) (c .before .before .before .before .before .before .before .before .before .before .before .do-round .last .0) (c .before .before .before .before .before .before .before .before .before .before .before .do-round .last .1 .0) (c .before .before .before .before .before .before .before .before .before .before .before .do-round .result) (stepped (c .before .before .before .before .before .before .before .before .before .before .before)) (not-false (done .result .«goes_on») (c .if1 .left));
-      disk-kept = done .kept .0 ∙ l .inv .disk-kept;
-      nodes-kept = done .kept .1 .1 .1 .1 .1 .1 .1 .1 .1 .1 .1 .0 ∙ l .inv .nodes-kept;
-      block-kept = done .kept .1 .1 .1 .1 .1 .1 .1 .1 .1 .1 .1 .1 .0 ∙ l .inv .block-kept;
+      going =
+          going-next (start-of (at-turn round) .pre .0) (inv .going) (at-test round .loop-test .taken)
+          (stepped round) (not-false (round .do-round .result .«goes_on») (c .if1 .left));
+      disk-kept = kept .0 ∙ inv .disk-kept;
+      nodes-kept = kept .1 .1 .1 .1 .1 .1 .1 .1 .1 .1 .1 .0 ∙ inv .nodes-kept;
+      block-kept = kept .1 .1 .1 .1 .1 .1 .1 .1 .1 .1 .1 .1 .0 ∙ inv .block-kept;
     }
+
+-- ---- every slot passed ----
 
 same-length-5 : tie.Need-same-length-5 Inv-loop μ-loop
 same-length-5 c = omega (arith, c .before .loop .inv .disk-kept)
@@ -216,21 +263,11 @@ same-length-8 c = omega (arith, c .before .loop .inv .block-kept)
 
 returns-2 : tie.Need-returns-2 Inv-loop μ-loop
 returns-2 c =
-    let s = c .before .before .before .before .before .before .before .before .before .before .before in
-    let l = c .before .loop in
-    let over = going-over (geometryOf (s .args .g)) (s .args .number .0) (s .args .content .now) (s .args .random .now) (s .args .hidden .now)
-    (s .args .offered .0) (theRun (geometryOf (s .args .g)) (s .args .number .0) (s .args .content .now) (s .args .random .now)
-    (s .args .hidden .now) (s .args .offered .0) (s .args .disk .now) (s .args .head) (s .args .list .now)
-    (s .args .next) (s .args .state)) (s .args .disk .now) (s .args .list .now) (s .args .next) (s .pre .0 .number-inside)
-    (s .pre .0 .content-whole) (s .pre .0 .hidden-whole) (s .pre .0 .random-enough) (s .pre .0 .room-enough) (l .disk)
-    (l .list) (l .slot) (l .at) (l .reached) (l .done) (l .inv .going) (c .loop-test .left) in
+    let ready = start-of (c .before) .pre .0 in
+    let going = c .before .loop .inv .going in
+    let over = going-over ready going (c .loop-test .left) in
     record {
-      made = made-over (geometryOf (s .args .g)) (s .args .number .0) (s .args .content .now) (s .args .random .now) (s .args .hidden .now)
-          (s .args .offered .0) (theRun (geometryOf (s .args .g)) (s .args .number .0) (s .args .content .now) (s .args .random .now)
-          (s .args .hidden .now) (s .args .offered .0) (s .args .disk .now) (s .args .head) (s .args .list .now)
-          (s .args .next) (s .args .state)) (s .args .disk .now) (s .args .list .now) (s .args .next) (s .pre .0 .number-inside)
-          (s .pre .0 .content-whole) (s .pre .0 .hidden-whole) (s .pre .0 .random-enough) (s .pre .0 .room-enough) (l .disk)
-          (l .list) (l .slot) (l .at) (l .reached) (l .done) (l .inv .going) (c .loop-test .left);
+      made = made-over ready going (c .loop-test .left);
       rounds-are = sym (ap (λ (r : Run). r .rounds) over);
       state-is = sym (ap (λ (r : Run). r .state) over);
     }

@@ -10,12 +10,36 @@ use Rattle.script.specs.Feeding.{inNames, inLine, step, cut, readingIn}
 use Rattle.script.proofs.feeding.feed_byte.Statement.{statement}
 use Rattle.script.proofs.feeding.feed_byte.Tie as tie
 
+-- ---- the places on the way, each named from a later one ----
+
+-- in the line of names
+abbrev startOfNames : tie.After-enum-told → tie.Start
+startOfNames c = c .before .before .before
+
+-- inside a line
+abbrev startOfInside : tie.After-state → tie.Start
+startOfInside c = c .before .before .before
+
+abbrev insideOf : tie.After-feed-line → tie.After-state
+insideOf c = c .before .before .before
+
+-- after a line
+abbrev startOfEnded : tie.After-enum-told2 → tie.Start
+startOfEnded c = c .before .before .before
+
+abbrev endedOf : tie.After-feed-line2 → tie.After-enum-told2
+endedOf c = c .before .before
+
+-- ---- what is known there ----
+
 -- what one more byte does is known from what the state is
 along :
     (s : tie.Start) (state : Feed) → s .args .state ≡ state →
     cut (step (readingIn state (s .args .buffer .now)) (s .args .byte)) ≡
     cut (step (readingIn (s .args .state) (s .args .buffer .now)) (s .args .byte))
 along s state e = ap (λ (st : Feed). cut (step (readingIn st (s .args .buffer .now)) (s .args .byte))) (sym e)
+
+-- ---- answers ----
 
 enum-told : tie.Need-enum-told
 enum-told c = search needs
@@ -34,13 +58,13 @@ feed-line-requires-2 c κs = search needs
 
 returns : tie.Need-returns
 returns c =
-    let s = c .before .before .before .before in
+    let s = startOfNames (c .before) in
     ap cut (sym (cond-true (inLine []) inNames (eq-eqb (s .args .byte) newline (c .if1 .taken))))
     ∙ along s _ (c .before .enum-told .given .1)
 
 returns-2 : tie.Need-returns-2
 returns-2 c =
-    let s = c .before .before .before .before in
+    let s = startOfNames (c .before) in
     ap cut (sym (cond-false (inLine []) inNames (ne-eqb (s .args .byte) newline (c .if1 .left))))
     ∙ along s _ (c .before .enum-told .given .1)
 
@@ -49,18 +73,16 @@ same-length c = search needs
 
 returns-3 : tie.Need-returns-3
 returns-3 c =
-    c .before .before .feed-line .ensures
-    ∙ along (c .before .before .before .before .before .before .before .before) _
-    (c .before .before .before .before .before .state .given .1)
+    let inside = insideOf (c .before .before) in
+    c .before .before .feed-line .ensures ∙ along (startOfInside inside) _ (inside .state .given .1)
 
 same-length-2 : tie.Need-same-length-2
 same-length-2 c = search needs
 
 returns-4 : tie.Need-returns-4
 returns-4 c =
-    c .before .before .feed-line2 .ensures
-    ∙ along (c .before .before .before .before .before .before .before) _
-    (c .before .before .before .before .enum-told2 .given .1)
+    let ended = endedOf (c .before .before) in
+    c .before .before .feed-line2 .ensures ∙ along (startOfEnded ended) _ (ended .enum-told2 .given .1)
 
 pub feed-byte-spec : {M : Type 1} → statement M
 feed-byte-spec =

@@ -21,73 +21,84 @@ Inv-loop bytes len value₀ i₀ value i = Digits bytes value i
 abbrev μ-loop : tie.MeasureT-loop
 μ-loop bytes len value₀ i₀ value i = length bytes - i
 
--- ---- places ----
+-- ---- the places on the way, each named from a later one ----
 
-abbrev bytes-at : tie.At-loop Inv-loop μ-loop → Bytes
-bytes-at c = c .before .before .before .before .before .before .args .bytes .now
+abbrev startOf : tie.Else1 Inv-loop μ-loop → tie.Start Inv-loop μ-loop
+startOf c = c .before .before .before
+
+-- the bytes are not `-`, not none and not too many
+abbrev passedOf : tie.At-loop Inv-loop μ-loop → tie.Else1 Inv-loop μ-loop
+passedOf c = c .before .before .before
+
+abbrev bytesOf : tie.At-loop Inv-loop μ-loop → Bytes
+bytesOf c = startOf (passedOf c) .args .bytes .now
+
+-- a byte is at least `0`
+abbrev turnOf : tie.Else4 Inv-loop μ-loop → tie.In-loop Inv-loop μ-loop
+turnOf c = c .before .before
+
+-- ---- what is known there ----
 
 -- the bytes are not `-`
-no-dash : (c : tie.Else1 Inv-loop μ-loop) → isDash (c .before .before .before .args .bytes .now) ≡ false
+no-dash : (c : tie.Else1 Inv-loop μ-loop) → isDash (startOf c .args .bytes .now) ≡ false
 no-dash c = sym (c .before .is-dash .ensures) ∙ c .if1 .left
 
 -- a byte of the loop is no digit
 not-digit :
-    (c : tie.At-loop Inv-loop μ-loop) → c .loop .i < length (bytes-at c) →
-    isDigit (getD (bytes-at c) (c .loop .i) 0) ≡ false → other ≡ fieldOf (bytes-at c)
-not-digit c inside e =
-    sym (fieldOf-other (bytes-at c) (no-dash (c .before .before .before))
-    (isNumber-letter (bytes-at c) (isDigits-other (bytes-at c) (c .loop .i) inside e)))
+    (c : tie.In-loop Inv-loop μ-loop) → isDigit (getD (bytesOf (c .before)) (c .before .loop .i) 0) ≡ false →
+    other ≡ fieldOf (bytesOf (c .before))
+not-digit c e =
+    let bytes = bytesOf (c .before) in
+    sym (fieldOf-other bytes (no-dash (passedOf (c .before)))
+    (isNumber-letter bytes (isDigits-other bytes (c .before .loop .i) (c .loop-test .taken) e)))
 
 -- the number so far has room for one more digit
-small : (c : tie.At-loop Inv-loop μ-loop) → c .loop .i < length (bytes-at c) → c .loop .value < 10 ^ 8
-small c inside = digits-room (bytes-at c) (c .loop .value) (c .loop .i) (c .loop .inv) (omega arith)
+small : (c : tie.In-loop Inv-loop μ-loop) → c .before .loop .value < 10 ^ 8
+small c =
+    let at = c .before .loop in
+    digits-room (bytesOf (c .before)) (at .value) (at .i) (at .inv) (omega (arith, c .loop-test .taken))
 
--- ---- the answers ----
+-- ---- answers ----
 
 is-dash-requires : tie.Need-is-dash-requires Inv-loop μ-loop
 is-dash-requires c κs = search needs
 
 returns : tie.Need-returns Inv-loop μ-loop
 returns c =
-    sym (fieldOf-dash (c .before .before .before .args .bytes .now)
-    (sym (c .before .is-dash .ensures) ∙ c .if1 .taken))
+    let judged = c .before in
+    sym (fieldOf-dash (judged .before .before .args .bytes .now)
+    (sym (judged .is-dash .ensures) ∙ c .if1 .taken))
 
 returns-2 : tie.Need-returns-2 Inv-loop μ-loop
 returns-2 c =
-    let bytes = c .before .before .before .before .args .bytes .now in
+    let bytes = startOf (c .before) .args .bytes .now in
     sym (fieldOf-other bytes (no-dash (c .before)) (isNumber-empty bytes (c .if2 .taken)))
 
 returns-3 : tie.Need-returns-3 Inv-loop μ-loop
 returns-3 c =
-    let bytes = c .before .before .before .before .before .args .bytes .now in
+    let bytes = startOf (c .before .before) .args .bytes .now in
     sym (fieldOf-other bytes (no-dash (c .before .before)) (isNumber-long bytes (c .if3 .taken)))
 
 loop-holds : tie.Need-loop-holds Inv-loop μ-loop
-loop-holds c = digits-none (c .before .before .before .before .before .args .bytes .now)
+loop-holds c = digits-none (startOf (c .before .before) .args .bytes .now)
 
 shared-slice-read-byte : tie.Need-shared-slice-read-byte Inv-loop μ-loop
 shared-slice-read-byte c = search needs
 
 returns-4 : tie.Need-returns-4 Inv-loop μ-loop
-returns-4 c =
-    not-digit (c .before .before .before) (c .before .before .loop-test .taken)
-    (isDigit-low _ (c .if4 .taken))
+returns-4 c = not-digit (c .before .before) (isDigit-low _ (c .if4 .taken))
 
 returns-5 : tie.Need-returns-5 Inv-loop μ-loop
-returns-5 c =
-    not-digit (c .before .before .before .before) (c .before .before .before .loop-test .taken)
-    (isDigit-high _ (c .if5 .taken))
+returns-5 c = not-digit (turnOf (c .before)) (isDigit-high _ (c .if5 .taken))
 
 mul-value : tie.Need-mul-value Inv-loop μ-loop
-mul-value c =
-    omega (arith, small (c .before .before .before .before) (c .before .before .before .loop-test .taken))
+mul-value c = omega (arith, small (turnOf (c .before)))
 
 cast-value : tie.Need-cast-value Inv-loop μ-loop
 cast-value c = search needs
 
 add-value : tie.Need-add-value Inv-loop μ-loop
-add-value c =
-    omega (arith, small (c .before .before .before .before) (c .before .before .before .loop-test .taken))
+add-value c = omega (arith, small (turnOf (c .before)))
 
 add-i : tie.Need-add-i Inv-loop μ-loop
 add-i c = search needs
@@ -97,18 +108,20 @@ loop-less c = search needs
 
 loop-again : tie.Need-loop-again Inv-loop μ-loop
 loop-again c =
-    let turn = c .before .before .before .before in
-    digits-more (bytes-at turn) (turn .loop .value) (turn .loop .i) (turn .loop .inv)
-    (c .before .before .before .loop-test .taken) (c .before .if4 .left) (c .if5 .left)
+    let turn = turnOf (c .before) in
+    let at = turn .before .loop in
+    digits-more (bytesOf (turn .before)) (at .value) (at .i) (at .inv) (turn .loop-test .taken)
+    (c .before .if4 .left) (c .if5 .left)
 
 returns-6 : tie.Need-returns-6 Inv-loop μ-loop
 returns-6 c =
     let end = c .before in
-    let bytes = bytes-at end in
-    ap number (digits-value bytes (end .loop .value) (end .loop .i) (end .loop .inv) (c .loop-test .left))
-    ∙ sym (fieldOf-number bytes (no-dash (end .before .before .before))
+    let bytes = bytesOf end in
+    let at = end .loop in
+    ap number (digits-value bytes (at .value) (at .i) (at .inv) (c .loop-test .left))
+    ∙ sym (fieldOf-number bytes (no-dash (passedOf end))
     (isNumber-digits bytes (end .before .before .if2 .left) (end .before .if3 .left)
-    (digits-all bytes (end .loop .value) (end .loop .i) (end .loop .inv) (c .loop-test .left))))
+    (digits-all bytes (at .value) (at .i) (at .inv) (c .loop-test .left))))
 
 pub field-in-spec : {M : Type 1} → statement M
 field-in-spec =

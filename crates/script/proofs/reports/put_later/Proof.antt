@@ -14,6 +14,17 @@ Inv-loop out₀ at stores next₀ i₀ out next i = Listed stores out₀ at out 
 abbrev μ-loop : tie.MeasureT-loop
 μ-loop out₀ at stores next₀ i₀ out next i = length stores - i
 
+-- ---- the places on the way, each named from a later one ----
+
+abbrev startOf : tie.At-loop Inv-loop μ-loop → tie.Start Inv-loop μ-loop
+startOf c = c .before .before .before
+
+-- a store is to be put
+abbrev turnOf : tie.After-shared-slice-known2 Inv-loop μ-loop → tie.In-loop Inv-loop μ-loop
+turnOf c = c .before .before
+
+-- ---- answers ----
+
 loop-holds : tie.Need-loop-holds Inv-loop μ-loop
 loop-holds c =
     let start = c .before .before in
@@ -28,12 +39,8 @@ shared-slice-read-put-store c = search needs
 
 put-store-requires : tie.Need-put-store-requires Inv-loop μ-loop
 put-store-requires c κs =
-    omega (
-      arith,
-      c .before .before .before .loop .inv,
-      c .before .before .loop-test .taken,
-      c .before .before .before .before .before .before .pre,
-    )
+    let turn = turnOf c in
+    omega (arith, turn .before .loop .inv, turn .loop-test .taken, startOf (turn .before) .pre)
 
 add-i : tie.Need-add-i Inv-loop μ-loop
 add-i c = search needs
@@ -43,25 +50,24 @@ loop-less c = search needs
 
 loop-again : tie.Need-loop-again Inv-loop μ-loop
 loop-again c =
-    let start = c .before .before .before .before .before .before .before .before .before in
-    let turn = c .before .before .before .before .before .before .loop in
-    let put = c .before .before .put-store in
-    listed-more (start .args .stores .now) (start .args .out .now) (start .args .at) (start .pre) (turn .out)
-    (turn .next)
-    (turn .i) (turn .inv) (put .last .0) (put .result)
-    (c .before .before .before .before .before .loop-test .taken) (put .kept .0)
-    (c .before .before .before .shared-slice-known2 .given (turn .i) .fits) (put .ensures)
+    let after = c .before .before in
+    let turn = turnOf (after .before) in
+    let start = startOf (turn .before) in
+    let at = turn .before .loop in
+    let put = after .put-store in
+    listed-more (start .args .stores .now) (start .args .out .now) (start .args .at) (start .pre) (at .out)
+    (at .next) (at .i) (at .inv) (put .last .0) (put .result) (turn .loop-test .taken) (put .kept .0)
+    (after .before .shared-slice-known2 .given (at .i) .fits) (put .ensures)
 
 same-length : tie.Need-same-length Inv-loop μ-loop
 same-length c = c .before .loop .inv .same
 
 returns : tie.Need-returns Inv-loop μ-loop
 returns c =
-    let start = c .before .before .before .before in
+    let start = startOf (c .before) in
     let end = c .before .loop in
     listed-all (start .args .stores .now) (start .args .out .now) (start .args .at) (start .pre) (end .out)
-    (end .next)
-    (end .i) (end .inv) (c .loop-test .left)
+    (end .next) (end .i) (end .inv) (c .loop-test .left)
 
 pub put-later-spec : {M : Type 1} → statement M
 put-later-spec =

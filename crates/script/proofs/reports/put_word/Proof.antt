@@ -7,6 +7,32 @@ use Rattle.script.proofs.Laws.Reports.{outcomeText-notTried, outcomeTex
 use Rattle.script.proofs.reports.put_word.Statement.{statement}
 use Rattle.script.proofs.reports.put_word.Tie as tie
 
+-- ---- the places on the way, each named from a later one ----
+
+abbrev startOf : tie.Else1 → tie.Start
+startOf c = c .before .before
+
+abbrev startOfThird : tie.Else2 → tie.Start
+startOfThird c = startOf (c .before)
+
+abbrev startOfFourth : tie.Else3 → tie.Start
+startOfFourth c = startOfThird (c .before)
+
+-- a word is put
+abbrev noneOf : tie.After-put-text → tie.Then1
+noneOf c = c .before .before .before
+
+abbrev placedOf : tie.After-put-text2 → tie.Then2
+placedOf c = c .before .before .before
+
+abbrev waitingOf : tie.After-put-text3 → tie.Then3
+waitingOf c = c .before .before .before
+
+abbrev notTriedOf : tie.After-put-text4 → tie.Then4
+notTriedOf c = c .before .before .before
+
+-- ---- answers ----
+
 slice-aggregate-put-text : tie.Need-slice-aggregate-put-text
 slice-aggregate-put-text c = search needs
 
@@ -18,8 +44,10 @@ same-length c = search needs
 
 returns : tie.Need-returns
 returns c =
-    rw (outcomeText-none (c .before .before .before .before .before .before .before .args .outcome)
-    (c .before .before .before .before .before .if1 .taken)) (c .before .before .put-text .ensures)
+    let put = c .before .before in
+    let told = noneOf put in
+    let outcome = told .before .before .args .outcome in
+    rw (outcomeText-none outcome (told .if1 .taken)) (put .put-text .ensures)
 
 slice-aggregate-put-text-2 : tie.Need-slice-aggregate-put-text-2
 slice-aggregate-put-text-2 c = search needs
@@ -32,8 +60,10 @@ same-length-2 c = search needs
 
 returns-2 : tie.Need-returns-2
 returns-2 c =
-    rw (outcomeText-placed (c .before .before .before .before .before .before .before .before .args .outcome)
-    (c .before .before .before .before .before .if2 .taken)) (c .before .before .put-text2 .ensures)
+    let put = c .before .before in
+    let told = placedOf put in
+    let outcome = startOf (told .before) .args .outcome in
+    rw (outcomeText-placed outcome (told .if2 .taken)) (put .put-text2 .ensures)
 
 slice-aggregate-put-text-3 : tie.Need-slice-aggregate-put-text-3
 slice-aggregate-put-text-3 c = search needs
@@ -46,9 +76,10 @@ same-length-3 c = search needs
 
 returns-3 : tie.Need-returns-3
 returns-3 c =
-    rw (outcomeText-waiting
-    (c .before .before .before .before .before .before .before .before .before .args .outcome)
-    (c .before .before .before .before .before .if3 .taken)) (c .before .before .put-text3 .ensures)
+    let put = c .before .before in
+    let told = waitingOf put in
+    let outcome = startOfThird (told .before) .args .outcome in
+    rw (outcomeText-waiting outcome (told .if3 .taken)) (put .put-text3 .ensures)
 
 slice-aggregate-put-text-4 : tie.Need-slice-aggregate-put-text-4
 slice-aggregate-put-text-4 c = search needs
@@ -61,13 +92,14 @@ same-length-4 c = search needs
 
 returns-4 : tie.Need-returns-4
 returns-4 c =
-    rw (outcomeText-notTried
-    (c .before .before .before .before .before .before .before .before .before .before .args .outcome)
-    (c .before .before .before .before .before .if4 .taken)) (c .before .before .put-text4 .ensures)
+    let put = c .before .before in
+    let told = notTriedOf put in
+    let outcome = startOfFourth (told .before) .args .outcome in
+    rw (outcomeText-notTried outcome (told .if4 .taken)) (put .put-text4 .ensures)
 
 put-number-requires : tie.Need-put-number-requires
 put-number-requires c κs =
-    let start = c .before .before .before .before .before .before in
+    let start = startOfFourth (c .before .before) in
     omega (arith, start .pre, length-decimal 2 (start .args .outcome) (omega arith))
 
 same-length-5 : tie.Need-same-length-5
@@ -75,12 +107,12 @@ same-length-5 c = search needs
 
 returns-5 : tie.Need-returns-5
 returns-5 c =
-    rw (outcomeText-refusal
-    (c .before .before .before .before .before .before .before .before .before .args .outcome)
-    (c .before .before .before .before .before .before .before .if1 .left)
-    (c .before .before .before .before .before .before .if2 .left)
-    (c .before .before .before .before .before .if3 .left) (c .before .before .before .before .if4 .left))
-    (c .before .before .put-number .ensures)
+    let put = c .before .before in
+    let fourth = put .before .before in
+    let third = fourth .before in
+    let second = third .before in
+    rw (outcomeText-refusal (startOf (second .before) .args .outcome) (second .before .if1 .left)
+    (second .if2 .left) (third .if3 .left) (fourth .if4 .left)) (put .put-number .ensures)
 
 pub put-word-spec : {M : Type 1} → statement M
 put-word-spec =

@@ -63,5 +63,5 @@ returns c =
 pub store-block-spec : {M : Type 1} → statement M
 store-block-spec =
     tie.close
-    (tie.spec cast-at cast-at-2 mul-at copy-at-requires mul-list slice-write-list add-result same-length same-length-2
-    returns)
+    (tie.spec cast-at cast-at-2 mul-at copy-at-requires mul-list slice-write-list add-result same-length
+    same-length-2 returns)

@@ -1,8 +1,7 @@
 -- `change_block` meets its contract, by its variants. Assumes nothing.
-use mathlib.Core.Path.{_≡_, sym, ap, subst, _∙_}
+use mathlib.Core.Path.{sym, ap, subst, _∙_}
 use lib.ListN.{length}
 use borrow.Author.Needs.{needs}
-use Rattle.model.specs.Blocks.{Bytes}
 use Rattle.stores.specs.declared.changes.Change.{Change}
 use Rattle.stores.specs.Changes.{changed, Inside}
 use Rattle.stores.proofs.changes.change_block.Statement.{statement}
@@ -53,5 +52,5 @@ returns-3 c =
 pub change-block-spec : {M : Type 1} → statement M
 change-block-spec =
     tie.close
-    (tie.spec enum-told enum-known-change put-entry-requires enum-known-change-2 set-bit-requires returns same-length
-    returns-2 same-length-2 returns-3)
+    (tie.spec enum-told enum-known-change put-entry-requires enum-known-change-2 set-bit-requires returns
+    same-length returns-2 same-length-2 returns-3)

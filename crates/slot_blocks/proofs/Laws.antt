@@ -1,0 +1,4 @@
+pub mod Loops
+pub mod Runs
+pub mod NodeBlocks
+pub mod Nodes

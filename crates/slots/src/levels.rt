@@ -1,0 +1,23 @@
+// Where a slot's blocks stand.
+use layout::geometry::Geometry;
+use layout::geometry::slot_start;
+use layout::numbers::DiskAddress;
+ghost use mathlib.Core.Path.{_≡_};
+ghost use Prim.Native.Nat.{_<_};
+ghost use Rattle.model.specs.Geometry.{Fits};
+ghost use Rattle.model.specs.Layout.{levelAddress};
+ghost use Rattle.layout.specs.Geometries.{geometryOf};
+
+// Address of a slot's block of a level: A + level, and A + k for level 0, hidden data.
+pub fn level_address(g: Geometry, slot: u32, level: u32) -> DiskAddress
+    requires { ⌜ Fits (geometryOf g) ⌝ }
+    requires { ⌜ slot < g .slots ⌝ }
+    requires { ⌜ level < g .height ⌝ }
+    ensures { λ r. ⌜ r .0 ≡ levelAddress (geometryOf g) slot level ⌝ }
+{
+    let start = slot_start(g, slot);
+    if level == 0 {
+        return DiskAddress(start.0 + g.height);
+    }
+    DiskAddress(start.0 + level)
+}

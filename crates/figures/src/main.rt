@@ -1,66 +1,22 @@
-// Prints document 01's figures of geometry, formatting and both reads ("Figures to hold against"): a line for
-// each, with the number that the document gives and the number that the code gives.
-mod reads; // reads of both volumes
-
+// Prints document 01's figures ("Figures to hold against") and the examples of its refusal table: geometry,
+// formatting, both reads and the write. A line for each, with what the document says and what the code gives.
 use layout::geometry::Geometry;
 use layout::geometry::area_start;
 use layout::geometry::block_count;
 use libc::STDOUT_FILENO;
 use mapper::format_drive;
+use read_figures::reads::print_reads;
+use report::drives::two_high;
+use report::figures::print_byte;
+use report::figures::print_bytes;
+use report::figures::print_figure;
+use write_figures::needs::print_all_needs;
+use write_figures::refused_writes::print_refusals;
+use write_figures::writes::print_writes;
 ghost use mathlib.Core.Path.{_≡_};
-ghost use lib.Dec.{eqb};
-ghost use lib.ListN.{length};
-ghost use Rattle.model.specs.Promises.Figures.{geometry};
 ghost use Rattle.model.specs.Refusals.{formatRefusal};
 ghost use Rattle.model.specs.Calls.{formatted};
 ghost use Rattle.layout.specs.Geometries.{geometryOf};
-
-// Prints a figure's name, what the document says and what the code says; answers whether they agree.
-fn print_figure(name: &[u8], expected: u64, got: u64) -> bool
-    ensures { λ r. ⌜ r ≡ eqb expected got ⌝ }
-{
-    io::write_all(STDOUT_FILENO, name);
-    io::write_all(STDOUT_FILENO, b" expected ");
-    io::print_decimal(STDOUT_FILENO, expected);
-    io::write_all(STDOUT_FILENO, b" got ");
-    io::print_decimal(STDOUT_FILENO, got);
-    io::write_all(STDOUT_FILENO, b"\n");
-    expected == got
-}
-
-// Prints a space and a byte's number; answers the byte.
-fn print_byte(byte: u8) -> u8
-    ensures { λ r. ⌜ r ≡ byte ⌝ }
-{
-    io::write_all(STDOUT_FILENO, b" ");
-    io::print_decimal(STDOUT_FILENO, byte as u64);
-    byte
-}
-
-// Prints the numbers of bytes, a space before each; answers how many.
-fn print_bytes(bytes: &[u8]) -> usize
-    ensures { λ r. ⌜ r ≡ length (now (bytes .entry)) ⌝ }
-{
-    let mut i = 0;
-    while i < bytes.len() {
-        print_byte(bytes[i]);
-        i += 1;
-    }
-    i
-}
-
-// The geometry of height 2 with these numbers.
-fn two_high(block_size: u32, publics: u32, hidden: u32, slots: u32) -> Geometry
-    ensures { λ r. ⌜ geometryOf r ≡ geometry «block_size» 2 publics hidden slots ⌝ }
-{
-    Geometry {
-        block_size: block_size,
-        height: 2,
-        publics: publics,
-        hidden: hidden,
-        slots: slots,
-    }
-}
 
 // Formats a disk, prints the answer and gives it.
 fn print_answer(name: &[u8], expected: u64, disk: &mut [u8], g: Geometry) -> u8
@@ -139,5 +95,8 @@ fn main() {
     print_areas();
     print_answers();
     print_fresh();
-    reads::print_reads();
+    print_reads();
+    print_all_needs();
+    print_writes();
+    print_refusals();
 }

@@ -20,6 +20,12 @@ accepted = refl
 fits : (c : tie.After-two-high) → Fits (geometryOf (c .two-high .result))
 fits c = rw (c .two-high .ensures) (fits-of-isGeometry small accepted)
 
+abbrev after-figure : tie.After-struct-known2 → tie.After-print-figure
+after-figure c = c .before .before .before .before
+
+abbrev after-blocks : tie.After-struct-known2 → tie.After-block-count
+after-blocks c = after-figure c .before .before .before
+
 two-high-requires : tie.Need-two-high-requires
 two-high-requires c κs = search needs
 
@@ -52,8 +58,9 @@ cast-print-figure-2 c = search needs
 
 mul-print-figure : tie.Need-mul-print-figure
 mul-print-figure c =
-    let f = fits (c .before .before .before .before .before .before .before .before .before) in
-    rw (c .before .before .before .before .before .before .before .block-count .ensures)
+    let blocks = after-blocks c in
+    let f = fits (blocks .before .before) in
+    rw (blocks .block-count .ensures)
     (omega (arith, mul-le-mul (le-of-lt (f .blocks-high)) (f .size-high)))
 
 print-figure-requires-3 : tie.Need-print-figure-requires-3

@@ -1,0 +1,4 @@
+pub mod Geometries
+pub mod Finds
+pub mod Needs
+pub mod Writes

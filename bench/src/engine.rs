@@ -1,7 +1,17 @@
-//! What a mapper offers, so that tests and the benchmark run every one of them alike.
-use crate::plain::{Geometry, Written};
+//! What a mapper offers, as a table of its calls, so that tests and the benchmark run every one of them
+//! alike.
 
-/// One write: the public half, what is offered, the random bytes and the lent list.
+#[derive(Clone, Copy, PartialEq, Eq, Debug)]
+pub struct Geometry {
+    pub block_size: u32,
+    pub height: u32,
+    pub publics: u32,
+    pub hidden: u32,
+    pub slots: u32,
+}
+
+/// One write but for its disk and list: the public half, what is offered, and the random bytes.
+#[derive(Clone, Copy, Debug)]
 pub struct Write<'a> {
     pub number: u32,
     pub data: &'a [u8],
@@ -9,50 +19,69 @@ pub struct Write<'a> {
     pub random: &'a [u8],
 }
 
-pub trait Engine {
-    const NAME: &'static str;
-    fn format(disk: &mut [u8], g: Geometry) -> u32;
-    /// The address of the block, 0 for the blank, or the refusal.
-    fn public_find(disk: &[u8], number: u32, blank: &[u8]) -> Result<u32, u32>;
-    fn hidden_find(disk: &[u8], number: u32, blank: &[u8]) -> Result<u32, u32>;
-    fn write(disk: &mut [u8], call: &Write, list: &mut [u32]) -> Written;
+/// What a write reports. Laid out as `pddm_written`.
+#[repr(C)]
+#[derive(Clone, Copy, PartialEq, Eq, Debug)]
+pub struct Written {
+    pub answer: u32,
+    pub rounds: u32,
+    pub stores: u32,
+    pub outcome: u32,
+}
 
-    /// The part of the disk or of the blank that a read shows.
-    fn public_read<'a>(disk: &'a [u8], number: u32, blank: &'a [u8]) -> &'a [u8] {
-        shown(disk, blank, Self::public_find(disk, number, blank))
-    }
+/// The outcomes that are no refusal numbers.
+pub const NONE: u32 = 0;
+pub const PLACED: u32 = 1;
+pub const WAITING: u32 = 2;
+pub const NOT_TRIED: u32 = 3;
 
-    fn hidden_read<'a>(disk: &'a [u8], number: u32, blank: &'a [u8]) -> &'a [u8] {
-        shown(disk, blank, Self::hidden_find(disk, number, blank))
+impl Written {
+    pub fn refused(answer: u32) -> Self {
+        Written { answer, rounds: 0, stores: 0, outcome: NOT_TRIED }
     }
 }
 
-fn shown<'a>(disk: &'a [u8], blank: &'a [u8], found: Result<u32, u32>) -> &'a [u8] {
-    match found {
-        Ok(0) => blank,
-        Ok(address) => &disk[address as usize * blank.len()..][..blank.len()],
-        Err(_) => &blank[..0],
+/// What a good write of a number takes now; all 0 where the answer is a refusal. Laid out as `pddm_needs`.
+#[repr(C)]
+#[derive(Clone, Copy, PartialEq, Eq, Debug)]
+pub struct Needs {
+    pub answer: u32,
+    pub rounds: u32,
+    pub stores: u32,
+    pub random_blocks: u32,
+}
+
+impl Needs {
+    pub fn refused(answer: u32) -> Self {
+        Needs { answer, rounds: 0, stores: 0, random_blocks: 0 }
     }
 }
 
-pub struct Plain;
+/// The part of the disk that a read shows, or the caller's blank; or the refusal.
+pub type Shown<'a> = Result<&'a [u8], u32>;
 
-impl Engine for Plain {
-    const NAME: &'static str = "plain Rust";
+#[derive(Clone, Copy)]
+pub struct Engine {
+    pub name: &'static str,
+    pub format: fn(&mut [u8], Geometry) -> Result<(), u32>,
+    /// Of a disk, a number and a blank.
+    pub public_read: for<'a> fn(&'a [u8], u32, &'a [u8]) -> Shown<'a>,
+    pub hidden_read: for<'a> fn(&'a [u8], u32, &'a [u8]) -> Shown<'a>,
+    pub needs: fn(&[u8], u32) -> Needs,
+    /// Changes the disk and enters the stores in the list.
+    pub write: fn(&mut [u8], &Write, &mut [u32]) -> Written,
+}
 
-    fn format(disk: &mut [u8], g: Geometry) -> u32 {
-        crate::plain::format(disk, g)
-    }
+/// A formatted drive whose data area is filled with 165.
+pub fn fresh(engine: &Engine, g: Geometry) -> Vec<u8> {
+    let drive = crate::drive::Drive::of(g).expect("a geometry within the limits");
+    let mut disk = vec![165; drive.t * drive.b];
+    (engine.format)(&mut disk, g).expect("a drive formatted");
+    disk
+}
 
-    fn public_find(disk: &[u8], number: u32, blank: &[u8]) -> Result<u32, u32> {
-        crate::plain::public_find(disk, number as usize, blank).map(|a| a as u32)
-    }
-
-    fn hidden_find(disk: &[u8], number: u32, blank: &[u8]) -> Result<u32, u32> {
-        crate::plain::hidden_find(disk, number as usize, blank).map(|a| a as u32)
-    }
-
-    fn write(disk: &mut [u8], call: &Write, list: &mut [u32]) -> Written {
-        crate::plain::write(disk, call, list)
-    }
+/// Random bytes and list entries that every write on a drive of ours can do with (docs/MANUAL.md, "Buffers").
+pub fn ample(g: Geometry) -> (usize, usize) {
+    let rounds = g.publics as usize + 1;
+    (rounds * (g.height * g.block_size) as usize, rounds * (g.height as usize + 3) + 3)
 }

@@ -1,7 +1,14 @@
-//! The proved mapper beside two written in Rust: what they answer is compared, and how long they take.
+//! The proved mapper beside two written in Rust: what they answer is compared, and how long they take. The
+//! programs are `differential`, `benchmark` and `waiting`; `tests/` holds all three mappers to document 01's
+//! examples.
+pub mod arguments;
+pub mod calls;
+pub mod drive;
+pub mod drives;
 pub mod engine;
 pub mod inplace;
 pub mod plain;
+pub mod plot;
 pub mod proved;
 pub mod random;
 pub mod workload;

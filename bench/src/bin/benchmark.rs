@@ -1,116 +1,248 @@
-//! Document 02's K11 workload on the proved mapper, on plain Rust and on in-place Rust, alternating in one process: paired
-//! medians and best, nanoseconds for each kind of call, the stack depth of one write, and how a write's cost grows with M, k
-//! and B. `benchmark TURNS` sets how often the engines take their turn (default 15).
-use pddm_bench::engine::{Engine, Plain, Write};
-use pddm_bench::inplace::InPlace;
-use pddm_bench::plain::{Geometry, drive_of};
-use pddm_bench::proved::Proved;
-use pddm_bench::workload::{Mixed, mixed_geometry};
+//! `benchmark [PASSES [PLOT]]`: how long the calls of the three mappers take, in one process and in turn.
+//!
+//! A pass is document 02's K11: 100,000 calls from a fresh drive. Then nanoseconds for each kind of call, the
+//! stack of one write, and how a write's cost grows with M, k and B, which is also drawn to the file PLOT as
+//! SVG. Ratios are paired: of turns that follow each other. Ends with status 1 if the proved mapper takes
+//! more than K11 allows.
+use pddm_bench::arguments::Arguments;
+use pddm_bench::drives::capacity;
+use pddm_bench::engine::{Engine, Geometry, fresh};
+use pddm_bench::inplace::IN_PLACE;
+use pddm_bench::plain::PLAIN;
+use pddm_bench::plot::{Panel, svg};
+use pddm_bench::proved::PROVED;
+use pddm_bench::workload::{CALLS, Caller, GEOMETRY};
+use std::hint::black_box;
+use std::process::ExitCode;
 use std::time::Instant;
 
-fn fresh<E: Engine>(g: Geometry) -> Vec<u8> {
-    let v = drive_of(g).unwrap();
-    let mut disk = vec![0u8; v.count * v.b];
-    assert_eq!(E::format(&mut disk, g), 0);
-    disk
+const ENGINES: [Engine; 3] = [PROVED, PLAIN, IN_PLACE];
+
+/// What K11 allows: proved against plain.
+const BOUND: f64 = 2.0;
+
+/// Turns of each mapper, short ones, so that some are not disturbed.
+const TURNS: u32 = 100;
+
+/// A mapper with a drive of its own.
+struct Stand {
+    engine: Engine,
+    disk: Vec<u8>,
+    caller: Caller,
 }
 
-fn timed<E: Engine>(g: Geometry, disk: &mut [u8], mixed: &mut Mixed, calls: u32) -> f64 {
-    let _ = g;
-    let start = Instant::now();
-    mixed.run::<E>(disk, calls);
-    start.elapsed().as_secs_f64()
+fn stands(g: Geometry) -> [Stand; 3] {
+    ENGINES.map(|engine| Stand { engine, disk: fresh(&engine, g), caller: Caller::new(g) })
 }
 
-fn median(mut xs: Vec<f64>) -> f64 {
-    xs.sort_by(f64::total_cmp);
-    xs[xs.len() / 2]
-}
-
-fn best(xs: &[f64]) -> f64 {
-    xs.iter().copied().fold(f64::INFINITY, f64::min)
-}
-
-/// Mean nanoseconds of a write with an offer on an aged drive of this geometry, per round.
-fn per_round<E: Engine>(g: Geometry, writes: u32) -> f64 {
-    let mut disk = fresh::<E>(g);
-    let b = g.block_size as usize;
-    let most = g.publics as usize + 1;
-    let (data, hidden, random) = (vec![1; b], vec![2; b], vec![165; most * g.height as usize * b]);
-    let mut list = vec![0; most * (g.height as usize + 3) + 3];
-    let (mut rounds, mut spent) = (0u64, 0u64);
-    for n in 0..2 * writes {
-        let offer = Some((n % g.hidden, &hidden[..]));
-        let call = Write { number: n % g.publics, data: &data, offer, random: &random };
-        let start = Instant::now();
-        let w = E::write(&mut disk, &call, &mut list);
-        if n >= writes {
-            spent += start.elapsed().as_nanos() as u64;
-            rounds += u64::from(w.rounds);
+impl Stand {
+    fn mixed(&mut self, calls: std::ops::Range<u32>) {
+        for i in calls {
+            assert!(black_box(self.caller.call(&self.engine, &mut self.disk, i)).is_good());
         }
     }
-    spent as f64 / rounds as f64
+
+    fn public_reads(&mut self, numbers: std::ops::Range<u32>) {
+        for n in numbers {
+            black_box(self.caller.public_read(&self.engine, &self.disk, n)).unwrap();
+        }
+    }
+
+    fn hidden_reads(&mut self, numbers: std::ops::Range<u32>) {
+        for n in numbers {
+            black_box(self.caller.hidden_read(&self.engine, &self.disk, n)).unwrap();
+        }
+    }
+
+    fn writes(&mut self, numbers: std::ops::Range<u32>) {
+        for n in numbers {
+            assert_eq!(black_box(self.caller.write(&self.engine, &mut self.disk, n)).answer, 0);
+        }
+    }
 }
 
-/// How far down the stack one write reaches, by a painted stack of a thread of its own.
-fn stack_depth() -> usize {
-    let g = mixed_geometry();
+/// Seconds of each mapper's turns.
+#[derive(Default)]
+struct Times([Vec<f64>; 3]);
+
+impl Times {
+    /// One turn of each mapper; who begins goes round.
+    fn turn(&mut self, stands: &mut [Stand; 3], mut run: impl FnMut(&mut Stand)) {
+        let first = self.0[0].len();
+        for i in 0..3 {
+            let who = (first + i) % 3;
+            let start = Instant::now();
+            run(&mut stands[who]);
+            self.0[who].push(start.elapsed().as_secs_f64());
+        }
+    }
+
+    fn median(&self, who: usize) -> f64 {
+        median(self.0[who].clone())
+    }
+
+    fn best(&self, who: usize) -> f64 {
+        self.0[who].iter().copied().fold(f64::INFINITY, f64::min)
+    }
+
+    /// Nanoseconds of one call in each mapper's best turn of so many calls.
+    fn best_ns(&self, calls: u32) -> [f64; 3] {
+        [0, 1, 2].map(|who| self.best(who) * 1e9 / f64::from(calls))
+    }
+
+    /// The median over the turns of the proved mapper's time in another's.
+    fn ratio(&self, who: usize) -> f64 {
+        median(self.0[0].iter().zip(&self.0[who]).map(|(proved, other)| proved / other).collect())
+    }
+}
+
+fn median(mut all: Vec<f64>) -> f64 {
+    all.sort_by(f64::total_cmp);
+    all[all.len() / 2]
+}
+
+/// K11's calls. Returns the median ratio of proved to plain.
+fn workload(passes: u64) -> f64 {
+    const PARTS: u32 = 20;
+    let (mut times, mut whole) = (Times::default(), Times::default());
+    for pass in 1..=passes {
+        let mut stands = stands(GEOMETRY);
+        for part in 0..PARTS {
+            let calls = part * (CALLS / PARTS)..(part + 1) * (CALLS / PARTS);
+            times.turn(&mut stands, |stand| stand.mixed(calls.clone()));
+        }
+        let sums = times.0.each_ref().map(|turns| turns.iter().rev().take(PARTS as usize).sum::<f64>());
+        whole.0.iter_mut().zip(sums).for_each(|(passes, sum)| passes.push(sum));
+        let [proved, plain, in_place] = sums.map(|seconds| 1e3 * seconds);
+        println!(
+            "pass {pass} of {passes}: proved {proved:.1} ms, plain {plain:.1} ms, in place {in_place:.1} ms"
+        );
+    }
+    println!("\n| K11: {CALLS} calls | median ms | best ms | proved / this, paired median | of best |");
+    println!("|---|---|---|---|---|");
+    for (who, engine) in ENGINES.iter().enumerate() {
+        let (median, best) = (1e3 * whole.median(who), 1e3 * whole.best(who));
+        let (paired, of_best) = (times.ratio(who), whole.best(0) / whole.best(who));
+        println!("| {} | {median:.1} | {best:.1} | {paired:.3} | {of_best:.3} |", engine.name);
+    }
+    times.ratio(1)
+}
+
+/// Nanoseconds of each kind of call in its best turn, turns of one kind each, on drives that K11's calls
+/// left.
+fn kinds() {
+    const EACH: u32 = 500;
+    let mut stands = stands(GEOMETRY);
+    stands.iter_mut().for_each(|stand| stand.mixed(0..CALLS));
+    let mut table = Vec::new();
+    for run in [Stand::public_reads, Stand::hidden_reads, Stand::writes] {
+        let mut times = Times::default();
+        for turn in 0..TURNS {
+            times.turn(&mut stands, |stand| run(stand, turn * EACH..(turn + 1) * EACH));
+        }
+        table.push(times.best_ns(EACH));
+    }
+    println!(
+        "\n| ns a call, best turn | public read | hidden read | write with an offer |\n|---|---|---|---|"
+    );
+    for (who, engine) in ENGINES.iter().enumerate() {
+        println!("| {} | {:.0} | {:.0} | {:.0} |", engine.name, table[0][who], table[1][who], table[2][who]);
+    }
+}
+
+/// How far down the stack one write reaches on an aged drive: the bytes of a painted stack that it changes.
+fn stack_depth(engine: Engine, g: Geometry) -> usize {
+    const PAINT: u8 = 0xA7;
+    const AREA: usize = 256 * 1024;
+    #[inline(never)]
+    fn paint() -> usize {
+        black_box(&mut [PAINT; AREA]).as_ptr() as usize
+    }
+    #[inline(never)]
+    fn one_write(stand: &mut Stand) {
+        stand.writes(0..1);
+    }
+    #[inline(never)]
+    fn changed(area: *const u8) -> usize {
+        AREA - (0..AREA).find(|&i| unsafe { area.add(i).read_volatile() } != PAINT).unwrap_or(AREA)
+    }
     let run = move || {
-        const PAINT: usize = 256 * 1024;
-        #[inline(never)]
-        fn paint() -> usize {
-            let mut area = [0xA7u8; PAINT];
-            std::hint::black_box(&mut area);
-            area.as_ptr() as usize
-        }
-        #[inline(never)]
-        fn scan(low: usize) -> usize {
-            let area = unsafe { std::slice::from_raw_parts(low as *const u8, PAINT) };
-            PAINT - area.iter().position(|&b| b != 0xA7).unwrap_or(PAINT)
-        }
-        let mut disk = fresh::<Proved>(g);
-        let (data, random) = (vec![1; 4096], vec![165; 64 * 4096]);
-        let mut list = vec![0; 64];
-        let call = Write { number: 0, data: &data, offer: Some((0, &data)), random: &random };
-        let low = paint();
-        let w = Proved::write(&mut disk, &call, &mut list);
-        assert_eq!(w.answer, 0);
-        scan(low)
+        let mut stand = Stand { engine, disk: fresh(&engine, g), caller: Caller::new(g) };
+        stand.writes(0..2 * g.slots);
+        let area = paint();
+        one_write(&mut stand);
+        changed(area as *const u8)
     };
-    std::thread::Builder::new().stack_size(4 << 20).spawn(run).unwrap().join().unwrap()
+    std::thread::Builder::new().stack_size(4 * AREA).spawn(run).unwrap().join().unwrap()
 }
 
-fn main() {
-    let turns = std::env::args().nth(1).and_then(|s| s.parse().ok()).unwrap_or(15usize);
-    let g = mixed_geometry();
-    let mut disks = (fresh::<Proved>(g), fresh::<Plain>(g), fresh::<InPlace>(g));
-    let mut runs = (Mixed::new(g), Mixed::new(g), Mixed::new(g));
-    let (mut proved, mut plain, mut inplace) = (vec![], vec![], vec![]);
-    for turn in 0..turns {
-        let calls = 9000;
-        proved.push(timed::<Proved>(g, &mut disks.0, &mut runs.0, calls));
-        plain.push(timed::<Plain>(g, &mut disks.1, &mut runs.1, calls));
-        inplace.push(timed::<InPlace>(g, &mut disks.2, &mut runs.2, calls));
-        println!("turn {} of {turns}: proved / plain {:.3}", turn + 1, proved[turn] / plain[turn]);
+fn stacks() {
+    println!("\n| stack of one write, bytes | k 3 | k 4 |\n|---|---|---|");
+    for engine in ENGINES {
+        let [three, four] = [3, 4].map(|height| {
+            let g = Geometry { height, publics: 20, hidden: 20, slots: 32, ..GEOMETRY };
+            stack_depth(engine, g)
+        });
+        println!("| {} | {three} | {four} |", engine.name);
     }
-    let ratio = |xs: &[f64], ys: &[f64]| median(xs.iter().zip(ys).map(|(x, y)| x / y).collect());
-    println!("\n| 9,000 mixed calls | median s | best s | paired median of proved / this |");
-    println!("|---|---|---|---|");
-    println!("| {} | {:.4} | {:.4} | 1 |", Proved::NAME, median(proved.clone()), best(&proved));
-    println!("| {} | {:.4} | {:.4} | {:.3} |", Plain::NAME, median(plain.clone()), best(&plain), ratio(&proved, &plain));
-    println!("| {} | {:.4} | {:.4} | {:.3} |", InPlace::NAME, median(inplace.clone()), best(&inplace), ratio(&proved, &inplace));
-    println!("\n| ns a call | public read | hidden read | write |\n|---|---|---|---|");
-    for (name, run) in [(Proved::NAME, &runs.0), (Plain::NAME, &runs.1), (InPlace::NAME, &runs.2)] {
-        let each = |i: usize| run.spent[i] as f64 / (turns * 3000) as f64;
-        println!("| {name} | {:.0} | {:.0} | {:.0} |", each(0), each(1), each(2));
+}
+
+/// Nanoseconds of a write with an offer in its best turn, on an aged drive, P and H half of M or what the
+/// tree holds.
+fn write_cost(slots: u32, height: u32, block_size: u32) -> [f64; 3] {
+    const EACH: u32 = 500;
+    let hidden = capacity(block_size, height).min(u64::from(slots / 2)) as u32;
+    let mut stands = stands(Geometry { block_size, height, publics: slots / 2, hidden, slots });
+    stands.iter_mut().for_each(|stand| stand.writes(0..slots));
+    let mut times = Times::default();
+    for turn in 0..TURNS {
+        let start = slots + turn * EACH;
+        times.turn(&mut stands, |stand| stand.writes(start..start + EACH));
     }
-    println!("\nstack of one write: {} bytes", stack_depth());
-    println!("\n| slots | k | B | ns a round, proved | plain | in place |\n|---|---|---|---|---|---|");
-    let shapes = [(512, 3, 4096), (2048, 3, 4096), (8192, 3, 4096), (65536, 3, 512), (2048, 2, 4096), (2048, 4, 4096), (2048, 3, 512), (2048, 3, 32)];
-    for (slots, height, block_size) in shapes {
-        let hidden = (slots / 2).min(if block_size == 32 { 400 } else { u32::MAX });
-        let g = Geometry { block_size, height, publics: slots / 2, hidden, slots };
-        let row = [per_round::<Proved>(g, 3000), per_round::<Plain>(g, 3000), per_round::<InPlace>(g, 3000)];
-        println!("| {slots} | {height} | {block_size} | {:.0} | {:.0} | {:.0} |", row[0], row[1], row[2]);
+    times.best_ns(EACH)
+}
+
+/// The cost over one number of the geometry, as rows of the table and a panel.
+fn growth(title: &str, label: &'static str, ticks: &[u32], shape: impl Fn(u32) -> (u32, u32, u32)) -> Panel {
+    let mut lines = vec![Vec::new(); 3];
+    for &tick in ticks {
+        let (slots, height, block_size) = shape(tick);
+        let cost = write_cost(slots, height, block_size);
+        lines.iter_mut().zip(cost).for_each(|(line, ns)| line.push(ns));
+        let [proved, plain, in_place] = cost;
+        println!("| {slots} | {height} | {block_size} | {proved:.0} | {plain:.0} | {in_place:.0} |");
     }
+    Panel { title: title.to_string(), label, ticks: ticks.to_vec(), lines }
+}
+
+fn growths() -> [Panel; 3] {
+    println!(
+        "\n| slots M | k | B | ns a write, best turn: proved | plain | in place |\n|---|---|---|---|---|---|"
+    );
+    let slots: Vec<u32> = (9..=16).map(|power| 1 << power).collect();
+    let sizes: Vec<u32> = (5..=12).map(|power| 1 << power).collect();
+    [
+        growth("over M (k 3, B 512)", "slots M", &slots, |slots| (slots, 3, 512)),
+        growth("over k (2,048 slots, B 4,096)", "tree levels k", &[2, 3, 4], |height| (2048, height, 4096)),
+        growth("over B (2,048 slots, k 3)", "bytes a block B", &sizes, |size| (2048, 3, size)),
+    ]
+}
+
+fn main() -> ExitCode {
+    let mut arguments = Arguments::new("benchmark [PASSES [PLOT]]");
+    let passes = arguments.number("PASSES", 5, 1..=1000);
+    let plot = arguments.writable("PLOT");
+    arguments.end();
+    let ratio = workload(passes);
+    kinds();
+    stacks();
+    let panels = growths();
+    if let Some(file) = plot {
+        let title = format!("One write with an offer, best of {TURNS} turns (P and H half of M)");
+        let drawn = svg(&title, "nanoseconds a write", &ENGINES.map(|engine| engine.name), &panels);
+        std::fs::write(&file, drawn).expect("the plot written");
+        println!("\ndrawn to {file}");
+    }
+    println!("\nproved / plain {ratio:.3}, at most {BOUND} allowed");
+    if ratio <= BOUND { ExitCode::SUCCESS } else { ExitCode::FAILURE }
 }

@@ -1,70 +1,89 @@
-//! How long an offer waits: rounds and writes from the call that first offers a block until it is placed, on drives whose
-//! hidden volume is filled to several levels, with public writes to numbers chosen at random.
-use pddm_bench::engine::{Engine, Plain, Write};
-use pddm_bench::plain::{Geometry, PLACED, drive_of};
+//! `waiting`: how long an offer waits: rounds and public writes from the call that first offers a block until
+//! it is placed, on drives of 2,048 slots with several numbers of hidden blocks placed, public numbers at
+//! random. Prints the table of docs/MANUAL.md.
+use pddm_bench::arguments::Arguments;
+use pddm_bench::engine::{Geometry, PLACED, Write, ample, fresh};
+use pddm_bench::proved::PROVED;
 use pddm_bench::random::Random;
 
-const SLOTS: u32 = 2048;
+const OFFERS: usize = 2000;
+const G: Geometry = Geometry { block_size: 64, height: 3, publics: 1000, hidden: 2047, slots: 2048 };
 
-struct Waits {
-    mean_rounds: f64,
-    most_rounds: u32,
-    mean_writes: f64,
-    most_writes: u32,
+/// A drive with the buffers that its writes lend.
+struct Owner {
+    disk: Vec<u8>,
+    block: Vec<u8>,
+    random: Vec<u8>,
+    list: Vec<u32>,
 }
 
-fn measured(hidden: u32, filled: u32, publics: u32) -> Waits {
-    let g = Geometry { block_size: 64, height: 3, publics, hidden, slots: SLOTS };
-    let v = drive_of(g).unwrap();
-    let mut disk = vec![0u8; v.count * v.b];
-    Plain::format(&mut disk, g);
-    let mut r = Random::new(7);
-    let (data, random) = (vec![1; 64], vec![165; 64 * 3 * (publics as usize + 1)]);
-    let mut list = vec![0; 6 * (publics as usize + 1) + 3];
-    let mut write = |disk: &mut Vec<u8>, number: u32, offer: u32| {
-        let call = Write { number, data: &data, offer: Some((offer, &data)), random: &random };
-        Plain::write(disk, &call, &mut list)
-    };
-    let mut offer_until = |disk: &mut Vec<u8>, r: &mut Random, number: Option<u32>, offer: u32| {
+impl Owner {
+    fn new() -> Self {
+        let (random, list) = ample(G);
+        let block = vec![1; G.block_size as usize];
+        Owner { disk: fresh(&PROVED, G), block, random: vec![165; random], list: vec![0; list] }
+    }
+
+    /// Offers a hidden block with write after write until it is placed: the rounds and the writes that it
+    /// took.
+    fn offer(&mut self, hidden: u32, mut number: impl FnMut() -> u32) -> (u32, u32) {
         let (mut rounds, mut writes) = (0, 0);
         loop {
-            let w = write(disk, number.unwrap_or_else(|| r.below(u64::from(publics)) as u32), offer);
-            rounds += w.rounds;
+            let offer = Some((hidden, &self.block[..]));
+            let call = Write { number: number(), data: &self.block, offer, random: &self.random };
+            let written = (PROVED.write)(&mut self.disk, &call, &mut self.list);
+            rounds += written.rounds;
             writes += 1;
-            if w.outcome == PLACED {
+            if written.outcome == PLACED {
                 return (rounds, writes);
             }
         }
-    };
-    for n in 0..publics.max(filled) {
-        offer_until(&mut disk, &mut r, Some(n % publics), n % filled.max(1));
-    }
-    let trials = 2000;
-    let waits: Vec<_> = (0..trials)
-        .map(|_| {
-            let offer = r.below(u64::from(filled.max(1))) as u32;
-            offer_until(&mut disk, &mut r, None, offer)
-        })
-        .collect();
-    let mean = |f: fn(&(u32, u32)) -> u32| waits.iter().map(|w| f64::from(f(w))).sum::<f64>() / f64::from(trials);
-    Waits {
-        mean_rounds: mean(|w| w.0),
-        most_rounds: waits.iter().map(|w| w.0).max().unwrap(),
-        mean_writes: mean(|w| w.1),
-        most_writes: waits.iter().map(|w| w.1).max().unwrap(),
     }
 }
 
+/// Rounds and writes of each offer, with so many hidden blocks placed and every public number written.
+fn measured(placed: u32) -> Vec<(u32, u32)> {
+    let (mut owner, mut r) = (Owner::new(), Random::new(7));
+    for n in 0..placed.max(G.publics) {
+        owner.offer(n % placed, || n % G.publics);
+    }
+    let offer = |_| {
+        let hidden = r.below(u64::from(placed)) as u32;
+        owner.offer(hidden, || r.below(u64::from(G.publics)) as u32)
+    };
+    (0..OFFERS).map(offer).collect()
+}
+
+/// A number with its thousands set off.
+fn grouped(n: u32) -> String {
+    if n < 1000 { n.to_string() } else { format!("{},{:03}", grouped(n / 1000), n % 1000) }
+}
+
+/// A mean, with two places where it is small.
+fn mean(all: impl Iterator<Item = u32>) -> String {
+    let mean = f64::from(all.sum::<u32>()) / OFFERS as f64;
+    if mean < 100.0 { format!("{mean:.2}") } else { grouped(mean.round() as u32) }
+}
+
 fn main() {
-    println!("{SLOTS} slots, P 1,000, 2,000 offers each\n");
-    println!("| hidden blocks placed | of all slots | rounds, mean | rounds, most | writes, mean | writes, most |");
+    Arguments::new("waiting").end();
+    println!("2,048 slots, P 1,000, public numbers at random, 2,000 offers each\n");
+    println!(
+        "| Hidden blocks placed | Of all slots | Rounds, mean | Rounds, most | Writes, mean | Writes, most |"
+    );
     println!("|---|---|---|---|---|---|");
-    for filled in [1, 256, 512, 1024, 1536, 1843, 2047] {
-        let w = measured(SLOTS - 1, filled, 1000);
-        let share = 100 * filled / SLOTS;
+    for placed in [1, 256, 512, 1024, 1536, 1843, 2047] {
+        let waits = measured(placed);
+        let (rounds, writes) = (waits.iter().map(|w| w.0), waits.iter().map(|w| w.1));
+        let most = |all: &mut dyn Iterator<Item = u32>| grouped(all.max().unwrap());
         println!(
-            "| {filled} | {share} % | {:.2} | {} | {:.2} | {} |",
-            w.mean_rounds, w.most_rounds, w.mean_writes, w.most_writes
+            "| {} | {} % | {} | {} | {} | {} |",
+            grouped(placed),
+            100 * placed / G.slots,
+            mean(rounds.clone()),
+            most(&mut rounds.clone()),
+            mean(writes.clone()),
+            most(&mut writes.clone())
         );
     }
 }

@@ -1,0 +1,86 @@
+//! Calls with all that they lend, what they give, and both in words.
+use crate::engine::{Engine, Geometry, Needs, Write, Written};
+
+pub enum Call {
+    Format(Geometry),
+    PublicRead(u32, Vec<u8>),
+    HiddenRead(u32, Vec<u8>),
+    Needs(u32),
+    Write { number: u32, data: Vec<u8>, offer: Option<(u32, Vec<u8>)>, random: Vec<u8>, list: Vec<u32> },
+}
+
+/// Of a read the offset in the disk, none for the blank, and the length of what is shown; of a write also the
+/// whole list.
+#[derive(PartialEq, Eq, Debug)]
+pub enum Given {
+    Formatted(Result<(), u32>),
+    Shown(Result<(Option<usize>, usize), u32>),
+    Needed(Needs),
+    Wrote(Written, Vec<u32>),
+}
+
+impl Call {
+    pub fn run(&self, engine: &Engine, disk: &mut [u8]) -> Given {
+        let shown = |part: &[u8], blank: &[u8]| {
+            let inside = part.as_ptr() != blank.as_ptr();
+            (inside.then(|| part.as_ptr() as usize - disk.as_ptr() as usize), part.len())
+        };
+        match self {
+            Call::Format(g) => Given::Formatted((engine.format)(disk, *g)),
+            Call::PublicRead(number, blank) => {
+                Given::Shown((engine.public_read)(disk, *number, blank).map(|part| shown(part, blank)))
+            }
+            Call::HiddenRead(number, blank) => {
+                Given::Shown((engine.hidden_read)(disk, *number, blank).map(|part| shown(part, blank)))
+            }
+            Call::Needs(number) => Given::Needed((engine.needs)(disk, *number)),
+            Call::Write { number, data, offer, random, list } => {
+                let offer = offer.as_ref().map(|(number, data)| (*number, &data[..]));
+                let mut list = list.clone();
+                let write = Write { number: *number, data, offer, random };
+                Given::Wrote((engine.write)(disk, &write, &mut list), list)
+            }
+        }
+    }
+
+    /// The call in words, without the bytes that it lends.
+    pub fn told(&self) -> String {
+        match self {
+            Call::Format(g) => format!("format for {g:?}"),
+            Call::PublicRead(number, blank) => {
+                format!("public read of {number}, blank of {} bytes", blank.len())
+            }
+            Call::HiddenRead(number, blank) => {
+                format!("hidden read of {number}, blank of {} bytes", blank.len())
+            }
+            Call::Needs(number) => format!("needs of {number}"),
+            Call::Write { number, data, offer, random, list } => {
+                let offer = match offer {
+                    Some((number, data)) => format!("offer {number} of {} bytes", data.len()),
+                    None => "no offer".to_string(),
+                };
+                let lent = format!("{} random bytes, {} list entries", random.len(), list.len());
+                format!("write of {number}, data of {} bytes, {offer}, {lent}", data.len())
+            }
+        }
+    }
+}
+
+impl Given {
+    /// Where this differs from another.
+    pub fn apart_from(&self, other: &Given) -> String {
+        match (self, other) {
+            (Given::Wrote(report, list), Given::Wrote(same, others)) if report == same => {
+                let entry = (0..list.len()).find(|&i| list[i] != others[i]).unwrap();
+                format!("list entry {entry} is {}, not {}", list[entry], others[entry])
+            }
+            (Given::Wrote(report, _), Given::Wrote(another, _)) => format!("{report:?}, not {another:?}"),
+            _ => format!("{self:?}, not {other:?}"),
+        }
+    }
+
+    /// Whether the call may have changed the disk.
+    pub fn changes(&self) -> bool {
+        matches!(self, Given::Formatted(Ok(())) | Given::Wrote(Written { answer: 0, .. }, _))
+    }
+}

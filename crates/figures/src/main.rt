@@ -1,5 +1,7 @@
 // Prints document 01's figures ("Figures to hold against") and the examples of its refusal table: geometry,
-// formatting, both reads and the write. A line for each, with what the document says and what the code gives.
+// formatting, both reads and the write; and document 02's largest bit place (K4). A line for each, with what
+// the document says and what the code gives.
+use layout::bitmap::bit_place;
 use layout::geometry::Geometry;
 use layout::geometry::area_start;
 use layout::geometry::block_count;
@@ -14,8 +16,12 @@ use write_figures::needs::print_all_needs;
 use write_figures::refused_writes::print_refusals;
 use write_figures::writes::print_writes;
 ghost use mathlib.Core.Path.{_≡_};
+ghost use Prim.Native.Nat.{_<_};
+ghost use lib.Dec.{eqb};
+ghost use Rattle.model.specs.Layout.{bitPlace};
 ghost use Rattle.model.specs.Refusals.{formatRefusal};
 ghost use Rattle.model.specs.Calls.{formatted};
+ghost use Rattle.model.specs.Promises.Figures.{geometry};
 ghost use Rattle.layout.specs.Geometries.{geometryOf};
 
 // Formats a disk, prints the answer and gives it.
@@ -38,6 +44,27 @@ fn print_areas() -> u32
     print_figure(b"D", 4, start.0 as u64);
     print_figure(b"T", 16, blocks);
     print_figure(b"bytes", 512, blocks * (small.block_size as u64));
+    3
+}
+
+// The place of a slot's bit within its bitmap block where blocks have 4,096 bytes and k is 2; answers whether
+// it agrees.
+fn print_place(name: &[u8], expected: u64, slot: u32) -> bool
+    requires { ⌜ slot < 21846 ⌝ }
+    ensures { λ r. ⌜ r ≡ eqb expected (bitPlace (geometry 4096 2 1 1 21846) slot) ⌝ }
+{
+    let place = bit_place(two_high(4096, 1, 1, 21846), slot);
+    print_figure(name, expected, place as u64)
+}
+
+// The last slot of the first bitmap block, the slot after it, and the slot whose bit has the largest place;
+// answers the number of lines.
+fn print_places() -> u32
+    ensures { λ r. ⌜ r ≡ 3 ⌝ }
+{
+    print_place(b"bit place of slot 10922", 32766, 10922);
+    print_place(b"bit place of slot 10923", 1, 10923);
+    print_place(b"bit place of slot 21845", 32767, 21845);
     3
 }
 
@@ -93,6 +120,7 @@ fn print_fresh() -> u32
 
 fn main() {
     print_areas();
+    print_places();
     print_answers();
     print_fresh();
     print_reads();

@@ -14,7 +14,7 @@ ghost use Rattle.layout.specs.Geometries.{geometryOf};
 // ---- bits of a byte ----
 
 // Whether a byte's bit is 1.
-fn bit_of(byte: u8, place: usize) -> bool
+fn bit_of(byte: u8, place: u16) -> bool
     requires { ⌜ place < 8 ⌝ }
     ensures { λ r. ⌜ r ≡ bitOf place byte ⌝ }
 {
@@ -22,7 +22,7 @@ fn bit_of(byte: u8, place: usize) -> bool
 }
 
 // The byte with that bit 1 or 0 as asked.
-fn with_bit(byte: u8, place: usize, is_set: bool) -> u8
+fn with_bit(byte: u8, place: u16, is_set: bool) -> u8
     requires { ⌜ place < 8 ⌝ }
     ensures { λ r. ⌜ r ≡ withBit place «is_set» byte ⌝ }
 {
@@ -37,19 +37,19 @@ fn with_bit(byte: u8, place: usize, is_set: bool) -> u8
 // ---- bits of a block ----
 
 // Whether the bit at a place of a block is 1.
-pub fn bit_at(block: &[u8], place: usize) -> bool
+pub fn bit_at(block: &[u8], place: u16) -> bool
     requires { ⌜ place / 8 < length (now block) ⌝ }
     ensures { λ r. ⌜ r ≡ bitAt place (now (block .entry)) ⌝ }
 {
-    bit_of(block[place / 8], place % 8)
+    bit_of(block[(place / 8) as usize], place % 8)
 }
 
 // Sets the bit at a place of a block to 1 or 0 as asked; the other bits stay.
-pub fn set_bit(block: &mut [u8], place: usize, is_set: bool)
+pub fn set_bit(block: &mut [u8], place: u16, is_set: bool)
     requires { ⌜ place / 8 < length (now block) ⌝ }
     ensures { λ _. ⌜ now (block .exit) ≡ setBit place «is_set» (now (block .entry)) ⌝ }
 {
-    let at = place / 8;
+    let at = (place / 8) as usize;
     block[at] = with_bit(block[at], place % 8, is_set);
 }
 
@@ -64,13 +64,13 @@ fn area_place(g: Geometry, slot: u32) -> usize
     (slot as usize) * (g.height as usize + 1)
 }
 
-// That bit's place within its bitmap block.
-pub fn bit_place(g: Geometry, slot: u32) -> usize
+// That bit's place within its bitmap block: below 8B, so at most 32,767.
+pub fn bit_place(g: Geometry, slot: u32) -> u16
     requires { ⌜ Fits (geometryOf g) ⌝ }
     requires { ⌜ slot < g .slots ⌝ }
     ensures { λ r. ⌜ r ≡ bitPlace (geometryOf g) slot ⌝ }
 {
-    area_place(g, slot) % (8 * (g.block_size as usize))
+    (area_place(g, slot) % (8 * (g.block_size as usize))) as u16
 }
 
 // Address of the bitmap block that holds that bit.

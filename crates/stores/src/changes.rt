@@ -7,7 +7,7 @@ ghost use Rattle.stores.specs.Changes.{changed, Inside};
 pub enum Change {
     Nothing,
     Entry(usize, u32),
-    Bit(usize, bool),
+    Bit(u16, bool),
 }
 
 // Makes the change in a block; its other bytes stay.

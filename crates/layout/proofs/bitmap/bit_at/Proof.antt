@@ -4,6 +4,9 @@ use Rattle.laws.specs.Bits.{bitAt}
 use Rattle.layout.proofs.bitmap.bit_at.Statement.{statement}
 use Rattle.layout.proofs.bitmap.bit_at.Tie as tie
 
+cast-bit-of : tie.Need-cast-bit-of
+cast-bit-of c = search needs
+
 shared-slice-read-bit-of : tie.Need-shared-slice-read-bit-of
 shared-slice-read-bit-of c = search needs
 
@@ -15,4 +18,4 @@ unfolding bitAt
 returns c = c .bit-of .ensures
 
 pub bit-at-spec : {M : Type 1} → statement M
-bit-at-spec = tie.close (tie.spec shared-slice-read-bit-of bit-of-requires returns)
+bit-at-spec = tie.close (tie.spec cast-bit-of shared-slice-read-bit-of bit-of-requires returns)

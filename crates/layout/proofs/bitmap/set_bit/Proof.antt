@@ -7,6 +7,9 @@ use Rattle.laws.specs.Bits.{setBit}
 use Rattle.layout.proofs.bitmap.set_bit.Statement.{statement}
 use Rattle.layout.proofs.bitmap.set_bit.Tie as tie
 
+cast-at : tie.Need-cast-at
+cast-at c = search needs
+
 slice-read-with-bit : tie.Need-slice-read-with-bit
 slice-read-with-bit c = search needs
 
@@ -28,4 +31,4 @@ returns c =
 pub set-bit-spec : {M : Type 1} → statement M
 set-bit-spec =
     tie.close
-    (tie.spec slice-read-with-bit with-bit-requires slice-write-block same-length returns)
+    (tie.spec cast-at slice-read-with-bit with-bit-requires slice-write-block same-length returns)

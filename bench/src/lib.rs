@@ -12,3 +12,6 @@ pub mod plot;
 pub mod proved;
 pub mod random;
 pub mod workload;
+
+/// All three mappers, the proved one first.
+pub const ENGINES: [engine::Engine; 3] = [proved::PROVED, plain::PLAIN, inplace::IN_PLACE];

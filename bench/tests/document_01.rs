@@ -1,11 +1,8 @@
 //! Document 01's examples and figures, on every mapper: B 32, k 2, P 3, H 2, M 4.
+use pddm_bench::ENGINES;
 use pddm_bench::drive::put_entry;
 use pddm_bench::engine::{Engine, Geometry, NONE, NOT_TRIED, PLACED, Write, Written, fresh};
-use pddm_bench::inplace::IN_PLACE;
-use pddm_bench::plain::PLAIN;
-use pddm_bench::proved::PROVED;
 
-const ENGINES: [Engine; 3] = [PROVED, PLAIN, IN_PLACE];
 const G: Geometry = Geometry { block_size: 32, height: 2, publics: 3, hidden: 2, slots: 4 };
 const BLANK: [u8; 32] = [0; 32];
 

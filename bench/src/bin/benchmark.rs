@@ -4,19 +4,15 @@
 //! stack of one write, and how a write's cost grows with M, k and B, which is also drawn to the file PLOT as
 //! SVG. Ratios are paired: of turns that follow each other. Ends with status 1 if the proved mapper takes
 //! more than K11 allows.
+use pddm_bench::ENGINES;
 use pddm_bench::arguments::Arguments;
 use pddm_bench::drives::capacity;
 use pddm_bench::engine::{Engine, Geometry, fresh};
-use pddm_bench::inplace::IN_PLACE;
-use pddm_bench::plain::PLAIN;
 use pddm_bench::plot::{Panel, svg};
-use pddm_bench::proved::PROVED;
 use pddm_bench::workload::{CALLS, Caller, GEOMETRY};
 use std::hint::black_box;
 use std::process::ExitCode;
 use std::time::Instant;
-
-const ENGINES: [Engine; 3] = [PROVED, PLAIN, IN_PLACE];
 
 /// What K11 allows: proved against plain.
 const BOUND: f64 = 2.0;

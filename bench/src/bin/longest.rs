@@ -5,8 +5,7 @@ use pddm_bench::engine::{Geometry, Write, ample, fresh};
 use pddm_bench::proved::PROVED;
 use std::time::Instant;
 
-const G: Geometry =
-    Geometry { block_size: 4096, height: 3, publics: 65_536, hidden: 65_536, slots: 131_072 };
+const G: Geometry = Geometry { block_size: 4096, height: 3, publics: 65_536, hidden: 65_536, slots: 131_072 };
 
 fn main() {
     Arguments::new("longest").end();

@@ -9,8 +9,8 @@ use native.Mathlib.Nat.{suc-add, zero-add}
 use native.Mathlib.Numerals.{add-one}
 use native.Mathlib.Omega.{arith}
 use lib.Seq.{ext-getD, length-take-le, take-at, drop-at, take-append-le, drop-append-add, drop-drop}
-use lib.Seq.{take-take, take-nil, getD-take, getD-drop, drop-set-add, take-set-lt, drop-set-lt, take-set-le}
-use lib.Seq.{set-split, append-snoc, take-add}
+use lib.Seq.{take-take, take-nil, getD-take, getD-drop, drop-set-add, take-set-lt}
+use lib.Seq.{set-split, append-snoc, take-add, take-all}
 use lib.ListN.{length-replicate, length, getD, take, drop, set, replicate, length-append, length-take}
 use lib.ListN.{length-drop, take-append-drop, drop-of-length-le, List·getD-eq-default}
 use lib.Dec.{eqb}
@@ -71,17 +71,6 @@ module _ {A : Type 0} where
   unfolding part
   part-set-in from size index x xs h =
       ap (take size) (drop-set-add from xs index x) ∙ take-set-lt size (drop from xs) index x h
-
-  pub part-set-before : (from size index : ℕ) (x : A) (xs : List A) → index < from →
-      part from size (set xs index x) ≡ part from size xs
-  unfolding part
-  part-set-before from size index x xs h = ap (take size) (drop-set-lt from xs index x h)
-
-  pub part-set-after : (from size index : ℕ) (x : A) (xs : List A) → from + size ≤ index →
-      part from size (set xs index x) ≡ part from size xs
-  part-set-after from size index x xs h =
-      part-of-take from size (set xs index x) ∙ ap (drop from) (take-set-le (from + size) xs index x h)
-      ∙ sym (part-of-take from size xs)
 
   -- ---- over ----
 
@@ -167,18 +156,13 @@ module _ {A : Type 0} where
         simp length-append (omega arith) in
         rw (p, q, e) (ap (λ (ys : List A). ys ++ drop (from + length new + length more) old)
         (append-assoc (take from old) new more))
-
     -- the same place written again
-    pub over-over-same : (again : List A) → length again ≡ length new →
-        over from again (over from new old) ≡ over from again old
-    unfolding over
-    over-over-same again e =
-        let p : take from (over from new old) ≡ take from old = take-over-before from (omega arith) in
-        let q : drop (from + length again) (over from new old) ≡ drop (from + length again) old =
-        rw e (drop-over-after (from + length new) (omega arith)) in
-        rw (p, q)
 
   -- ---- special cases ----
+
+  -- all that is left after a place
+  pub take-drop : (from : ℕ) (xs : List A) → take (length xs - from) (drop from xs) ≡ drop from xs
+  take-drop from xs = take-all (length xs - from) (drop from xs) (simp length-drop (omega arith))
 
   -- the front is what was put there
   pub take-over : (new old : List A) → length new ≤ length old → take (length new) (over 0 new old) ≡ new

@@ -4,3 +4,4 @@ pub mod Endings
 pub mod Rounds
 pub mod Steps
 pub mod Runs
+pub mod Loops

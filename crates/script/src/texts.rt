@@ -1,5 +1,4 @@
 // Text put into a lent buffer from a place on; each function answers the place after it.
-ghost use mathlib.Core.Path.{_≡_};
 ghost use Prim.Native.Nat.{_+_, _≤_};
 ghost use lib.ListN.{length};
 ghost use Rattle.script.specs.Texts.{Put, decimal};

@@ -1,12 +1,12 @@
 -- What a write takes: the ways to its answer, and that a write lent so much is not refused. Assumes nothing.
 use mathlib.Core.Path.{_≡_, refl, sym, ap, _∙_}
 use mathlib.Core.Logic.{_≢_, ⊎-elim}
-use mathlib.Core.List.{List, [], _∷_, _++_}
+use mathlib.Core.List.{List, [], _∷_}
 use Prim.Native.Nat.{ℕ, _*_, _≤_}
 use native.Mathlib.Omega.{arith}
 use lib.Dec.{eqb}
 use lib.ListN.{length}
-use borrow.Author.Tests.{eqb-false, eq-eqb, ne-eqb}
+use borrow.Author.Tests.{eq-eqb, ne-eqb}
 use Rattle.laws.specs.Checks.{Check, check, firstOf}
 use Rattle.laws.proofs.Cases.{eq-cases, cond-true, cond-false}
 use Rattle.laws.proofs.Checks.{firstOf-stop, firstOf-pass, firstOf-nil}

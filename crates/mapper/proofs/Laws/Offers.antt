@@ -2,8 +2,7 @@
 use mathlib.Core.Path.{_≡_, refl, sym, ap, _∙_}
 use mathlib.Core.Logic.{_≢_}
 use mathlib.Core.Bool.{Bool, true, false, cond, not, _&&_}
-use mathlib.Core.List.{List, [], _∷_}
-use mathlib.Core.Option.{Option, none, some}
+use mathlib.Core.List.{[], _∷_}
 use Prim.Native.Nat.{ℕ}
 use lib.Dec.{eqb}
 use lib.ListN.{length}
@@ -12,7 +11,7 @@ use Rattle.laws.specs.Checks.{firstOf}
 use Rattle.laws.proofs.Cases.{cond-true, cond-false, and-false-right, true-is-not-false}
 use Rattle.model.specs.Geometry.{Geometry}
 use Rattle.model.specs.Blocks.{Bytes}
-use Rattle.model.specs.HiddenHalf.{HiddenWrite, isWaiting}
+use Rattle.model.specs.HiddenHalf.{isWaiting}
 use Rattle.model.specs.Refusals.{hiddenChecks, hiddenWriteRefusal}
 use Rattle.model.specs.Calls as model
 use Rattle.model.proofs.Laws.Accepted.{accepted-of-hiddenWrite}

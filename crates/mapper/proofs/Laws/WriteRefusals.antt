@@ -3,17 +3,17 @@
 use mathlib.Core.Path.{_≡_, refl, sym, ap, subst, _∙_}
 use mathlib.Core.Logic.{_≢_}
 use mathlib.Core.List.{List, _++_}
-use Prim.Native.Nat.{ℕ, _*_, _≤_, _<_}
+use Prim.Native.Nat.{ℕ, _<_}
 use native.Mathlib.Omega.{arith}
 use lib.ListN.{length}
-use borrow.Author.Tests.{leb-false, lt-ltb, le-ltb, eq-eqb, ne-eqb}
+use borrow.Author.Tests.{leb-false}
 use Rattle.laws.specs.Checks.{Check, firstOf}
-use Rattle.laws.proofs.Checks.{Passed, passed-of-zero, firstOf-stop, firstOf-pass, firstOf-nil}
+use Rattle.laws.proofs.Checks.{Passed, passed-of-zero}
 use Rattle.laws.proofs.Checks.{firstOf-append-stop, firstOf-append-pass}
 use Rattle.model.specs.Geometry.{Geometry}
 use Rattle.model.specs.Blocks.{Bytes}
-use Rattle.model.specs.Layout.{geometryIn, headIn, mapEntry}
-use Rattle.model.specs.Refusals.{driveChecks, driveRefusal, placeChecks, roundCount, storeCount, roundChecks}
+use Rattle.model.specs.Layout.{geometryIn, headIn}
+use Rattle.model.specs.Refusals.{driveChecks, driveRefusal, placeChecks, roundChecks}
 use Rattle.model.specs.Refusals.{writeRefusal}
 use Rattle.model.proofs.Laws.Refusals.{accepted-of-refusal, after-drive-stop, after-drive-pass}
 

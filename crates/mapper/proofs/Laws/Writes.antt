@@ -4,14 +4,13 @@
 use mathlib.Core.Path.{_≡_, refl, sym, ap, subst, _∙_}
 use mathlib.Core.Logic.{_≢_}
 use mathlib.Core.Bool.{Bool, true, false, _&&_}
-use mathlib.Core.List.{List, []}
+use mathlib.Core.List.{List}
 use mathlib.Core.Option.{Option}
-use Prim.Native.Nat.{ℕ, _+_, _*_, _^_, _≤_, _<_}
+use Prim.Native.Nat.{ℕ, _+_, _*_, _^_, _<_}
 use native.Mathlib.Nat.{mul-assoc}
 use native.Mathlib.Omega.{arith}
 use lib.Dec.{eqb}
 use lib.ListN.{length}
-use Rattle.laws.specs.Lists.{over}
 use Rattle.laws.proofs.Cases.{cond-cases}
 use Rattle.laws.proofs.Lists.{over-nil}
 use Rattle.model.specs.Geometry.{Geometry}
@@ -33,7 +32,6 @@ use Rattle.rounds.specs.declared.runs.Ran.{Ran}
 use Rattle.plans.specs.declared.states.Offer.the-variants.{Absent, Waiting}
 use Rattle.plans.specs.States.{stateOf}
 use Rattle.rounds.specs.Runs.{Runnable, RunMade}
-use Rattle.mapper.specs.declared.write.Written.{Written}
 use Rattle.mapper.specs.declared.write.Outcome.{Outcome}
 use Rattle.mapper.specs.declared.write.Outcome.the-variants.{NotTried}
 use Rattle.mapper.specs.Writes.{outcomeSaid, offerOf, takenWrites, RanWith, Answered}

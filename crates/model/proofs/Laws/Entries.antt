@@ -1,4 +1,4 @@
--- Laws of entries: length, the four bytes, read after write at the same and at another index, zeros, bound,
+-- Laws of entries: length, the four bytes, read after write at the same and at another index, zeros,
 -- an entry of a block as one of the disk, and entries packed one after another. Assumes nothing.
 use mathlib.Core.Path.{_≡_, refl, sym, ap, _∙_}
 use mathlib.Core.Logic.{_≢_, ⊎-elim}
@@ -55,14 +55,6 @@ unfolding setEntry littleEndian over
 setEntry-bytes bytes index value h =
     rw (add-one (4 * index), add-two (4 * index), add-three (4 * index))
     (sets-eq (littleEndian 4 value) bytes (4 * index) h)
-
--- ---- bound ----
-
-pub entryAt-lt : (bytes : Bytes) (index : ℕ) → 4 * index + 4 ≤ length bytes →
-    ((at : ℕ) → getD bytes at 0 < 256) → entryAt index bytes < 2 ^ 32
-entryAt-lt bytes index h b =
-    rw (entryAt-bytes bytes index h)
-    (omega (arith, b (4 * index), b (4 * index + 1), b (4 * index + 2), b (4 * index + 3)))
 
 -- ---- zeros ----
 

@@ -77,9 +77,6 @@ fits-of-isGeometry g e =
 pub fanout-low : (g : Geometry) → Fits g → 8 ≤ fanout g
 fanout-low g f = omega arith
 
-pub fanout-high : (g : Geometry) → Fits g → fanout g ≤ 1024
-fanout-high g f = omega arith
-
 -- ---- areas ----
 
 pub mapAddress-lt : (g : Geometry) → Fits g → (number : ℕ) → number < g .publics →

@@ -1,22 +1,19 @@
 -- Laws of a round's plan: which damage stops it, and that each way to a plan is the hidden half of the model.
 -- Assumes
 -- nothing.
-use mathlib.Core.Path.{_≡_, refl, sym, ap, ap₂, subst, _∙_}
-use mathlib.Core.Bool.{Bool, true, false, cond, not, _&&_, _||_}
-use mathlib.Core.Logic.{_⊎_, inl, inr, ⊎-elim}
-use mathlib.Core.List.{List, [], _∷_}
-use Prim.Native.Nat.{ℕ, _*_}
+use mathlib.Core.Path.{_≡_, refl, sym, ap, ap₂, _∙_}
+use mathlib.Core.Bool.{Bool, true, false, cond, _&&_}
+use mathlib.Core.List.{List, []}
+use Prim.Native.Nat.{ℕ}
 use native.Mathlib.Omega.{arith}
-use lib.ListN.{length}
-use Rattle.laws.proofs.Cases.{bool-cases, true-is-not-false, cond-true, cond-false}
+use Rattle.laws.proofs.Cases.{true-is-not-false, cond-true, cond-false}
 use Rattle.model.specs.Geometry.{Geometry}
 use Rattle.model.specs.Blocks.{Bytes, blockAt}
 use Rattle.model.specs.Layout.{Drive, isAllocated, levelAddress}
 use Rattle.model.specs.HiddenTree.{walk, isDamaged}
 use Rattle.model.specs.Paths.{pathStores}
 use Rattle.model.specs.Table as model
-use Rattle.model.specs.HiddenHalf.{HiddenWrite, HiddenState, HiddenHalf, isWaiting, ownerOf, isLive}
-use Rattle.model.specs.HiddenHalf.{isOwnerDamaged}
+use Rattle.model.specs.HiddenHalf.{HiddenState, isWaiting, ownerOf, isLive}
 use Rattle.model.specs.HiddenHalf.{isNextDamaged, isBlocked, half, hiddenBy, rowOf, hiddenHalf}
 use Rattle.model.proofs.Laws.HiddenHalf.{rowOf-hidden}
 use Rattle.hidden_map.specs.Paths.{joined}
@@ -25,16 +22,13 @@ use Rattle.table.specs.declared.Row.{Row}
 use Rattle.table.specs.Rows as rows
 use Rattle.slots.specs.declared.statuses.Status.{Status}
 use Rattle.slots.specs.declared.statuses.Status.the-variants.{Live, Damaged, Stale}
-use Rattle.hidden_half.specs.declared.halves.Plan.{Plan}
 use Rattle.hidden_half.specs.declared.halves.Plan.the-variants.{Back, Keep, Place, Fill}
 use Rattle.slots.specs.Statuses.{isLiveStatus, isDamagedStatus, OwnerRead, Judged, NextRead}
 use Rattle.slot_blocks.specs.NodeBlocks.{blocksIn}
-use Rattle.hidden_half.specs.Plans.{hiddenTrace}
 use Rattle.slot_blocks.proofs.Laws.NodeBlocks.{blocksIn-walk}
 use Rattle.plans.specs.declared.states.Offer.{Offer}
 use Rattle.plans.specs.declared.states.Offer.the-variants.{Absent, Waiting, Placed}
 use Rattle.plans.specs.declared.states.State.{State}
-use Rattle.plans.specs.declared.plans.Plans.{Plans}
 use Rattle.plans.specs.States.{isWaitingOffer, waitingOf, stateOf}
 use Rattle.plans.specs.Plans.{Hindered, Planned}
 

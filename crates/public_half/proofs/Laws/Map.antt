@@ -10,7 +10,7 @@ use lib.ListN.{length}
 use Rattle.laws.proofs.Cases.{cond-cases}
 use Rattle.model.specs.Geometry.{Geometry, blockCount}
 use Rattle.model.specs.Blocks.{Bytes, DiskAddress, blockAt}
-use Rattle.model.specs.Layout.{Drive, slotStart, bitAddress, mapEntry}
+use Rattle.model.specs.Layout.{Drive, slotStart, bitAddress, mapEntry, slotOf}
 use Rattle.model.specs.Stores.{Trace, addresses}
 use Rattle.model.specs.Rounds.{mapStore, bitStore, bitStores, mapStores}
 use Rattle.model.proofs.Laws.Geometry.{mapAddress-lt, bitAddress-ge}
@@ -75,5 +75,5 @@ module _ (g : Geometry) (disk : Bytes) (drive : Drive g disk) (number slot : ℕ
       (omega (arith, length-bitStores-le g disk entry slot)) entered
       (subst (λ (trace : Trace). Made (g .blockSize) trace middle listed place after noted last)
       (bitStores-block g (drive .fits) middle disk (drive-made g entered drive mapStore-stored .whole)
-      (drive .whole) bitmap-kept entry slot inside)
+      (drive .whole) slot inside (bitmap-kept slot) entry (λ ne. bitmap-kept (slotOf g entry)))
       bits))

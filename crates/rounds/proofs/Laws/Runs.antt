@@ -1,57 +1,37 @@
--- Laws of the loop over the rounds of a write: the run is what is done and the rest of it, one round moves a
--- round from the
--- rest to what is done, and at the end there is no rest. Assumes nothing.
-use mathlib.Core.Path.{_≡_, refl, sym, ap, ap₂, subst, _∙_}
-use mathlib.Core.Bool.{true, false, cond}
+-- Laws of a run: what is done with the rest of it, and one round moved from the rest to what is done. Assumes
+-- nothing.
+use mathlib.Core.Path.{_≡_, refl, sym, ap, ap₂}
+use mathlib.Core.Bool.{true, cond}
 use mathlib.Core.Logic.{inl, inr}
-use mathlib.Core.List.{List, [], _++_, append-assoc, append-nil}
-use Prim.Native.Nat.{ℕ, suc, _+_, _*_, _-_, _≤_, _<_}
-use native.Mathlib.Nat.{mul-le-mul-right, add-mul}
+use mathlib.Core.List.{[], _++_, append-assoc, append-nil}
+use Prim.Native.Nat.{ℕ, suc, _+_, _*_}
 use native.Mathlib.Omega.{arith}
-use lib.ListN.{length, take, drop, length-append, length-drop}
-use lib.Seq.{drop-drop, take-length}
-use Rattle.laws.proofs.Cases.{cond-true, cond-false, and-left, true-is-not-false}
+use lib.ListN.{drop}
+use Rattle.laws.proofs.Cases.{and-left, true-is-not-false}
 use Rattle.model.specs.Geometry.{Geometry}
-use Rattle.model.specs.Blocks.{Bytes, DiskAddress}
-use Rattle.model.specs.Layout.{Drive, slotOf, nextSlot, isSlotBlock, isAllocated, mapEntry, isPlace}
+use Rattle.model.specs.Blocks.{Bytes}
+use Rattle.model.specs.Layout.{slotOf, nextSlot, isSlotBlock, isAllocated, mapEntry, isPlace}
 use Rattle.model.specs.Stores.{Trace, apply}
 use Rattle.model.specs.Table.{PublicChoice, keepPublic, writePublic}
 use Rattle.model.specs.HiddenHalf.{HiddenState, hiddenHalf}
-use Rattle.model.specs.Rounds.{Run, stopped, followedBy, goesOn, roundTrace, runFrom}
-use Rattle.model.proofs.Laws.HiddenHalf.{WholeWrite, hiddenHalf-hides}
-use Rattle.model.proofs.Laws.Paths.{Hides}
+use Rattle.model.specs.Rounds.{Run, stopped, followedBy, goesOn, runFrom}
 use Rattle.model.proofs.Laws.Places.{Placed}
-use Rattle.model.proofs.Laws.RoundStores.{Round, round-stored}
-use Rattle.model.proofs.Laws.Slots.{nextSlot-lt}
-use Rattle.model.proofs.Laws.Wrote.{placed-kept}
-use Rattle.stores.specs.Made.{Made}
-use Rattle.stores.proofs.Laws.Made.{made-nothing, made-then, drive-made, length-made-list}
 use Rattle.public_half.specs.Entries.{OldEntry}
-use Rattle.plans.specs.declared.states.State.{State}
-use Rattle.rounds.specs.declared.rounds.Step.{Step}
-use Rattle.plans.specs.States.{stateOf}
-use Rattle.rounds.specs.Rounds.{choiceAt, roundAt, Ready, Stepped}
-use Rattle.rounds.specs.Runs.{Runnable}
-use Rattle.rounds.proofs.Laws.Steps.{waiting-whole}
+use Rattle.rounds.specs.Rounds.{choiceAt, roundAt}
 
 -- ---- a run, and what is done before it ----
-
-abbrev pub runWith :
-    (most : ℕ) → Geometry → (number : ℕ) → (content : Bytes) → (slot : ℕ) → (random disk : Bytes) →
-    HiddenState → Run
-runWith most g number content slot random disk state = runFrom most g number content slot random disk state
 
 abbrev pub after : (front : Trace) → (done : ℕ) → Run → Run
 after front done rest =
     record { trace = front ++ rest .trace; rounds = done + rest .rounds; state = rest .state }
 
-after-nothing : (run : Run) → run ≡ after [] 0 run
+pub after-nothing : (run : Run) → run ≡ after [] 0 run
 after-nothing run =
     let e : run .rounds ≡ 0 + run .rounds = omega arith in
     ap (λ (n : ℕ). record { trace = run .trace; rounds = n; state = run .state }) e
 
 -- a round goes over from the rest
-after-round :
+pub after-round :
     (front : Trace) (done : ℕ) (round : Trace) (rest : Run) →
     after front done (followedBy round rest) ≡ after (front ++ round) (done + 1) rest
 after-round front done round rest =
@@ -59,7 +39,7 @@ after-round front done round rest =
     ap₂ (λ (xs : Trace) (n : ℕ). record { trace = xs; rounds = n; state = rest .state })
     (sym (append-assoc front round (rest .trace))) e
 
-after-stopped :
+pub after-stopped :
     (front : Trace) (done : ℕ) (state : HiddenState) →
     after front done (stopped state) ≡ record { trace = front; rounds = done; state = state }
 after-stopped front done state =
@@ -69,13 +49,13 @@ after-stopped front done state =
 -- ---- one round of a run ----
 
 -- the rest after a round, by the table's choice
-abbrev restBy :
+abbrev pub restBy :
     (choice : PublicChoice) → (most : ℕ) → Geometry → (number : ℕ) → (content : Bytes) → (slot : ℕ) →
     (random disk : Bytes) → HiddenState → Run
 restBy choice most g number content slot random disk state =
     cond (goesOn choice) (runFrom most g number content slot random disk state) (stopped state)
 
-runFrom-round :
+pub runFrom-round :
     (most : ℕ) (g : Geometry) (number : ℕ) (content : Bytes) (slot : ℕ) (random disk : Bytes)
     (state : HiddenState) →
     runFrom (suc most) g number content slot random disk state ≡
@@ -87,274 +67,20 @@ runFrom-round :
 unfolding runFrom
 runFrom-round most g number content slot random disk state = refl
 
-runFrom-zero :
+pub runFrom-zero :
     (g : Geometry) (number : ℕ) (content : Bytes) (slot : ℕ) (random disk : Bytes) (state : HiddenState) →
     runFrom 0 g number content slot random disk state ≡ stopped state
 unfolding runFrom
 runFrom-zero g number content slot random disk state = refl
 
-keep-of-goes-on : (choice : PublicChoice) → goesOn choice ≡ true → choice ≡ keepPublic
+pub keep-of-goes-on : (choice : PublicChoice) → goesOn choice ≡ true → choice ≡ keepPublic
 keep-of-goes-on keepPublic e = refl
 keep-of-goes-on writePublic e = true-is-not-false e refl
 
-entry-of-placed : (g : Geometry) (disk : Bytes) (number : ℕ) → Placed g disk number →
+pub entry-of-placed : (g : Geometry) (disk : Bytes) (number : ℕ) → Placed g disk number →
     OldEntry g (mapEntry g disk number)
 unfolding isPlace
 entry-of-placed g disk number (inl e) = inl e
 entry-of-placed g disk number (inr e) =
     let entry = mapEntry g disk number in
     inr (and-left (isSlotBlock g 0 entry) (isAllocated g disk (slotOf g entry)) e)
-
--- all bytes from an index on
-pub lent-rest : (xs : Bytes) (from : ℕ) → take (length xs - from) (drop from xs) ≡ drop from xs
-lent-rest xs from = ap (λ (n : ℕ). take n (drop from xs)) (sym (length-drop from xs)) ∙ take-length
-    (drop from xs)
-
--- ---- the loop ----
-
--- what holds whenever the loop's test is reached
-pub record Going (g : Geometry) (number : ℕ) (content random hidden : Bytes) (offered : ℕ) (run : Run)
-    (disk : Bytes)
-    (list : List DiskAddress) (next : ℕ) (diskNow : Bytes) (listNow : List DiskAddress) (slot at : ℕ)
-    (state : State)
-    (done : ℕ) : Type 0 where
-  pub front : Trace
-  pub made : Made (g .blockSize) front disk list next diskNow listNow at
-  pub within : done ≤ g .slots
-  pub drive : Drive g diskNow
-  pub inside : slot < g .slots
-  pub placed : Placed g diskNow number
-  pub list-kept : length listNow ≡ length list
-  pub run-is :
-      run ≡ after front done (runFrom (g .slots - done) g number content slot
-      (drop (done * (g .height * g .blockSize)) random) diskNow (stateOf state offered hidden))
-
-module _ (g : Geometry) (number : ℕ) (content random hidden : Bytes) (offered : ℕ) (disk : Bytes) (head : ℕ)
-    (list : List DiskAddress) (next : ℕ) (state : State) where
-  abbrev pub theRun : Run
-  theRun = runFrom (g .slots) g number content head random disk (stateOf state offered hidden)
-
-  pub going-none :
-      Runnable g disk number head content random hidden theRun next (length list) →
-      Going g number content random hidden offered theRun disk list next disk list head next state 0
-  going-none r =
-      let e : g .slots ≡ g .slots - 0 = omega arith in
-      let z : 0 ≡ 0 * (g .height * g .blockSize) = omega arith in
-      record {
-        front = [];
-        made = made-nothing (g .blockSize) disk list next (omega (arith, r .room-enough));
-        within = omega arith;
-        drive = r .drive;
-        inside = r .head-inside;
-        placed = r .old-place;
-        list-kept = refl;
-        run-is =
-            after-nothing theRun
-            ∙ ap₂ (λ (n m : ℕ).
-            after [] 0 (runFrom n g number content head (drop m random) disk (stateOf state offered hidden)))
-            e z;
-      }
-
-module _ {g : Geometry} {number head : ℕ} {content random hidden : Bytes} {offered : ℕ} {run : Run}
-    {disk : Bytes} {list : List DiskAddress} {next : ℕ}
-    (ready : Runnable g disk number head content random hidden run next (length list)) {diskNow : Bytes}
-    {listNow : List DiskAddress} {slot at : ℕ} {state : State} {done : ℕ}
-    (going : Going g number content random hidden offered run disk list next diskNow listNow slot at state
-    done)
-  where
-    abbrev stateNow : HiddenState
-    stateNow = stateOf state offered hidden
-
-    abbrev randomNow : Bytes
-    randomNow = drop (done * (g .height * g .blockSize)) random
-
-    abbrev round : Trace
-    round = roundAt g diskNow number slot content randomNow stateNow
-
-    abbrev rest : Run
-    rest =
-        restBy (choiceAt g diskNow slot stateNow) (g .slots - (done + 1)) g number content (nextSlot g slot)
-        (drop (g .height * g .blockSize) randomNow) (apply (g .blockSize) round diskNow)
-        (hiddenHalf g diskNow slot randomNow stateNow .state)
-
-    pub going-over :
-        g .slots ≤ done → run ≡ record { trace = going .front; rounds = done; state = stateNow }
-    going-over h =
-        let e : g .slots - done ≡ 0 = omega arith in
-        going .run-is
-        ∙ ap (λ (n : ℕ). after (going .front) done (runFrom n g number content slot randomNow diskNow
-        stateNow)) e
-        ∙ ap (after (going .front) done) (runFrom-zero g number content slot randomNow diskNow stateNow)
-        ∙ after-stopped (going .front) done stateNow
-
-    pub made-over : g .slots ≤ done → Made (g .blockSize) (run .trace) disk list next diskNow listNow at
-    made-over h =
-        subst (λ (r : Run). Made (g .blockSize) (r .trace) disk list next diskNow listNow at)
-        (sym (going-over h))
-        (going .made)
-
-    module _ (more : done < g .slots) where
-      run-round : run ≡ after (going .front ++ round) (done + 1) rest
-      run-round =
-          let e : g .slots - done ≡ suc (g .slots - (done + 1)) = omega arith in
-          going .run-is
-          ∙ ap (λ (n : ℕ). after (going .front) done (runFrom n g number content slot randomNow diskNow
-          stateNow)) e
-          ∙ ap (after (going .front) done)
-          (runFrom-round (g .slots - (done + 1)) g number content slot randomNow diskNow stateNow)
-          ∙ after-round (going .front) done round rest
-
-      pub random-from : done * (g .height * g .blockSize) + g .height * g .blockSize ≤ length random
-      random-from =
-          let counts : run .rounds ≡ done + 1 + rest .rounds = ap (λ (r : Run). r .rounds) run-round in
-          let few : done + 1 ≤ run .rounds = omega arith in
-          omega (
-            arith,
-            mul-le-mul-right (g .height * g .blockSize) few,
-            add-mul done 1 (g .height * g .blockSize),
-            ready .random-enough,
-          )
-
-      pub round-room : at + length round ≤ length listNow
-      round-room =
-          let longs : length (run .trace) ≡ length ((going .front ++ round) ++ rest .trace) =
-          ap (λ (r : Run). length (r .trace)) run-round in
-          omega (
-            arith,
-            longs,
-            length-append (going .front ++ round) (rest .trace),
-            length-append (going .front) round,
-            going .made .counted,
-            going .list-kept,
-            ready .room-enough,
-          )
-
-      random-here : g .height * g .blockSize ≤ length randomNow
-      random-here = simp length-drop (omega (arith, random-from))
-
-      pub round-ready : Ready g diskNow number slot content randomNow hidden
-      round-ready =
-          record {
-            drive = going .drive;
-            number-inside = ready .number-inside;
-            slot-inside = going .inside;
-            content-whole = ready .content-whole;
-            hidden-whole = ready .hidden-whole;
-            random-enough = random-here;
-            old-entry = entry-of-placed g diskNow number (going .placed);
-          }
-
-      hides : Hides g slot (hiddenHalf g diskNow slot randomNow stateNow .trace)
-      hides =
-          hiddenHalf-hides g (going .drive .fits) diskNow (going .drive .whole) slot (going .inside) randomNow
-          random-here
-          (WholeWrite g) (λ write h. h) stateNow (waiting-whole g (state .offer) offered hidden
-          (ready .hidden-whole)) .hides
-
-      this-round : Round g diskNow number slot content (hiddenHalf g diskNow slot randomNow stateNow .trace)
-      this-round =
-          record {
-            fits = going .drive .fits;
-            whole = going .drive .whole;
-            counted = ready .number-inside;
-            inside = going .inside;
-            sized = ready .content-whole;
-            placed = going .placed;
-            hides = hides;
-          }
-
-      module _ {diskAfter : Bytes} {listAfter : List DiskAddress} {step : Step}
-          (stepped : Stepped g diskNow listNow at number slot content randomNow state offered hidden diskAfter
-          listAfter
-          step) where
-        made-round : Made (g .blockSize) (going .front ++ round) disk list next diskAfter listAfter
-            (step .next)
-        made-round =
-            made-then (going .front) round (omega (arith, round-room, going .made .counted, going .list-kept))
-            (going .made)
-            (stepped .made)
-
-        -- no other round follows: all of the run is done
-        pub run-ends :
-            step .«goes_on» ≡ false →
-            run ≡ record {
-              trace = going .front ++ round;
-              rounds = done + 1;
-              state = stateOf (step .state) offered hidden;
-            }
-        run-ends e =
-            run-round
-            ∙ ap (after (going .front ++ round) (done + 1)) (cond-false _ _ (sym (stepped .goes-on) ∙ e))
-            ∙ after-stopped (going .front ++ round) (done + 1) _
-            ∙ ap (λ (s : HiddenState). record { trace = going .front ++ round; rounds = done + 1; state = s })
-            (sym (stepped .state-is))
-
-        pub made-ends :
-            step .«goes_on» ≡ false → Made (g .blockSize) (run .trace) disk list next diskAfter listAfter
-            (step .next)
-        made-ends e =
-            subst (λ (r : Run). Made (g .blockSize) (r .trace) disk list next diskAfter listAfter
-            (step .next))
-            (sym (run-ends e)) made-round
-
-        -- another round follows
-        pub going-next :
-            step .«goes_on» ≡ true →
-            Going g number content random hidden offered run disk list next diskAfter listAfter
-            (nextSlot g slot)
-            (step .next) (step .state) (done + 1)
-        going-next e =
-            let on : goesOn (choiceAt g diskNow slot stateNow) ≡ true = sym (stepped .goes-on) ∙ e in
-            let kept = keep-of-goes-on (choiceAt g diskNow slot stateNow) on in
-            record {
-              front = going .front ++ round;
-              made = made-round;
-              within = omega arith;
-              drive =
-                  drive-made g (stepped .made) (going .drive)
-                  (round-stored this-round (choiceAt g diskNow slot stateNow));
-              inside = nextSlot-lt g slot (going .drive .fits);
-              placed =
-                  subst (λ (d : Bytes). Placed g d number) (sym (stepped .made .on-disk))
-                  (subst (λ (choice : PublicChoice).
-                  Placed g (apply (g .blockSize) (roundTrace choice g diskNow number slot content
-                  (hiddenHalf g diskNow slot randomNow stateNow .trace)) diskNow) number) (sym kept)
-                  (placed-kept this-round));
-              list-kept = length-made-list (stepped .made) round-room ∙ going .list-kept;
-              run-is =
-                  run-round
-                  ∙ ap (after (going .front ++ round) (done + 1)) (cond-true _ _ on ∙ rest-same);
-            }
-          where
-            rest-same :
-                runFrom (g .slots - (done + 1)) g number content (nextSlot g slot)
-                (drop (g .height * g .blockSize) randomNow) (apply (g .blockSize) round diskNow)
-                (hiddenHalf g diskNow slot randomNow stateNow .state) ≡
-                runFrom (g .slots - (done + 1)) g number content (nextSlot g slot)
-                (drop ((done + 1) * (g .height * g .blockSize)) random) diskAfter
-                (stateOf (step .state) offered hidden)
-            rest-same =
-                let width : ℕ = g .height * g .blockSize in
-                let moved : done * (g .height * g .blockSize) + g .height * g .blockSize ≡
-                (done + 1) * (g .height * g .blockSize) =
-                omega (arith, add-mul done 1 (g .height * g .blockSize)) in
-                let dropped : drop (g .height * g .blockSize) randomNow ≡
-                drop ((done + 1) * (g .height * g .blockSize)) random =
-                drop-drop (g .height * g .blockSize) (done * (g .height * g .blockSize)) random
-                ∙ ap (λ (n : ℕ). drop n random) moved in
-                ap₂ (λ (xs ds : Bytes).
-                runFrom (g .slots - (done + 1)) g number content (nextSlot g slot) xs ds
-                (hiddenHalf g diskNow slot randomNow stateNow .state)) dropped (sym (stepped .made .on-disk))
-                ∙ ap (runFrom (g .slots - (done + 1)) g number content (nextSlot g slot)
-                (drop ((done + 1) * (g .height * g .blockSize)) random) diskAfter) (sym (stepped .state-is))
-
--- the loop's invariant: that, and buffers as long as they were
-pub record Looping (g : Geometry) (number : ℕ) (content random hidden : Bytes) (offered : ℕ) (run : Run)
-    (disk : Bytes)
-    (list : List DiskAddress) (next : ℕ) (nodes block diskNow : Bytes) (listNow : List DiskAddress)
-    (nodesNow blockNow : Bytes) (slot at : ℕ) (state : State) (done : ℕ) : Type 0 where
-  pub going : Going g number content random hidden offered run disk list next diskNow listNow slot at state
-      done
-  pub disk-kept : length diskNow ≡ length disk
-  pub nodes-kept : length nodesNow ≡ length nodes
-  pub block-kept : length blockNow ≡ length block

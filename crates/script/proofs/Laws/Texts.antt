@@ -1,13 +1,13 @@
 -- Laws of a text in a buffer: none, one byte, one text after another, the length of the buffer; and a loop
 -- that puts a text from its front. Assumes nothing.
 use mathlib.Core.Path.{_≡_, refl, sym, ap, _∙_}
-use mathlib.Core.List.{List, [], _∷_, _++_}
-use Prim.Native.Nat.{ℕ, _+_, _-_, _≤_, _<_}
+use mathlib.Core.List.{[], _∷_, _++_}
+use Prim.Native.Nat.{ℕ, _+_, _≤_, _<_}
 use native.Mathlib.Nat.{le-antisymm}
 use native.Mathlib.Numerals.{add-one}
 use native.Mathlib.Omega.{arith}
-use lib.ListN.{length, getD, take, drop, set, length-append, length-drop}
-use lib.Seq.{paste, paste-suc, take-length, take-all}
+use lib.ListN.{length, getD, set, length-append}
+use lib.Seq.{paste, paste-suc, take-length}
 use Rattle.laws.proofs.Lists.{over-is, over-nil, over-one, over-append, length-over}
 use Rattle.script.specs.Texts.{Bytes, Put}
 
@@ -70,10 +70,6 @@ module _ (text out : Bytes) (at : ℕ) (after : Bytes) (last : ℕ) (put : Put t
       let same : length after ≡ length out = put-length text out at after last put room in
       put-append text out at after last put room (byte ∷ []) (set after last byte) (last + 1)
       (put-one after last byte (omega (arith, last-inside))) (omega (arith, last-inside))
-
--- all that is left after a place
-pub take-drop : (at : ℕ) (xs : List ℕ) → take (length xs - at) (drop at xs) ≡ drop at xs
-take-drop at xs = take-all (length xs - at) (drop at xs) (simp length-drop (omega arith))
 
 -- ---- a loop over a text ----
 

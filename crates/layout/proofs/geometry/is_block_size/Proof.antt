@@ -1,5 +1,5 @@
 -- `layout::geometry::is_block_size` meets its contract, case by case. Assumes nothing.
-use mathlib.Core.Logic.{_⊎_, inl, inr, ⊎-elim}
+use mathlib.Core.Logic.{inl, inr, ⊎-elim}
 use borrow.Author.Tests.{ne-eqb}
 use Rattle.layout.proofs.geometry.is_block_size.Statement.{statement}
 use Rattle.layout.proofs.geometry.is_block_size.Tie as tie

@@ -1,16 +1,14 @@
 -- `write_needs` meets its contract: the drive's refusal, the number's, 7, or what the rounds take. Assumes
 -- nothing.
 use mathlib.Core.Path.{_≡_, sym, ap, _∙_}
-use Prim.Native.Nat.{ℕ, _≤_, _<_}
-use native.Mathlib.Omega.{arith}
+use Prim.Native.Nat.{ℕ, _≤_}
 use borrow.Author.Needs.{needs}
 use Rattle.model.specs.Geometry.{Geometry}
 use Rattle.model.specs.Blocks.{Bytes}
-use Rattle.model.specs.Layout.{Drive, headIn, isAllocated, mapEntry}
-use Rattle.model.specs.Refusals.{driveRefusal, roundCount, storeCount}
+use Rattle.model.specs.Layout.{Drive, headIn, isAllocated}
+use Rattle.model.specs.Refusals.{driveRefusal}
 use Rattle.model.proofs.Refusals.Circle.{roundsTo-le}
 use Rattle.layout.specs.Geometries.{geometryOf}
-use Rattle.checks.proofs.Laws.RoundCounts.{random-blocks-small}
 use Rattle.mapper.specs.Needs.{refusedNeeds}
 use Rattle.reads.proofs.Laws.Drives.{long-enough, drive-read}
 use Rattle.mapper.proofs.Laws.WriteRefusals.{head-read, inside-of-places}

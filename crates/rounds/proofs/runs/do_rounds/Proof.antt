@@ -7,15 +7,15 @@ use native.Mathlib.Omega.{arith}
 use lib.ListN.{length, drop}
 use borrow.Author.Needs.{needs}
 use borrow.Author.Tests.{not-true, not-false}
+use Rattle.laws.proofs.Lists.{take-drop}
 use Rattle.model.specs.Geometry.{Geometry}
 use Rattle.model.specs.Blocks.{Bytes}
 use Rattle.model.specs.Rounds.{Run}
 use Rattle.layout.specs.Geometries.{geometryOf}
 use Rattle.plans.specs.States.{stateOf}
 use Rattle.rounds.specs.Rounds.{roundAt, Ready, Stepped}
-use Rattle.rounds.proofs.Laws.Runs.{Looping, theRun, lent-rest, going-none, going-over, made-over}
-use Rattle.rounds.proofs.Laws.Runs.{random-from, round-room, round-ready, run-ends, made-ends}
-use Rattle.rounds.proofs.Laws.Runs.{going-next}
+use Rattle.rounds.proofs.Laws.Loops.{Looping, theRun, going-none, going-over, made-over, random-from}
+use Rattle.rounds.proofs.Laws.Loops.{round-room, round-ready, run-ends, made-ends, going-next}
 use Rattle.rounds.proofs.runs.do_rounds.Statement.{statement}
 use Rattle.rounds.proofs.runs.do_rounds.Tie as tie
 
@@ -93,7 +93,7 @@ stepped c =
     bytes
     (l .reached) (s .offered .0) (s .hidden .now) (c .do-round .last .0) (c .do-round .last .1 .0)
     (c .do-round .result))
-    (lent-rest (s .random .now) (from-of (at-turn c))) (c .do-round .ensures)
+    (take-drop (from-of (at-turn c)) (s .random .now)) (c .do-round .ensures)
 
 -- the random bytes of this round are lent
 random-inside :
@@ -156,7 +156,7 @@ do-round-requires c κs =
     let turn = test .before in
     let s = start-of turn in
     let l = turn .loop in
-    let e = sym (lent-rest (s .args .random .now) (from-of turn)) in (
+    let e = sym (take-drop (from-of turn) (s .args .random .now)) in (
       subst (λ (bytes : Bytes).
           Ready (shape-of turn) (l .disk) (s .args .number .0) (l .slot) (s .args .content .now) bytes
           (s .args .hidden .now)) e

@@ -1,7 +1,7 @@
 -- `put_stores` meets its contract: `-`, or the first store and the later ones. Assumes nothing.
 use native.Mathlib.Omega.{arith}
 use borrow.Author.Needs.{needs}
-use Rattle.script.proofs.Laws.Texts.{take-drop}
+use Rattle.laws.proofs.Lists.{take-drop}
 use Rattle.script.proofs.Laws.Reports.{put-none, put-some, first-fits, later-fits}
 use Rattle.script.proofs.reports.put_stores.Statement.{statement}
 use Rattle.script.proofs.reports.put_stores.Tie as tie

@@ -1,0 +1,281 @@
+-- Laws of the loop over the rounds of a write: what holds whenever its test is reached, that a round keeps it,
+-- and that the run is all done where it ends. Assumes nothing.
+use mathlib.Core.Path.{_≡_, refl, sym, ap, ap₂, subst, _∙_}
+use mathlib.Core.Bool.{true, false}
+use mathlib.Core.List.{List, [], _++_}
+use Prim.Native.Nat.{ℕ, suc, _+_, _*_, _-_, _≤_, _<_}
+use native.Mathlib.Nat.{mul-le-mul-right, add-mul}
+use native.Mathlib.Omega.{arith}
+use lib.ListN.{length, drop, length-append, length-drop}
+use lib.Seq.{drop-drop}
+use Rattle.laws.proofs.Cases.{cond-true, cond-false}
+use Rattle.model.specs.Geometry.{Geometry}
+use Rattle.model.specs.Blocks.{Bytes, DiskAddress}
+use Rattle.model.specs.Layout.{Drive, nextSlot}
+use Rattle.model.specs.Stores.{Trace, apply}
+use Rattle.model.specs.Table.{PublicChoice}
+use Rattle.model.specs.HiddenHalf.{HiddenState, hiddenHalf}
+use Rattle.model.specs.Rounds.{Run, goesOn, roundTrace, runFrom}
+use Rattle.model.proofs.Laws.HiddenHalf.{WholeWrite, hiddenHalf-hides}
+use Rattle.model.proofs.Laws.Paths.{Hides}
+use Rattle.model.proofs.Laws.Places.{Placed}
+use Rattle.model.proofs.Laws.RoundStores.{Round, round-stored}
+use Rattle.model.proofs.Laws.Slots.{nextSlot-lt}
+use Rattle.model.proofs.Laws.Wrote.{placed-kept}
+use Rattle.stores.specs.Made.{Made}
+use Rattle.stores.proofs.Laws.Made.{made-nothing, made-then, drive-made, length-made-list}
+use Rattle.plans.specs.declared.states.State.{State}
+use Rattle.rounds.specs.declared.rounds.Step.{Step}
+use Rattle.plans.specs.States.{stateOf}
+use Rattle.rounds.specs.Rounds.{choiceAt, roundAt, Ready, Stepped}
+use Rattle.rounds.specs.Runs.{Runnable}
+use Rattle.rounds.proofs.Laws.Steps.{waiting-whole}
+use Rattle.rounds.proofs.Laws.Runs.{after, after-nothing, after-round, after-stopped, restBy}
+use Rattle.rounds.proofs.Laws.Runs.{runFrom-round, runFrom-zero, keep-of-goes-on, entry-of-placed}
+
+-- what holds whenever the loop's test is reached
+pub record Going (g : Geometry) (number : ℕ) (content random hidden : Bytes) (offered : ℕ) (run : Run)
+    (disk : Bytes)
+    (list : List DiskAddress) (next : ℕ) (diskNow : Bytes) (listNow : List DiskAddress) (slot at : ℕ)
+    (state : State)
+    (done : ℕ) : Type 0 where
+  pub front : Trace
+  pub made : Made (g .blockSize) front disk list next diskNow listNow at
+  pub within : done ≤ g .slots
+  pub drive : Drive g diskNow
+  pub inside : slot < g .slots
+  pub placed : Placed g diskNow number
+  pub list-kept : length listNow ≡ length list
+  pub run-is :
+      run ≡ after front done (runFrom (g .slots - done) g number content slot
+      (drop (done * (g .height * g .blockSize)) random) diskNow (stateOf state offered hidden))
+
+module _ (g : Geometry) (number : ℕ) (content random hidden : Bytes) (offered : ℕ) (disk : Bytes) (head : ℕ)
+    (list : List DiskAddress) (next : ℕ) (state : State) where
+  abbrev pub theRun : Run
+  theRun = runFrom (g .slots) g number content head random disk (stateOf state offered hidden)
+
+  pub going-none :
+      Runnable g disk number head content random hidden theRun next (length list) →
+      Going g number content random hidden offered theRun disk list next disk list head next state 0
+  going-none r =
+      let e : g .slots ≡ g .slots - 0 = omega arith in
+      let z : 0 ≡ 0 * (g .height * g .blockSize) = omega arith in
+      record {
+        front = [];
+        made = made-nothing (g .blockSize) disk list next (omega (arith, r .room-enough));
+        within = omega arith;
+        drive = r .drive;
+        inside = r .head-inside;
+        placed = r .old-place;
+        list-kept = refl;
+        run-is =
+            after-nothing theRun
+            ∙ ap₂ (λ (n m : ℕ).
+            after [] 0 (runFrom n g number content head (drop m random) disk (stateOf state offered hidden)))
+            e z;
+      }
+
+module _ {g : Geometry} {number head : ℕ} {content random hidden : Bytes} {offered : ℕ} {run : Run}
+    {disk : Bytes} {list : List DiskAddress} {next : ℕ}
+    (ready : Runnable g disk number head content random hidden run next (length list)) {diskNow : Bytes}
+    {listNow : List DiskAddress} {slot at : ℕ} {state : State} {done : ℕ}
+    (going : Going g number content random hidden offered run disk list next diskNow listNow slot at state
+    done)
+  where
+    abbrev stateNow : HiddenState
+    stateNow = stateOf state offered hidden
+
+    abbrev randomNow : Bytes
+    randomNow = drop (done * (g .height * g .blockSize)) random
+
+    abbrev round : Trace
+    round = roundAt g diskNow number slot content randomNow stateNow
+
+    abbrev rest : Run
+    rest =
+        restBy (choiceAt g diskNow slot stateNow) (g .slots - (done + 1)) g number content (nextSlot g slot)
+        (drop (g .height * g .blockSize) randomNow) (apply (g .blockSize) round diskNow)
+        (hiddenHalf g diskNow slot randomNow stateNow .state)
+
+    pub going-over :
+        g .slots ≤ done → run ≡ record { trace = going .front; rounds = done; state = stateNow }
+    going-over h =
+        let e : g .slots - done ≡ 0 = omega arith in
+        going .run-is
+        ∙ ap (λ (n : ℕ). after (going .front) done (runFrom n g number content slot randomNow diskNow
+        stateNow)) e
+        ∙ ap (after (going .front) done) (runFrom-zero g number content slot randomNow diskNow stateNow)
+        ∙ after-stopped (going .front) done stateNow
+
+    pub made-over : g .slots ≤ done → Made (g .blockSize) (run .trace) disk list next diskNow listNow at
+    made-over h =
+        subst (λ (r : Run). Made (g .blockSize) (r .trace) disk list next diskNow listNow at)
+        (sym (going-over h))
+        (going .made)
+
+    module _ (more : done < g .slots) where
+      run-round : run ≡ after (going .front ++ round) (done + 1) rest
+      run-round =
+          let e : g .slots - done ≡ suc (g .slots - (done + 1)) = omega arith in
+          going .run-is
+          ∙ ap (λ (n : ℕ). after (going .front) done (runFrom n g number content slot randomNow diskNow
+          stateNow)) e
+          ∙ ap (after (going .front) done)
+          (runFrom-round (g .slots - (done + 1)) g number content slot randomNow diskNow stateNow)
+          ∙ after-round (going .front) done round rest
+
+      pub random-from : done * (g .height * g .blockSize) + g .height * g .blockSize ≤ length random
+      random-from =
+          let counts : run .rounds ≡ done + 1 + rest .rounds = ap (λ (r : Run). r .rounds) run-round in
+          let few : done + 1 ≤ run .rounds = omega arith in
+          omega (
+            arith,
+            mul-le-mul-right (g .height * g .blockSize) few,
+            add-mul done 1 (g .height * g .blockSize),
+            ready .random-enough,
+          )
+
+      pub round-room : at + length round ≤ length listNow
+      round-room =
+          let longs : length (run .trace) ≡ length ((going .front ++ round) ++ rest .trace) =
+          ap (λ (r : Run). length (r .trace)) run-round in
+          omega (
+            arith,
+            longs,
+            length-append (going .front ++ round) (rest .trace),
+            length-append (going .front) round,
+            going .made .counted,
+            going .list-kept,
+            ready .room-enough,
+          )
+
+      random-here : g .height * g .blockSize ≤ length randomNow
+      random-here = simp length-drop (omega (arith, random-from))
+
+      pub round-ready : Ready g diskNow number slot content randomNow hidden
+      round-ready =
+          record {
+            drive = going .drive;
+            number-inside = ready .number-inside;
+            slot-inside = going .inside;
+            content-whole = ready .content-whole;
+            hidden-whole = ready .hidden-whole;
+            random-enough = random-here;
+            old-entry = entry-of-placed g diskNow number (going .placed);
+          }
+
+      hides : Hides g slot (hiddenHalf g diskNow slot randomNow stateNow .trace)
+      hides =
+          hiddenHalf-hides g (going .drive .fits) diskNow (going .drive .whole) slot (going .inside) randomNow
+          random-here
+          (WholeWrite g) (λ write h. h) stateNow (waiting-whole g (state .offer) offered hidden
+          (ready .hidden-whole)) .hides
+
+      this-round : Round g diskNow number slot content (hiddenHalf g diskNow slot randomNow stateNow .trace)
+      this-round =
+          record {
+            fits = going .drive .fits;
+            whole = going .drive .whole;
+            counted = ready .number-inside;
+            inside = going .inside;
+            sized = ready .content-whole;
+            placed = going .placed;
+            hides = hides;
+          }
+
+      module _ {diskAfter : Bytes} {listAfter : List DiskAddress} {step : Step}
+          (stepped : Stepped g diskNow listNow at number slot content randomNow state offered hidden diskAfter
+          listAfter
+          step) where
+        made-round : Made (g .blockSize) (going .front ++ round) disk list next diskAfter listAfter
+            (step .next)
+        made-round =
+            made-then (going .front) round (omega (arith, round-room, going .made .counted, going .list-kept))
+            (going .made)
+            (stepped .made)
+
+        -- no other round follows: all of the run is done
+        pub run-ends :
+            step .«goes_on» ≡ false →
+            run ≡ record {
+              trace = going .front ++ round;
+              rounds = done + 1;
+              state = stateOf (step .state) offered hidden;
+            }
+        run-ends e =
+            run-round
+            ∙ ap (after (going .front ++ round) (done + 1)) (cond-false _ _ (sym (stepped .goes-on) ∙ e))
+            ∙ after-stopped (going .front ++ round) (done + 1) _
+            ∙ ap (λ (s : HiddenState). record { trace = going .front ++ round; rounds = done + 1; state = s })
+            (sym (stepped .state-is))
+
+        pub made-ends :
+            step .«goes_on» ≡ false → Made (g .blockSize) (run .trace) disk list next diskAfter listAfter
+            (step .next)
+        made-ends e =
+            subst (λ (r : Run). Made (g .blockSize) (r .trace) disk list next diskAfter listAfter
+            (step .next))
+            (sym (run-ends e)) made-round
+
+        -- another round follows
+        pub going-next :
+            step .«goes_on» ≡ true →
+            Going g number content random hidden offered run disk list next diskAfter listAfter
+            (nextSlot g slot)
+            (step .next) (step .state) (done + 1)
+        going-next e =
+            let on : goesOn (choiceAt g diskNow slot stateNow) ≡ true = sym (stepped .goes-on) ∙ e in
+            let kept = keep-of-goes-on (choiceAt g diskNow slot stateNow) on in
+            record {
+              front = going .front ++ round;
+              made = made-round;
+              within = omega arith;
+              drive =
+                  drive-made g (stepped .made) (going .drive)
+                  (round-stored this-round (choiceAt g diskNow slot stateNow));
+              inside = nextSlot-lt g slot (going .drive .fits);
+              placed =
+                  subst (λ (d : Bytes). Placed g d number) (sym (stepped .made .on-disk))
+                  (subst (λ (choice : PublicChoice).
+                  Placed g (apply (g .blockSize) (roundTrace choice g diskNow number slot content
+                  (hiddenHalf g diskNow slot randomNow stateNow .trace)) diskNow) number) (sym kept)
+                  (placed-kept this-round));
+              list-kept = length-made-list (stepped .made) round-room ∙ going .list-kept;
+              run-is =
+                  run-round
+                  ∙ ap (after (going .front ++ round) (done + 1)) (cond-true _ _ on ∙ rest-same);
+            }
+          where
+            rest-same :
+                runFrom (g .slots - (done + 1)) g number content (nextSlot g slot)
+                (drop (g .height * g .blockSize) randomNow) (apply (g .blockSize) round diskNow)
+                (hiddenHalf g diskNow slot randomNow stateNow .state) ≡
+                runFrom (g .slots - (done + 1)) g number content (nextSlot g slot)
+                (drop ((done + 1) * (g .height * g .blockSize)) random) diskAfter
+                (stateOf (step .state) offered hidden)
+            rest-same =
+                let width : ℕ = g .height * g .blockSize in
+                let moved : done * (g .height * g .blockSize) + g .height * g .blockSize ≡
+                (done + 1) * (g .height * g .blockSize) =
+                omega (arith, add-mul done 1 (g .height * g .blockSize)) in
+                let dropped : drop (g .height * g .blockSize) randomNow ≡
+                drop ((done + 1) * (g .height * g .blockSize)) random =
+                drop-drop (g .height * g .blockSize) (done * (g .height * g .blockSize)) random
+                ∙ ap (λ (n : ℕ). drop n random) moved in
+                ap₂ (λ (xs ds : Bytes).
+                runFrom (g .slots - (done + 1)) g number content (nextSlot g slot) xs ds
+                (hiddenHalf g diskNow slot randomNow stateNow .state)) dropped (sym (stepped .made .on-disk))
+                ∙ ap (runFrom (g .slots - (done + 1)) g number content (nextSlot g slot)
+                (drop ((done + 1) * (g .height * g .blockSize)) random) diskAfter) (sym (stepped .state-is))
+
+-- the loop's invariant: that, and buffers as long as they were
+pub record Looping (g : Geometry) (number : ℕ) (content random hidden : Bytes) (offered : ℕ) (run : Run)
+    (disk : Bytes)
+    (list : List DiskAddress) (next : ℕ) (nodes block diskNow : Bytes) (listNow : List DiskAddress)
+    (nodesNow blockNow : Bytes) (slot at : ℕ) (state : State) (done : ℕ) : Type 0 where
+  pub going : Going g number content random hidden offered run disk list next diskNow listNow slot at state
+      done
+  pub disk-kept : length diskNow ≡ length disk
+  pub nodes-kept : length nodesNow ≡ length nodes
+  pub block-kept : length blockNow ≡ length block

@@ -43,33 +43,32 @@ module _ (g : Geometry) (f : Fits g) (disk other : Bytes) (same : SameFront g di
         (setEntry (number % fanout g) (slotStart g slot) block))
         map-block
 
-module _ (g : Geometry) (f : Fits g) (slot : ℕ) (inside : slot < g .slots) where
-  module _ (disk other : Bytes) (same : SameFront g disk other)
-      (whole : length disk ≡ blockCount g * g .blockSize)
-      (there : length other ≡ blockCount g * g .blockSize) where
-    bitmap-block :
-        (slot : ℕ) → slot < g .slots →
-        blockAt (g .blockSize) disk (bitAddress g slot) ≡ blockAt (g .blockSize) other (bitAddress g slot)
-    bitmap-block slot h = same (bitAddress g slot) (bitAddress-lt g f slot h)
+module _ (g : Geometry) (f : Fits g) (slot : ℕ) (inside : slot < g .slots) (disk other : Bytes)
+    (same : SameFront g disk other) (whole : length disk ≡ blockCount g * g .blockSize)
+    (there : length other ≡ blockCount g * g .blockSize) where
+  bitmap-block :
+      (slot : ℕ) → slot < g .slots →
+      blockAt (g .blockSize) disk (bitAddress g slot) ≡ blockAt (g .blockSize) other (bitAddress g slot)
+  bitmap-block slot h = same (bitAddress g slot) (bitAddress-lt g f slot h)
 
-    bitStores-same :
-        (entry : DiskAddress) → OldPlace g entry → bitStores g disk entry slot ≡ bitStores g other entry slot
-    bitStores-same entry old =
-        bitStores-block g f disk other whole there slot inside (bitmap-block slot inside) entry
-        (λ ne. bitmap-block (slotOf g entry) (old-slot ne old))
-      where
-        old-slot : entry ≢ 0 → OldPlace g entry → slotOf g entry < g .slots
-        old-slot ne (inl e) = absurd (ne e)
-        old-slot ne (inr block) = block .slot-inside
+  bitStores-same :
+      (entry : DiskAddress) → OldPlace g entry → bitStores g disk entry slot ≡ bitStores g other entry slot
+  bitStores-same entry old =
+      bitStores-block g f disk other whole there slot inside (bitmap-block slot inside) entry
+      (λ ne. bitmap-block (slotOf g entry) (old-slot ne old))
+    where
+      old-slot : entry ≢ 0 → OldPlace g entry → slotOf g entry < g .slots
+      old-slot ne (inl e) = absurd (ne e)
+      old-slot ne (inr block) = block .slot-inside
 
-    pub mapStores-same :
-        (choice : PublicChoice) (number : ℕ) → number < g .publics → OldPlace g (mapEntry g other number) →
-        mapStores choice g disk number slot ≡ mapStores choice g other number slot
-    unfolding mapStores
-    mapStores-same keepPublic number counted old = refl
-    mapStores-same writePublic number counted old =
-        ap₂ {C = Trace} (λ (x : Store) (xs : Trace). x ∷ xs)
-        (mapStore-same g f disk other same number counted slot)
-        (ap (λ (entry : DiskAddress). bitStores g disk entry slot)
-        (mapEntry-same g f disk other same number counted)
-        ∙ bitStores-same (mapEntry g other number) old)
+  pub mapStores-same :
+      (choice : PublicChoice) (number : ℕ) → number < g .publics → OldPlace g (mapEntry g other number) →
+      mapStores choice g disk number slot ≡ mapStores choice g other number slot
+  unfolding mapStores
+  mapStores-same keepPublic number counted old = refl
+  mapStores-same writePublic number counted old =
+      ap₂ {C = Trace} (λ (x : Store) (xs : Trace). x ∷ xs)
+      (mapStore-same g f disk other same number counted slot)
+      (ap (λ (entry : DiskAddress). bitStores g disk entry slot)
+      (mapEntry-same g f disk other same number counted)
+      ∙ bitStores-same (mapEntry g other number) old)

@@ -1,5 +1,5 @@
--- Laws of the loop over the rounds of a write: what holds whenever its test is reached, that a round keeps it,
--- and that the run is all done where it ends. Assumes nothing.
+-- Laws of the loop over the rounds of a write: what holds whenever its test is reached, that a round keeps
+-- it, and that the run is all done where it ends. Assumes nothing.
 use mathlib.Core.Path.{_≡_, refl, sym, ap, ap₂, subst, _∙_}
 use mathlib.Core.Bool.{true, false}
 use mathlib.Core.List.{List, [], _++_}

@@ -9,6 +9,15 @@ use Rattle.slot_blocks.proofs.Laws.NodeBlocks.{length-first}
 use Rattle.paths.proofs.store_root.Statement.{statement}
 use Rattle.paths.proofs.store_root.Tie as tie
 
+abbrev at-start : tie.After-slice-known3 → tie.Start
+at-start c = c .before .before .before .before
+
+abbrev after-geometry : tie.After-root-address → tie.After-struct-known
+after-geometry c = c .before .before .before .before
+
+abbrev after-store : tie.After-slice-known5 → tie.After-store-linked
+after-store c = c .before .before .before .before
+
 cast-width : tie.Need-cast-width
 cast-width c = search needs
 
@@ -20,13 +29,13 @@ root-address-requires c κs = search needs
 
 slice-aggregate-store-linked : tie.Need-slice-aggregate-store-linked
 slice-aggregate-store-linked c =
-    let start = c .before .before .before .before .before .before .before .before .before .before in
+    let start = at-start (after-geometry (c .before) .before) in
     let g = geometryOf (start .args .g) in
     sym (length-first g (start .pre .0 .fits) (start .args .nodes .now) (start .pre .1 .1 .0))
 
 store-linked-requires : tie.Need-store-linked-requires
 store-linked-requires c κs =
-    let start = c .before .before .before .before .before .before .before .before .before .before .before in
+    let start = at-start (after-geometry (c .before .before) .before) in
     let g = geometryOf (start .args .g) in (
       search needs,
       (
@@ -56,8 +65,8 @@ same-length-3 c = search needs
 returns : tie.Need-returns
 returns c =
     made-same
-    (c .before .before .before .before .before .before .before .before .before .root-address .ensures) refl
-    (c .before .before .before .before .before .before .store-linked .ensures)
+    (after-store (c .before .before) .before .before .before .root-address .ensures) refl
+    (after-store (c .before .before) .store-linked .ensures)
 
 pub store-root-spec : {M : Type 1} → statement M
 store-root-spec =

@@ -20,6 +20,9 @@ Inv-loop disk g slots slot₀ done₀ slot done =
 abbrev μ-loop : tie.MeasureT-loop
 μ-loop disk g slots slot₀ done₀ slot done = slots - done
 
+abbrev at-start : tie.At-loop Inv-loop μ-loop → tie.Start Inv-loop μ-loop
+at-start c = c .before .before .before
+
 head-in-requires : tie.Need-head-in-requires Inv-loop μ-loop
 head-in-requires c κs = omega (
   arith,
@@ -42,7 +45,7 @@ add-result c = omega arith
 
 returns : tie.Need-returns Inv-loop μ-loop
 returns c =
-    let s = c .before .before .before .before .before .before in
+    let s = at-start (c .before .before .before) in
     let at = c .before .before .before .loop in
     let disk = s .args .disk .now in
     let g = geometryOf (s .args .g) in
@@ -64,7 +67,7 @@ loop-less c = omega arith
 
 loop-again : tie.Need-loop-again Inv-loop μ-loop
 loop-again c =
-    let s = c .before .before .before .before .before .before in
+    let s = at-start (c .before .before .before) in
     let at = c .before .before .before .loop in
     let disk = s .args .disk .now in
     let g = geometryOf (s .args .g) in

@@ -11,6 +11,9 @@ use Rattle.model.proofs.Laws.Blocks.{blockAt-is}
 use Rattle.hidden_map.proofs.paths.copy_node.Statement.{statement}
 use Rattle.hidden_map.proofs.paths.copy_node.Tie as tie
 
+abbrev at-start : tie.After-copy-at-arg → tie.Start
+at-start c = c .before .before .before .before
+
 cast-from : tie.Need-cast-from
 cast-from c = search needs
 
@@ -37,7 +40,7 @@ same-length c = search needs
 
 returns : tie.Need-returns
 returns c =
-    let a = c .before .before .before .before .before .before .before .before .args in
+    let a = at-start (c .before .before .before .before) .args in
     let from = a .address .0 * a .size in
     let width : from + a .size - from ≡ a .size = omega arith in
     let block = blockAt-is (a .size) (a .disk .now) (a .address .0) ∙ part-is from (a .size) (a .disk .now) in

@@ -38,6 +38,13 @@ reads t = (step-reads.Asked, step-reads.Learnt, walk-from-below t, walk-from.Pos
 abbrev AfterStep : ℕ → Type 0
 AfterStep t = walk-from-lts.After-step (reads t) (walk-from-at t) walk-from.Post
 
+-- the step leads on, and the address is known
+abbrev AfterTold : ℕ → Type 0
+AfterTold t = walk-from-lts.After-known-told (reads t) (walk-from-at t) walk-from.Post
+
+abbrev after-step : (t : ℕ) → AfterTold t → AfterStep t
+after-step t c = c .before .before .before .before
+
 -- the node that the walk starts from, on a drive of a geometry
 abbrev nodeOf : (t : ℕ) → AfterStep t → Geometry → Bytes
 nodeOf t s g = let a = s .before .before .args in blockAt (g .blockSize) (a .disk .now) (a .address .0)
@@ -91,7 +98,7 @@ walk-from-sub-walk-from t c = search needs
 walk-from-walk-from-requires : (t : ℕ) → walk-from-lts.Need-walk-from-requires (reads t)
     (walk-from-at t) walk-from.Post
 walk-from-walk-from-requires t c κs =
-    let s = c .before .before .before .before in
+    let s = after-step t c in
     let w = s .before .before in
     let p = w .pre .1 in
     let next = c .before .next .given in
@@ -103,7 +110,7 @@ walk-from-walk-from-requires t c κs =
 
 walk-from-returns-3 : (t : ℕ) → walk-from-lts.Need-returns-3 (reads t) (walk-from-at t) walk-from.Post
 walk-from-returns-3 t c =
-    let s = c .before .before .before .before .before in
+    let s = after-step t (c .before) in
     let next = c .before .before .next .given in
     λ g tree. c .walk-from .ensures g tree
     ∙ sym (ap (λ (path : Walk). path .end)

@@ -11,6 +11,9 @@ use Rattle.hidden_map.proofs.Laws.Trees.{treeOf-drive, walkable-drive, 
 use Rattle.hidden_map.proofs.walks.walk.Statement.{statement}
 use Rattle.hidden_map.proofs.walks.walk.Tie as tie
 
+abbrev at-start : tie.After-struct-known2 → tie.Start
+at-start c = c .before .before .before .before
+
 area-start-requires : tie.Need-area-start-requires
 area-start-requires c κs = search needs
 
@@ -31,7 +34,7 @@ sub-walk-from c = search needs
 
 walk-from-requires : tie.Need-walk-from-requires
 walk-from-requires c κs =
-    let s = c .before .before .before .before .before in
+    let s = at-start (c .before) in
     let g = geometryOf (s .args .g) in
     let start = c .before .before .before .area-start in (
       walkable-drive g (s .args .disk .now) (s .pre) (start .result .0) (start .ensures),
@@ -40,7 +43,7 @@ walk-from-requires c κs =
 
 returns : tie.Need-returns
 returns c =
-    let s = c .before .before .before .before .before .before in
+    let s = at-start (c .before .before) in
     let g = geometryOf (s .args .g) in
     let start = c .before .before .before .before .area-start in
     c .walk-from .ensures g (treeOf-drive g (s .args .disk .now) (s .pre) (start .result .0) (start .ensures))

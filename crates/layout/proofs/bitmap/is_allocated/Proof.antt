@@ -15,6 +15,9 @@ use Rattle.layout.specs.Geometries.{geometryOf}
 use Rattle.layout.proofs.bitmap.is_allocated.Statement.{statement}
 use Rattle.layout.proofs.bitmap.is_allocated.Tie as tie
 
+abbrev at-start : tie.After-block-at → tie.Start
+at-start c = c .before .before .before
+
 address-inside :
     (s : tie.Start) → bitAddress (geometryOf (s .args .g)) (s .args .slot) < blockCount
     (geometryOf (s .args .g))
@@ -56,7 +59,7 @@ bit-at-requires c κs =
 
 returns : tie.Need-returns
 returns c =
-    let s = c .before .before .before .before .before in
+    let s = at-start (c .before .before) in
     let g = geometryOf (s .args .g) in
     c .bit-at .ensures ∙ ap₂ bitAt (c .before .bit-place .ensures) (shown (c .before .before))
     ∙ sym (isAllocated-is g (s .args .disk .now) (s .args .slot))

@@ -5,6 +5,9 @@ use Rattle.model.proofs.Laws.Entries.{entryAt-bytes}
 use Rattle.layout.proofs.entries.entry_at.Statement.{statement}
 use Rattle.layout.proofs.entries.entry_at.Tie as tie
 
+abbrev at-start : tie.After-shared-slice-known4 → tie.Start
+at-start c = c .before .before .before .before
+
 mul-at : tie.Need-mul-at
 mul-at c = search needs
 
@@ -34,7 +37,7 @@ number-of-requires c κs = search needs
 
 returns : tie.Need-returns
 returns c =
-    let s = c .before .before .before .before .before .before in
+    let s = at-start (c .before .before) in
     c .number-of .ensures ∙ sym (entryAt-bytes (s .args .bytes .now) (s .args .index) (s .pre))
 
 pub entry-at-spec : {M : Type 1} → statement M

@@ -11,6 +11,9 @@ use Rattle.layout.proofs.Laws.Geometry.{left-to-blocks}
 use Rattle.layout.proofs.geometry.has_room.Statement.{statement}
 use Rattle.layout.proofs.geometry.has_room.Tie as tie
 
+abbrev at-start : tie.Else4 → tie.Start
+at-start c = c .before .before .before .before
+
 bounded : (s : tie.Start) → Bounded (geometryOf (s .args .g))
 bounded s = bounded-of-tests (geometryOf (s .args .g)) (s .pre .0) (s .pre .1 .0) (s .pre .1 .1)
 
@@ -27,17 +30,17 @@ returns-4 : tie.Need-returns-4
 returns-4 c = refused-hidden-slots (geometryOf (c .before .before .before .before .args .g)) (c .if4 .taken)
 
 tree-capacity-requires : tie.Need-tree-capacity-requires
-tree-capacity-requires c κs = bounded (c .before .before .before .before)
+tree-capacity-requires c κs = bounded (at-start c)
 
 cast-if5 : tie.Need-cast-if5
 cast-if5 c = search needs
 
 returns-5 : tie.Need-returns-5
-returns-5 c = refused-tree (geometryOf (c .before .before .before .before .before .before .args .g))
+returns-5 c = refused-tree (geometryOf (at-start (c .before .before) .args .g))
     (omega (arith, c .before .tree-capacity .ensures, c .if5 .taken))
 
 block-count-requires : tie.Need-block-count-requires
-block-count-requires c κs = bounded (c .before .before .before .before .before .before)
+block-count-requires c κs = bounded (at-start (c .before .before))
 
 returns-6 : tie.Need-returns-6
 returns-6 c =

@@ -24,6 +24,9 @@ use Rattle.reads.proofs.hidden.hidden_read.Tie as tie
 abbrev startOf : tie.Else1 → tie.Start
 startOf s = s .before .before .before .before
 
+abbrev start-of-refused : tie.Then1 → tie.Start
+start-of-refused s = s .before .before .before .before
+
 abbrev at-geometry : tie.After-walk → tie.After-geometry-in
 at-geometry s = s .before .before .before
 
@@ -75,7 +78,7 @@ slice-aggregate-result c = search needs
 
 returns : tie.Need-returns
 returns c =
-    let a = c .before .before .before .before .before .args in
+    let a = start-of-refused (c .before) .args in
     let fault = c .before .before .drive-fault in
     let f = c .before .if1 .taken in
     nothing-shown (a .disk .now) (a .number .0) (a .blank .now) (fault .result)

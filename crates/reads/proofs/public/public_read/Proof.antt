@@ -14,6 +14,9 @@ use Rattle.reads.proofs.public.public_read.Tie as tie
 abbrev startOf : tie.Else1 → tie.Start
 startOf s = s .before .before .before .before
 
+abbrev start-of-refused : tie.Then1 → tie.Start
+start-of-refused s = s .before .before .before .before
+
 unrefused :
     (s : tie.Else1) →
     publicReadRefusal (startOf s .args .disk .now) (startOf s .args .number .0)
@@ -37,7 +40,7 @@ slice-aggregate-result c = search needs
 
 returns : tie.Need-returns
 returns c =
-    let a = c .before .before .before .before .before .args in
+    let a = start-of-refused (c .before) .args in
     let fault = c .before .before .public-fault in
     nothing-shown (a .disk .now) (a .number .0) (a .blank .now) (fault .result) (fault .ensures)
     (c .before .if1 .taken)

@@ -11,6 +11,9 @@ use Rattle.script.proofs.Laws.Lines.{lineOf-split, lineOf-whole}
 use Rattle.script.proofs.lines.read_line.Statement.{statement}
 use Rattle.script.proofs.lines.read_line.Tie as tie
 
+abbrev after-space : tie.After-field-in → tie.After-space-in
+after-space c = c .before .before .before
+
 space-in-requires : tie.Need-space-in-requires
 space-in-requires c κs = search needs
 
@@ -47,8 +50,9 @@ line-from-requires c κs = search needs
 
 returns-2 : tie.Need-returns-2
 returns-2 c =
-    let start = c .before .before .before .before .before .before .before .before in
-    let found = c .before .before .before .before .before .before .space-in in
+    let spaced = after-space (c .before .before .before) in
+    let start = spaced .before .before in
+    let found = spaced .space-in in
     c .line-from .ensures ∙ ap₂ lineFrom (c .before .before .before .field-in .ensures)
     (c .before .field-in2 .ensures ∙ ap fieldOf (take-drop (found .result + 1) (start .args .bytes .now)))
     ∙ sym (lineOf-split (start .args .bytes .now) (found .result) (found .ensures))

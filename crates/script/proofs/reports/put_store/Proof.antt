@@ -10,6 +10,9 @@ use Rattle.script.proofs.Laws.Reports.{length-decimal-store}
 use Rattle.script.proofs.reports.put_store.Statement.{statement}
 use Rattle.script.proofs.reports.put_store.Tie as tie
 
+abbrev at-start : tie.After-put-number → tie.Start
+at-start c = c .before .before .before
+
 room : (s : tie.Start) → s .args .at + 1 + length (decimal (s .args .store)) ≤ length (s .args .out .now)
 room s = omega (arith, s .pre, length-decimal-store (s .args .store) (omega arith))
 
@@ -27,7 +30,7 @@ same-length c = c .before .before .put-number .kept .0 ∙ simp length-set
 
 returns : tie.Need-returns
 returns c =
-    let start = c .before .before .before .before .before in
+    let start = at-start (c .before .before) in
     let put = c .before .before .put-number in
     put-cons comma (decimal (start .args .store)) (start .args .out .now) (start .args .at) (put .last .0)
     (put .result)

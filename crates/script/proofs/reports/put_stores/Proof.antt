@@ -6,6 +6,12 @@ use Rattle.script.proofs.Laws.Reports.{put-none, put-some, first-fits, 
 use Rattle.script.proofs.reports.put_stores.Statement.{statement}
 use Rattle.script.proofs.reports.put_stores.Tie as tie
 
+abbrev at-start : tie.Else1 → tie.Start
+at-start c = c .before .before .before
+
+abbrev after-first : tie.After-put-later-arg2 → tie.After-put-number
+after-first c = c .before .before .before .before
+
 slice-write-out : tie.Need-slice-write-out
 slice-write-out c = search needs
 
@@ -28,7 +34,7 @@ cast-put-number c = omega (arith, c .shared-slice-known2 .given 0)
 
 put-number-requires : tie.Need-put-number-requires
 put-number-requires c κs =
-    let start = c .before .before .before .before .before in
+    let start = at-start (c .before .before) in
     first-fits (start .args .stores .now) (start .args .out .now) (start .args .at) (start .pre)
     (c .before .before .if1 .left)
     (λ index. c .shared-slice-known2 .given index .fits)
@@ -44,9 +50,9 @@ part-put-later-end c = search needs
 
 put-later-requires : tie.Need-put-later-requires
 put-later-requires c κs =
-    let first = c .before .before .before .before in
+    let first = after-first c in
     let some = first .before .before .before in
-    let start = some .before .before .before in
+    let start = at-start some in
     rw take-drop
     (omega (
       arith,
@@ -62,9 +68,9 @@ same-length-2 c = search needs
 returns-2 : tie.Need-returns-2
 returns-2 c =
     let later = c .before .before in
-    let first = later .before .before .before .before .before in
+    let first = after-first (later .before) in
     let some = first .before .before .before in
-    let start = some .before .before .before in
+    let start = at-start some in
     put-some (start .args .stores .now) (start .args .out .now) (start .args .at) (start .pre)
     (some .if1 .left)
     (λ index. first .before .shared-slice-known2 .given index .fits) (first .put-number .last .0)

@@ -9,6 +9,13 @@ use Rattle.slot_blocks.proofs.Laws.Nodes.{linked-leaf, linked-above}
 use Rattle.slot_blocks.proofs.nodes.link_node.Statement.{statement}
 use Rattle.slot_blocks.proofs.nodes.link_node.Tie as tie
 
+abbrev at-start : tie.After-put-entry-arg → tie.Start
+at-start c = c .before .before .before .before
+
+-- at a leaf, the entry that every node takes is there before the owner
+abbrev after-entry : tie.Then1 → tie.After-put-entry
+after-entry c = c .before .before .before
+
 level-address-requires : tie.Need-level-address-requires
 level-address-requires c κs = search needs
 
@@ -23,7 +30,7 @@ branch-at-requires c κs = search needs
 
 put-entry-requires : tie.Need-put-entry-requires
 put-entry-requires c κs =
-    let start = c .before .before .before .before .before in
+    let start = at-start (c .before) in
     let g = geometryOf (start .args .g) in
     omega (
       arith,
@@ -40,7 +47,7 @@ same-length c = search needs
 
 returns : tie.Need-returns
 returns c =
-    let entered = c .before .before .before .before .before .before .before in
+    let entered = after-entry (c .before .before .before .before) in
     let branched = entered .before in
     let started = branched .before .before .before in
     let start = started .before .before in

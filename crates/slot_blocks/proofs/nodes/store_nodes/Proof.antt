@@ -26,9 +26,19 @@ Inv-loop disk₀ list₀ next g number slot nodes block₀ width top level₀ at
 abbrev μ-loop : tie.MeasureT-loop
 μ-loop disk₀ list₀ next g number slot nodes block₀ width top level₀ at₀ disk list block level at = top - level
 
+abbrev at-start : tie.After-slice-known3 Inv-loop μ-loop → tie.Start Inv-loop μ-loop
+at-start c = c .before .before .before .before
+
 -- the arguments, seen from the loop
 abbrev start-of : tie.At-loop Inv-loop μ-loop → tie.Start Inv-loop μ-loop
-start-of c = c .before .before .before .before .before .before .before
+start-of c = at-start (c .before .before .before)
+
+abbrev after-address :
+    tie.After-store-linked-arg4 Inv-loop μ-loop → tie.After-level-address Inv-loop μ-loop
+after-address c = c .before .before .before .before
+
+abbrev after-store : tie.After-slice-known5 Inv-loop μ-loop → tie.After-store-linked Inv-loop μ-loop
+after-store c = c .before .before .before .before
 
 cast-width : tie.Need-cast-width Inv-loop μ-loop
 cast-width c = search needs
@@ -38,7 +48,7 @@ sub-top c = search needs
 
 loop-holds : tie.Need-loop-holds Inv-loop μ-loop
 loop-holds c =
-    let start = c .before .before .before .before .before .before in
+    let start = at-start (c .before .before) in
     let g = geometryOf (start .args .g) in (
       none-so-far (g .blockSize) (lowestStores g (start .args .number .0) (start .args .slot)
           (start .args .nodes .now))
@@ -105,7 +115,7 @@ part-store-linked-end c =
 
 store-linked-requires : tie.Need-store-linked-requires Inv-loop μ-loop
 store-linked-requires c κs =
-    let addressed = c .before .before .before .before in
+    let addressed = after-address c in
     let turn = addressed .before .before in
     let start = start-of turn in
     let g = geometryOf (start .args .g) in (
@@ -135,8 +145,8 @@ loop-less c = search needs
 
 loop-again : tie.Need-loop-again Inv-loop μ-loop
 loop-again c =
-    let stored = c .before .before .before .before .before .before in
-    let addressed = stored .before .before .before .before .before in
+    let stored = after-store (c .before .before) in
+    let addressed = after-address (stored .before) in
     let test = addressed .before in
     let turn = test .before in
     let start = start-of turn in (

@@ -19,16 +19,22 @@ Inv-loop disk₀ list₀ next g address count random width done₀ at₀ disk li
 abbrev μ-loop : tie.MeasureT-loop
 μ-loop disk₀ list₀ next g address count random width done₀ at₀ disk list done at = count - done
 
+abbrev at-start : tie.After-struct-known Inv-loop μ-loop → tie.Start Inv-loop μ-loop
+at-start c = c .before .before .before .before
+
 -- the arguments, seen from the loop
 abbrev start-of : tie.At-loop Inv-loop μ-loop → tie.Start Inv-loop μ-loop
-start-of c = c .before .before .before .before .before
+start-of c = at-start (c .before)
+
+abbrev at-test : tie.After-struct-known2 Inv-loop μ-loop → tie.In-loop Inv-loop μ-loop
+at-test c = c .before .before .before
 
 cast-width : tie.Need-cast-width Inv-loop μ-loop
 cast-width c = search needs
 
 loop-holds : tie.Need-loop-holds Inv-loop μ-loop
 loop-holds c =
-    let start = c .before .before .before .before in
+    let start = at-start c in
     let g = geometryOf (start .args .g) in
     none-so-far (g .blockSize) (λ n. randomBlocks g (start .args .address .0) n (start .args .random .now))
     (start .args .count) (start .pre .1 .1 .0)
@@ -72,7 +78,7 @@ part-store-block-start c = search needs
 
 part-store-block-end : tie.Need-part-store-block-end Inv-loop μ-loop
 part-store-block-end c =
-    let test = c .before .before .before in
+    let test = at-test c in
     let turn = test .before in
     let start = start-of turn in
     omega (
@@ -95,7 +101,7 @@ loop-less c = search needs
 loop-again : tie.Need-loop-again Inv-loop μ-loop
 loop-again c =
     let stored = c .before .before .before .before in
-    let test = stored .before .before .before .before .before in
+    let test = at-test (stored .before .before) in
     let turn = test .before in
     let start = start-of turn in
     one-more-random (geometryOf (start .args .g)) (start .args .address .0) (start .args .count)

@@ -9,6 +9,9 @@ use Rattle.stores.proofs.Laws.Made.{made-one}
 use Rattle.stores.proofs.blocks.store_block.Statement.{statement}
 use Rattle.stores.proofs.blocks.store_block.Tie as tie
 
+abbrev at-start : tie.After-struct-known → tie.Start
+at-start c = c .before .before .before .before
+
 cast-at : tie.Need-cast-at
 cast-at c = search needs
 
@@ -17,7 +20,7 @@ cast-at-2 c = search needs
 
 mul-at : tie.Need-mul-at
 mul-at c =
-    let start = c .before .before .before .before .before in
+    let start = at-start (c .before) in
     let g = geometryOf (start .args .g) in
     omega (
       arith,
@@ -27,7 +30,7 @@ mul-at c =
 
 copy-at-requires : tie.Need-copy-at-requires
 copy-at-requires c κs =
-    let start = c .before .before .before .before .before .before in
+    let start = at-start (c .before .before) in
     let g = geometryOf (start .args .g) in
     omega (
       arith,
@@ -54,7 +57,7 @@ same-length-2 c = search needs
 returns : tie.Need-returns
 returns c =
     let copied = c .before .before in
-    let start = copied .before .before .before .before .before .before .before in
+    let start = at-start (copied .before .before .before) in
     made-one (start .args .g .«block_size») (start .args .address .0) (start .args .block .now)
     (start .args .disk .now)
     (copied .copy-at .last .0) (start .args .list .now) (start .args .next) (start .pre .1 .1 .1)

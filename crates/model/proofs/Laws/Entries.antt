@@ -1,5 +1,5 @@
--- Laws of entries: length, the four bytes, read after write at the same and at another index, zeros,
--- an entry of a block as one of the disk, and entries packed one after another. Assumes nothing.
+-- Laws of entries: length, the four bytes, read after write at the same and at another index, zeros, an entry
+-- of a block as one of the disk, and entries packed one after another. Assumes nothing.
 use mathlib.Core.Path.{_≡_, refl, sym, ap, _∙_}
 use mathlib.Core.Logic.{_≢_, ⊎-elim}
 use mathlib.Core.List.{List, [], _∷_}

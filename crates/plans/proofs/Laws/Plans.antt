@@ -1,6 +1,5 @@
 -- Laws of a round's plan: which damage stops it, and that each way to a plan is the hidden half of the model.
--- Assumes
--- nothing.
+-- Assumes nothing.
 use mathlib.Core.Path.{_≡_, refl, sym, ap, ap₂, _∙_}
 use mathlib.Core.Bool.{Bool, true, false, cond, _&&_}
 use mathlib.Core.List.{List, []}

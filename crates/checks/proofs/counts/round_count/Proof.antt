@@ -1,10 +1,8 @@
--- `mapper::needs::round_count` meets its contract. Invariant: the slots passed are allocated, and the rounds
--- of the whole
--- search are those passed and those of the rest. The measure is the slots left. Assumes nothing.
-use mathlib.Core.Path.{_≡_, sym, _∙_}
+-- `checks::counts::round_count` meets its contract. Invariant: the slots passed are allocated, and the rounds
+-- of the whole search are those passed and those of the rest. The measure is the slots left. Assumes nothing.
+use mathlib.Core.Path.{sym, _∙_}
 use Prim.Native.Nat.{_-_}
 use native.Mathlib.Omega.{arith}
-use borrow.Author.Needs.{needs}
 use borrow.Author.Tests.{not-true, not-false}
 use Rattle.model.specs.Layout.{headIn, isAllocated}
 use Rattle.layout.specs.Geometries.{geometryOf}

@@ -1,4 +1,4 @@
--- `mapper::needs::store_count` meets its contract. Assumes nothing.
+-- `checks::counts::store_count` meets its contract. Assumes nothing.
 use native.Mathlib.Omega.{arith}
 use Rattle.layout.specs.Geometries.{geometryOf}
 use Rattle.checks.proofs.Laws.RoundCounts.{stores-small, stores-new, stores-moved}

@@ -1,4 +1,4 @@
--- `mapper::hidden::number_fault` meets its contract: one law for each way through its checks. Assumes
+-- `checks::numbers::number_fault` meets its contract: one law for each way through its checks. Assumes
 -- nothing.
 use borrow.Author.Needs.{needs}
 use Rattle.layout.specs.Geometries.{geometryOf}

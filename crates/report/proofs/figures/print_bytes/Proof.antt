@@ -1,5 +1,5 @@
--- `figures::print_bytes` meets its contract. Invariant: i is at most the length, which it has reached where
--- the loop ends. The measure is what is left of it. Assumes nothing.
+-- `report::figures::print_bytes` meets its contract. Invariant: i is at most the length, which it has reached
+-- where the loop ends. The measure is what is left of it. Assumes nothing.
 use Prim.Native.Nat.{_-_, _≤_}
 use native.Mathlib.Omega.{arith}
 use lib.ListN.{length}

@@ -1,4 +1,0 @@
--- Document 03's three promises, each implied by ours.
-pub mod Figures
-pub mod Noninterference
-pub mod ReadAfterWrite

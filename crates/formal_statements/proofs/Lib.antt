@@ -1,3 +1,0 @@
-pub mod Translation
-pub mod Equations
-pub mod Implications

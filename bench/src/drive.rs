@@ -151,7 +151,9 @@ impl Drive {
     pub fn plan(&self, disk: &[u8], head: usize, number: usize, size: usize) -> Result<(Needs, usize), u32> {
         let old = self.place(disk, number, size)?;
         let rounds = 1 + (0..self.m).find(|i| !self.marked(disk, (head + i) % self.m)).ok_or(7u32)?;
-        let stores = rounds * (self.k + 3) + if old == 0 { 2 } else { 3 };
+        let last = (head + rounds - 1) % self.m;
+        let two_blocks = old != 0 && self.bit(self.slot_of(old)).0 != self.bit(last).0;
+        let stores = rounds * (self.k + 3) + if two_blocks { 3 } else { 2 };
         let [rounds, stores, random_blocks] = [rounds, stores, rounds * self.k].map(|x| x as u32);
         Ok((Needs { answer: 0, rounds, stores, random_blocks }, old))
     }

@@ -62,13 +62,15 @@ fn write(disk: &mut [u8], call: &Write, list: &mut [u32]) -> Written {
             let (map, place) = v.map_place(call.number as usize);
             put_entry(block_mut(&v, disk, map), place, a);
             enter(map);
-            let (address, byte, weight) = v.bit(slot);
-            block_mut(&v, disk, address)[byte] |= weight;
-            enter(address);
+            let (new, byte, weight) = v.bit(slot);
+            block_mut(&v, disk, new)[byte] |= weight;
+            enter(new);
             if allowed.old != 0 {
                 let (address, byte, weight) = v.bit(v.slot_of(allowed.old));
                 block_mut(&v, disk, address)[byte] &= !weight;
-                enter(address);
+                if address != new {
+                    enter(address);
+                }
             }
         }
         enter(0);

@@ -1,5 +1,5 @@
-//! A mapper written from document 01 in plain Rust: one store function, whole blocks, document 01's checks
-//! and no others. The proved mapper is measured and held against it.
+//! A mapper written from documents 01 and 02 (K2) in plain Rust: one store function, whole blocks, document
+//! 01's checks and no others. The proved mapper is measured and held against it.
 use crate::drive::{Drive, Nodes, check, entry, put_entry};
 use crate::engine::{Engine, Geometry, NONE, Needs, PLACED, Shown, WAITING, Write, Written};
 
@@ -156,15 +156,24 @@ impl Lent<'_> {
         self.store_again(root);
     }
 
-    /// Map, new bit and old bit, for a number that is now in a slot and had this entry.
+    /// Map, new bit and old bit, for a number that is now in a slot and had this entry. Two bits in one
+    /// bitmap block are one store.
     fn store_place(&mut self, number: usize, slot: usize, old: usize) {
         let (map, place) = self.v.map_place(number);
         self.store_changed(Some(map), map, |v, block| put_entry(block, place, v.start(slot)));
-        let (address, byte, weight) = self.v.bit(slot);
-        self.store_changed(Some(address), address, |_, block| block[byte] |= weight);
-        if old != 0 {
-            let (address, byte, weight) = self.v.bit(self.v.slot_of(old));
-            self.store_changed(Some(address), address, |_, block| block[byte] &= !weight);
+        let (new, byte, weight) = self.v.bit(slot);
+        if old == 0 {
+            return self.store_changed(Some(new), new, |_, block| block[byte] |= weight);
+        }
+        let (left, left_byte, left_weight) = self.v.bit(self.v.slot_of(old));
+        self.store_changed(Some(new), new, |_, block| {
+            block[byte] |= weight;
+            if left == new {
+                block[left_byte] &= !left_weight;
+            }
+        });
+        if left != new {
+            self.store_changed(Some(left), left, |_, block| block[left_byte] &= !left_weight);
         }
     }
 }

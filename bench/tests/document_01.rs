@@ -1,4 +1,4 @@
-//! Document 01's examples and figures, on every mapper: B 32, k 2, P 3, H 2, M 4.
+//! Document 01's examples and figures, with document 02's K2, on every mapper: B 32, k 2, P 3, H 2, M 4.
 use pddm_bench::ENGINES;
 use pddm_bench::drive::put_entry;
 use pddm_bench::engine::{Engine, Geometry, NONE, NOT_TRIED, PLACED, Write, Written, fresh};
@@ -62,12 +62,26 @@ fn stores_of_a_first_write() {
 #[test]
 fn stores_of_a_write_with_three_rounds() {
     for e in ENGINES {
-        let (written, stores) = write(&e, &mut written_four_times(&e), 2, None, 192, 18);
+        let (written, stores) = write(&e, &mut written_four_times(&e), 2, None, 192, 17);
         assert_eq!((written.answer, written.rounds), (0, 3));
-        assert_eq!(stores, [4, 5, 6, 3, 0, 7, 8, 9, 3, 0, 10, 11, 12, 3, 1, 2, 2, 0]);
+        assert_eq!(stores, [4, 5, 6, 3, 0, 7, 8, 9, 3, 0, 10, 11, 12, 3, 1, 2, 0]);
         let refused = |random, room| write(&e, &mut written_four_times(&e), 2, None, random, room).0;
-        assert_eq!(refused(191, 18), Written { answer: 8, rounds: 0, stores: 0, outcome: NOT_TRIED });
-        assert_eq!(refused(192, 17), Written { answer: 9, rounds: 0, stores: 0, outcome: NOT_TRIED });
+        assert_eq!(refused(191, 17), Written { answer: 8, rounds: 0, stores: 0, outcome: NOT_TRIED });
+        assert_eq!(refused(192, 16), Written { answer: 9, rounds: 0, stores: 0, outcome: NOT_TRIED });
+    }
+}
+
+/// Document 02, K2, on B 32, k 2, P 1, M 100: slots 0 to 85 have their bits in block 2, the others in
+/// block 3. Number 0 moves on by one slot with each write.
+#[test]
+fn stores_with_two_bitmap_blocks() {
+    for e in ENGINES {
+        let mut disk = fresh(&e, Geometry { publics: 1, hidden: 1, slots: 100, ..G });
+        let stores = Vec::from_iter((0..88).map(|_| write(&e, &mut disk, 0, None, 64, 8).1));
+        assert_eq!(stores[0], [5, 6, 7, 4, 1, 2, 0]);
+        assert_eq!(stores[85], [260, 261, 262, 4, 1, 2, 0]);
+        assert_eq!(stores[86], [263, 264, 265, 4, 1, 3, 2, 0]);
+        assert_eq!(stores[87], [266, 267, 268, 4, 1, 3, 0]);
     }
 }
 
@@ -77,7 +91,7 @@ fn stores_of_the_listing() {
         let mut disk = fresh(&e, G);
         let lines: [(u32, Option<u32>, &[u32]); 3] = [
             (0, None, &[4, 5, 6, 3, 1, 2, 0]),
-            (0, Some(1), &[7, 8, 9, 3, 1, 2, 2, 0]),
+            (0, Some(1), &[7, 8, 9, 3, 1, 2, 0]),
             (1, None, &[10, 11, 12, 3, 1, 2, 0]),
         ];
         for (number, offer, stores) in lines {

@@ -1,6 +1,7 @@
 // Prints document 01's figures ("Figures to hold against") and the examples of its refusal table: geometry,
-// formatting, both reads and the write; and document 02's largest bit place (K4). A line for each, with what
-// the document says and what the code gives.
+// formatting, both reads and the write; and document 02's largest bit place (K4) and the stores of a drive
+// with two bitmap blocks (K2). A line for each, with what the document says and what the code gives.
+use bitmap_figures::moves::print_moves;
 use layout::bitmap::bit_place;
 use layout::geometry::Geometry;
 use layout::geometry::area_start;
@@ -127,4 +128,5 @@ fn main() {
     print_all_needs();
     print_writes();
     print_refusals();
+    print_moves();
 }

@@ -9,8 +9,8 @@ use native.Mathlib.Nat.{suc-add, zero-add}
 use native.Mathlib.Numerals.{add-one}
 use native.Mathlib.Omega.{arith}
 use lib.Seq.{ext-getD, length-take-le, take-at, drop-at, take-append-le, drop-append-add, drop-drop}
-use lib.Seq.{take-take, take-nil, getD-take, getD-drop, drop-set-add, take-set-lt}
-use lib.Seq.{set-split, append-snoc, take-add, take-all}
+use lib.Seq.{take-take, take-nil, getD-take, getD-drop}
+use lib.Seq.{set-split, append-snoc, take-all}
 use lib.ListN.{length-replicate, length, getD, take, drop, set, replicate, length-append, length-take}
 use lib.ListN.{length-drop, take-append-drop, drop-of-length-le, List·getD-eq-default}
 use lib.Dec.{eqb}
@@ -30,18 +30,13 @@ module _ {A : Type 0} where
   unfolding part
   length-part from size xs h = length-take-le size (drop from xs) (simp length-drop (omega arith))
 
-  pub getD-part : (from size index : ℕ) (xs : List A) (d : A) → index < size →
-      getD (part from size xs) index d ≡ getD xs (from + index) d
-  unfolding part
-  getD-part from size index xs d h = rw (getD-take, getD-drop)
-
   drop-take-add : (from size : ℕ) (xs : List A) → drop from (take (from + size) xs) ≡ take size (drop from xs)
   drop-take-add zero size xs = rw zero-add
   drop-take-add (suc from) size [] = rw (suc-add, take-nil)
   drop-take-add (suc from) size (x ∷ xs) = rw suc-add (drop-take-add from size xs)
 
   -- a part lies in the front that holds it
-  pub part-of-take : (from size : ℕ) (xs : List A) → part from size xs ≡ drop from (take (from + size) xs)
+  part-of-take : (from size : ℕ) (xs : List A) → part from size xs ≡ drop from (take (from + size) xs)
   unfolding part
   part-of-take from size xs = sym (drop-take-add from size xs)
 
@@ -53,24 +48,6 @@ module _ {A : Type 0} where
       part-of-take index count (part from size xs) ∙ ap (drop index)
       (take-take (index + count) size (drop from xs) h)
       ∙ sym (part-of-take index count (drop from xs)) ∙ ap (take count) (drop-drop index from xs)
-
-  -- two parts that touch
-  pub part-add :
-      (from size more : ℕ) (xs : List A) → part from (size + more) xs ≡ part from size xs ++
-      part (from + size) more xs
-  unfolding part
-  part-add from size more xs =
-      take-add size more (drop from xs) ∙ ap (λ (ys : List A). take size (drop from xs) ++ take more ys)
-      (drop-drop size from xs)
-
-  -- ---- one element set ----
-
-  pub part-set-in :
-      (from size index : ℕ) (x : A) (xs : List A) → index < size →
-      part from size (set xs (from + index) x) ≡ set (part from size xs) index x
-  unfolding part
-  part-set-in from size index x xs h =
-      ap (take size) (drop-set-add from xs index x) ∙ take-set-lt size (drop from xs) index x h
 
   -- ---- over ----
 
@@ -156,7 +133,17 @@ module _ {A : Type 0} where
         simp length-append (omega arith) in
         rw (p, q, e) (ap (λ (ys : List A). ys ++ drop (from + length new + length more) old)
         (append-assoc (take from old) new more))
+
     -- the same place written again
+    pub over-again :
+        (again : List A) → length again ≡ length new →
+        over from again (over from new old) ≡ over from again old
+    unfolding over
+    over-again again e =
+        let p : take from (over from new old) ≡ take from old = take-over-before from (omega arith) in
+        let q : drop (from + length again) (over from new old) ≡ drop (from + length again) old =
+        drop-over-after (from + length again) (omega arith) in
+        rw (p, q)
 
   -- ---- special cases ----
 

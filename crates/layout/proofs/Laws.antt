@@ -2,4 +2,5 @@
 pub mod Bits
 pub mod Geometry
 pub mod Places
+pub mod PublicMap
 pub mod Refusals

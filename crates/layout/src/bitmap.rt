@@ -8,7 +8,7 @@ ghost use Prim.Native.Nat.{_/_, _<_};
 ghost use lib.ListN.{length};
 ghost use Rattle.laws.specs.Bits.{bitOf, withBit, bitAt, setBit};
 ghost use Rattle.model.specs.Geometry.{Fits};
-ghost use Rattle.model.specs.Layout.{Drive, areaPlace, bitAddress, bitPlace, isAllocated};
+ghost use Rattle.model.specs.Layout.{Drive, areaPlace, bitAddress, bitPlace, isShared, isAllocated};
 ghost use Rattle.layout.specs.Geometries.{geometryOf};
 
 // ---- bits of a byte ----
@@ -81,6 +81,17 @@ pub fn bit_address(g: Geometry, slot: u32) -> DiskAddress
 {
     let before = area_place(g, slot) / (8 * (g.block_size as usize));
     DiskAddress((1 + map_blocks(g) + before as u64) as u32)
+}
+
+// Whether two slots' bits lie in one bitmap block.
+pub fn is_shared(g: Geometry, slot: u32, other: u32) -> bool
+    requires { ⌜ Fits (geometryOf g) ⌝ }
+    requires { ⌜ (slot < g .slots) × (other < g .slots) ⌝ }
+    ensures { λ r. ⌜ r ≡ isShared (geometryOf g) slot other ⌝ }
+{
+    let block = bit_address(g, slot).0;
+    let other_block = bit_address(g, other).0;
+    block == other_block
 }
 
 // Whether a slot holds a public block.

@@ -9,7 +9,7 @@ ghost use lib.ListN.{length};
 ghost use Rattle.laws.specs.Division.{ceilDiv};
 ghost use Rattle.model.specs.Geometry.{Fits, mapBlocks, areaBlocks, bitmapBlocks, rootAddress, areaStart};
 ghost use Rattle.model.specs.Geometry.{blockCount, treeCapacity, blockSizes, isOneOf, isGeometry};
-ghost use Rattle.model.specs.Layout.{geometryIn, headIn, slotStart};
+ghost use Rattle.model.specs.Layout.{geometryIn, headIn, slotStart, slotOf, isSlotBlock};
 ghost use Rattle.layout.specs.Geometries.{geometryOf, Bounded};
 
 // Block size B in bytes, height k of the hidden tree with its root, P public and H hidden blocks, M slots.
@@ -181,4 +181,14 @@ pub fn slot_start(g: Geometry, slot: u32) -> DiskAddress
 {
     let start = area_start(g);
     DiskAddress(start.0 + slot * (g.height + 1))
+}
+
+// The slot that a public block belongs to.
+pub fn slot_of(g: Geometry, address: DiskAddress) -> u32
+    requires { ⌜ Fits (geometryOf g) ⌝ }
+    requires { ⌜ isSlotBlock (geometryOf g) 0 (address .0) ≡ true ⌝ }
+    ensures { λ r. ⌜ r ≡ slotOf (geometryOf g) (address .0) ⌝ }
+{
+    let start = area_start(g);
+    (address.0 - start.0) / (g.height + 1)
 }

@@ -1,6 +1,5 @@
 -- What a write takes now, for a caller who has yet to lend it buffers: the refusal that no buffer can avert,
--- or the rounds,
--- stores and random blocks of a write whose data is one block. Assumes nothing.
+-- or the rounds, stores and random blocks of a write whose data is one block. Assumes nothing.
 use mathlib.Core.Path.{_≡_}
 use mathlib.Core.Bool.{cond}
 use mathlib.Core.List.{[], _∷_, _++_}
@@ -10,8 +9,8 @@ use lib.ListN.{length}
 use Rattle.laws.specs.Checks.{check, firstOf}
 use Rattle.model.specs.Geometry.{Geometry}
 use Rattle.model.specs.Blocks.{Bytes}
-use Rattle.model.specs.Layout.{geometryIn, mapEntry}
-use Rattle.model.specs.Refusals.{driveChecks, placeChecks, roundCount, storeCount, writeRefusal}
+use Rattle.model.specs.Layout.{geometryIn}
+use Rattle.model.specs.Refusals.{driveChecks, placeChecks, roundCount, writeStoreCount, writeRefusal}
 use Rattle.mapper.specs.declared.needs.Needs as declared
 
 -- the answer, and what is to be lent: random bytes for so many blocks, a list for so many stores
@@ -48,7 +47,7 @@ neededFor g disk number =
     record {
       answer = 0;
       rounds = rounds;
-      stores = storeCount g rounds (mapEntry g disk number);
+      stores = writeStoreCount g disk number;
       randomBlocks = rounds * g .height;
     }
 

@@ -2,11 +2,10 @@
 // refusals.
 use checks::counts::round_count;
 use checks::counts::round_fault;
-use checks::counts::store_count;
+use checks::counts::write_store_count;
 use checks::places::place_fault;
 use layout::geometry::geometry_in;
 use layout::numbers::PublicNumber;
-use layout::public_map::map_entry;
 use layout::refusals::drive_fault;
 ghost use mathlib.Core.Path.{_≡_};
 ghost use lib.ListN.{length};
@@ -76,7 +75,7 @@ pub fn write_needs(disk: &[u8], number: PublicNumber) -> Needs
     if rounds == 0 {
         return refused_needs(7);
     }
-    let stores = store_count(g, rounds, map_entry(disk, g, number));
+    let stores = write_store_count(disk, g, number, rounds);
     Needs {
         answer: 0,
         rounds,

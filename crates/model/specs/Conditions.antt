@@ -1,15 +1,15 @@
 -- The conditions of refusals 1 to 12 as propositions in document 01's words ("Public numbers and hidden
 -- outcomes"), and what it means that a number answers a list of them. Assumes nothing.
 use mathlib.Core.Path.{_≡_}
-use mathlib.Core.Bool.{Bool, true, false, cond}
+use mathlib.Core.Bool.{true, false, cond}
 use mathlib.Core.Logic.{_≢_, _⊎_}
 use mathlib.Core.List.{List, [], _∷_, _++_}
-use Prim.Native.Nat.{ℕ, _+_, _*_, _-_, _%_, _^_, _≤_, _<_}
-use lib.Dec.{eqb}
+use Prim.Native.Nat.{ℕ, _+_, _*_, _-_, _^_, _≤_, _<_}
 use lib.ListN.{length}
 use Rattle.model.specs.Geometry.{Geometry, treeCapacity, blockCount, driveSize}
 use Rattle.model.specs.Blocks.{Bytes, DiskAddress}
-use Rattle.model.specs.Layout.{geometryIn, headIn, slotStart, isAllocated, mapEntry}
+use Rattle.model.specs.Layout.{geometryIn, headIn, slotStart, roundSlot, isOneBlock, isAllocated}
+use Rattle.model.specs.Layout.{mapEntry}
 use Rattle.model.specs.HiddenTree.{walk, damaged}
 
 -- ---- answers ----
@@ -63,14 +63,16 @@ placeConditions g disk number size =
 -- so many rounds: the least number from 1 on for which slot (h + number − 1) mod M is free
 pub record TakesRounds (g : Geometry) (disk : Bytes) (rounds : ℕ) : Type 0 where
   pub at-least-one : 1 ≤ rounds
-  pub last-free : isAllocated g disk ((headIn disk + rounds - 1) % g .slots) ≡ false
+  pub last-free : isAllocated g disk (roundSlot g (headIn disk) rounds) ≡ false
   pub others-allocated :
       (round : ℕ) → 1 ≤ round → round < rounds →
-      isAllocated g disk ((headIn disk + round - 1) % g .slots) ≡ true
+      isAllocated g disk (roundSlot g (headIn disk) round) ≡ true
 
--- the stores of so many rounds: k + 3 for each but the last, k + 5 or k + 6 for the last
-abbrev pub storesOf : Geometry → (rounds : ℕ) → (entry : DiskAddress) → ℕ
-storesOf g rounds entry = (rounds - 1) * (g .height + 3) + cond (eqb entry 0) (g .height + 5) (g .height + 6)
+-- the stores of so many rounds, the last in this slot: k + 3 for each but the last, k + 5 for the last, or
+-- k + 6 where the number's new and old bit lie in two bitmap blocks (document 02, K2)
+abbrev pub storesOf : Geometry → (rounds : ℕ) → (entry : DiskAddress) → (slot : ℕ) → ℕ
+storesOf g rounds entry slot =
+    (rounds - 1) * (g .height + 3) + cond (isOneBlock g entry slot) (g .height + 5) (g .height + 6)
 
 -- 7 to 9: of a write with random bytes and a list of these lengths
 abbrev pub roundConditions : Geometry → (disk : Bytes) → (number random room : ℕ) → List Condition
@@ -78,7 +80,8 @@ roundConditions g disk number random room =
     condition 7 ((slot : ℕ) → slot < g .slots → isAllocated g disk slot ≡ true) ∷
     condition 8 ((rounds : ℕ) × TakesRounds g disk rounds × (random < rounds * g .height * g .blockSize)) ∷
     condition 9
-    ((rounds : ℕ) × TakesRounds g disk rounds × (room < storesOf g rounds (mapEntry g disk number))) ∷ []
+    ((rounds : ℕ) × TakesRounds g disk rounds ×
+    (room < storesOf g rounds (mapEntry g disk number) (roundSlot g (headIn disk) rounds))) ∷ []
 
 -- 10 and 11: of a hidden number and the length of its data or blank
 abbrev pub hiddenConditions : Geometry → (number size : ℕ) → List Condition

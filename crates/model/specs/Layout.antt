@@ -1,7 +1,7 @@
 -- Where things stand on a drive (document 01, "The disk"): header, slots, bitmap and public map, each read
 -- from whole blocks. Assumes nothing.
 use mathlib.Core.Path.{_≡_}
-use mathlib.Core.Bool.{Bool, _&&_}
+use mathlib.Core.Bool.{Bool, _&&_, _||_}
 use Prim.Native.Nat.{ℕ, zero, suc, _+_, _*_, _-_, _/_, _%_}
 use lib.Dec.{ltb, leb, eqb}
 use lib.ListN.{length}
@@ -45,6 +45,10 @@ slotOf g address = (address - areaStart g) / (g .height + 1)
 abbrev pub nextSlot : Geometry → (slot : ℕ) → ℕ
 nextSlot g slot = (slot + 1) % g .slots
 
+-- the slot of a round, counted from 1 at the head: (h + round − 1) mod M
+abbrev pub roundSlot : Geometry → (head round : ℕ) → ℕ
+roundSlot g head round = (head + round - 1) % g .slots
+
 -- where a block of a level stands in its slot: a node of level 1 to k - 1 at A + level, level 0, hidden data,
 -- at A + k
 abbrev pub levelPlace : Geometry → (level : ℕ) → ℕ
@@ -78,6 +82,15 @@ bitAddress g slot = 1 + mapBlocks g + areaPlace g slot / (8 * g .blockSize)
 -- the bit's place within its bitmap block
 abbrev pub bitPlace : Geometry → (slot : ℕ) → ℕ
 bitPlace g slot = areaPlace g slot % (8 * g .blockSize)
+
+-- whether two slots' bits lie in one bitmap block
+abbrev pub isShared : Geometry → (slot other : ℕ) → Bool
+isShared g slot other = eqb (bitAddress g slot) (bitAddress g other)
+
+-- whether a public number that goes to a slot changes one bitmap block: its entry says that it had no place,
+-- or its old bit lies in the new bit's block
+abbrev pub isOneBlock : Geometry → (entry : DiskAddress) → (slot : ℕ) → Bool
+isOneBlock g entry slot = eqb entry 0 || isShared g slot (slotOf g entry)
 
 -- whether a slot holds a public block (document 01: marked)
 unfoldable pub isAllocated : Geometry → (disk : Bytes) → (slot : ℕ) → Bool

@@ -1,6 +1,6 @@
 -- Refusals 1 to 12 as chains of checks (document 01, "Public numbers and hidden outcomes"). Each call's
 -- refusal is the number of its first check that holds, 0 where none does. Assumes nothing.
-use mathlib.Core.Bool.{Bool, true, false, cond, not, _||_}
+use mathlib.Core.Bool.{Bool, cond, not, _||_}
 use mathlib.Core.List.{List, [], _∷_, _++_}
 use Prim.Native.Nat.{ℕ, zero, suc, _+_, _*_}
 use lib.Dec.{ltb, leb, eqb}
@@ -8,7 +8,8 @@ use lib.ListN.{length}
 use Rattle.laws.specs.Checks.{Check, check, firstOf}
 use Rattle.model.specs.Geometry.{Geometry, driveSize, isGeometry}
 use Rattle.model.specs.Blocks.{Bytes, DiskAddress}
-use Rattle.model.specs.Layout.{geometryIn, headIn, nextSlot, isAllocated, mapEntry, isPlace}
+use Rattle.model.specs.Layout.{geometryIn, headIn, nextSlot, roundSlot, isOneBlock, isAllocated}
+use Rattle.model.specs.Layout.{mapEntry, isPlace}
 use Rattle.model.specs.HiddenTree.{walk, isDamaged}
 
 -- ---- the drive, 1 to 3 ----
@@ -50,16 +51,23 @@ roundsTo (suc most) isTaken g slot =
 abbrev pub roundCount : Geometry → (disk : Bytes) → ℕ
 roundCount g disk = roundsTo (g .slots) (isAllocated g disk) g (headIn disk)
 
--- stores of so many rounds: k + 3 each, the last two more, or three where the number had a place
-abbrev pub storeCount : Geometry → (rounds : ℕ) → (entry : DiskAddress) → ℕ
-storeCount g rounds entry = rounds * (g .height + 3) + cond (eqb entry 0) 2 3
+-- stores of so many rounds: k + 3 each, the last, which is in this slot, two more, or three for two bitmap
+-- blocks (document 02, K2)
+abbrev pub storeCount : Geometry → (rounds : ℕ) → (entry : DiskAddress) → (slot : ℕ) → ℕ
+storeCount g rounds entry slot = rounds * (g .height + 3) + cond (isOneBlock g entry slot) 2 3
+
+-- the stores that a write takes now
+abbrev pub writeStoreCount : Geometry → (disk : Bytes) → (number : ℕ) → ℕ
+writeStoreCount g disk number =
+    let rounds = roundCount g disk in
+    storeCount g rounds (mapEntry g disk number) (roundSlot g (headIn disk) rounds)
 
 -- 7 to 9 of a write, for lent random bytes and a list of these lengths
 unfoldable pub roundChecks : Geometry → (disk : Bytes) → (number random room : ℕ) → List Check
 roundChecks g disk number random room =
     check (eqb (roundCount g disk) 0) 7 ∷
     check (ltb random (roundCount g disk * g .height * g .blockSize)) 8 ∷
-    check (ltb room (storeCount g (roundCount g disk) (mapEntry g disk number))) 9 ∷ []
+    check (ltb room (writeStoreCount g disk number)) 9 ∷ []
 
 -- ---- hidden calls, 10 to 12 ----
 

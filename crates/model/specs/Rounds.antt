@@ -1,16 +1,16 @@
 -- A round and the rounds of a write (document 01, "A round"): the public half, the stores in their order, and
 -- the run that goes on until a round takes the call's data. Assumes nothing.
 use mathlib.Core.Bool.{Bool, true, false, cond}
-use mathlib.Core.List.{List, [], _∷_, _++_}
+use mathlib.Core.List.{[], _∷_, _++_}
 use Prim.Native.Nat.{ℕ, zero, suc, _+_, _*_, _%_}
 use lib.Dec.{eqb}
 use lib.ListN.{drop}
 use Rattle.model.specs.Geometry.{Geometry, fanout}
 use Rattle.model.specs.Blocks.{Bytes, DiskAddress, blockAt, setEntry}
 use Rattle.model.specs.Layout.{slotStart, slotOf, nextSlot, bitAddress, bitmapWith, mapAddress}
-use Rattle.model.specs.Layout.{mapEntry}
+use Rattle.model.specs.Layout.{isShared, mapEntry}
 use Rattle.model.specs.Stores.{Store, Trace, store, apply}
-use Rattle.model.specs.Table.{Row, PublicChoice, keepPublic, writePublic}
+use Rattle.model.specs.Table.{PublicChoice, keepPublic, writePublic}
 use Rattle.model.specs.Paths.{keptBlock}
 use Rattle.model.specs.HiddenHalf.{HiddenState, hiddenHalf, rowOf}
 
@@ -31,12 +31,18 @@ mapStore g disk number slot =
 abbrev pub bitStore : Geometry → (disk : Bytes) → (slot : ℕ) → (isSet : Bool) → Store
 bitStore g disk slot isSet = store (bitAddress g slot) (bitmapWith g disk slot isSet)
 
--- the new bit's block and, where the number had a place, the old bit's block, cleared on top of the new bit
+-- the bits of a number that moves: the new bit's block, then the old bit's, cleared on top of the new bit;
+-- where both lie in one block, it is stored once, with both (document 02, K2)
+unfoldable pub movedStores : Geometry → (disk : Bytes) → (slot old : ℕ) → Trace
+movedStores g disk slot old =
+    let new = bitStore g disk slot true in
+    let cleared = bitStore g (apply (g .blockSize) (new ∷ []) disk) old false in
+    cond (isShared g slot old) (cleared ∷ []) (new ∷ cleared ∷ [])
+
+-- the bitmap's stores: of a number that had no place the new bit's block alone, else of one that moves
 unfoldable pub bitStores : Geometry → (disk : Bytes) → (entry : DiskAddress) → (slot : ℕ) → Trace
 bitStores g disk entry slot =
-    let new = bitStore g disk slot true in
-    new ∷
-    cond (eqb entry 0) [] (bitStore g (apply (g .blockSize) (new ∷ []) disk) (slotOf g entry) false ∷ [])
+    cond (eqb entry 0) (bitStore g disk slot true ∷ []) (movedStores g disk slot (slotOf g entry))
 
 -- the header with the head at the next slot, its other bytes kept
 abbrev pub headerStore : Geometry → (disk : Bytes) → (slot : ℕ) → Store

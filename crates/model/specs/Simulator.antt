@@ -4,14 +4,14 @@
 -- nothing.
 use mathlib.Core.Bool.{Bool, true, false, cond, not, _&&_, _||_}
 use mathlib.Core.List.{List, [], _∷_, _++_}
-use Prim.Native.Nat.{ℕ, zero, suc, _+_, _*_, _-_, _%_}
+use Prim.Native.Nat.{ℕ, zero, suc, _+_, _*_, _-_}
 use lib.Dec.{ltb, leb, eqb}
 use lib.ListN.{length, getD, set}
 use Rattle.laws.specs.Checks.{Check, check, firstOf}
 use Rattle.model.specs.Geometry.{Geometry, rootAddress}
 use Rattle.model.specs.Blocks.{Bytes, DiskAddress}
 use Rattle.model.specs.Layout.{geometryIn, headIn, slotStart, slotOf, nextSlot, bitAddress, mapAddress}
-use Rattle.model.specs.Layout.{mapEntry, isAllocated, isSlotBlock}
+use Rattle.model.specs.Layout.{roundSlot, mapEntry, isAllocated, isSlotBlock}
 use Rattle.model.specs.Runs.{PublicCall, Seen}
 
 -- what it is fed of a public call: the number and lengths
@@ -80,7 +80,7 @@ leastFrom (suc most) test first = cond (test first) first (leastFrom most test (
 
 -- the slot of the g-th round: (h + g − 1) mod M
 abbrev pub slotOfRound : Simulator → (round : ℕ) → ℕ
-slotOfRound sim round = (sim .head + round - 1) % sim .geometry .slots
+slotOfRound sim round = roundSlot (sim .geometry) (sim .head) round
 
 -- g, the least from 1 on whose slot is free
 abbrev pub simulatedRounds : Simulator → ℕ
@@ -100,12 +100,14 @@ unfoldable pub keptRounds : (count : ℕ) → Geometry → (slot : ℕ) → List
 keptRounds zero g slot = []
 keptRounds (suc count) g slot = slotAddresses g slot ++ (0 ∷ keptRounds count g (nextSlot g slot))
 
--- the last round: map block, new bit's block, old bit's block where the number had a place, header
+-- the last round: map block, new bit's block, old bit's block where the number had a place and that is
+-- another block (document 02, K2), header
 abbrev pub lastRound : Geometry → (number : ℕ) → (entry : DiskAddress) → (slot : ℕ) → List DiskAddress
 lastRound g number entry slot =
+    let new = bitAddress g slot in
+    let old = bitAddress g (slotOf g entry) in
     slotAddresses g slot ++
-    (mapAddress g number ∷ bitAddress g slot ∷
-    cond (eqb entry 0) (0 ∷ []) (bitAddress g (slotOf g entry) ∷ 0 ∷ []))
+    (mapAddress g number ∷ new ∷ cond (eqb entry 0 || eqb new old) (0 ∷ []) (old ∷ 0 ∷ []))
 
 unfoldable pub simulatedStores : Simulator → (number : ℕ) → List DiskAddress
 simulatedStores sim number =

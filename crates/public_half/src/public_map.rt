@@ -15,9 +15,9 @@ ghost use lib.ListN.{length};
 ghost use Rattle.model.specs.Layout.{Drive, mapEntry};
 ghost use Rattle.model.specs.Rounds.{mapStore, mapStores};
 ghost use Rattle.layout.specs.Geometries.{geometryOf};
+ghost use Rattle.layout.specs.PublicMap.{OldEntry};
 ghost use Rattle.stores.specs.Made.{Made};
 ghost use Rattle.table.specs.Rows.{publicOf};
-ghost use Rattle.public_half.specs.Entries.{OldEntry};
 
 // Stores the map block with the number's entry at a slot's public block. The block is a buffer.
 fn store_entry(

@@ -10,8 +10,8 @@ use Rattle.model.specs.Stores.{Trace}
 use Rattle.model.specs.Table.{PublicChoice}
 use Rattle.model.specs.HiddenHalf.{HiddenState, hiddenHalf, rowOf}
 use Rattle.model.specs.Rounds.{goesOn, roundTrace}
+use Rattle.layout.specs.PublicMap.{OldEntry}
 use Rattle.stores.specs.Made.{Made}
-use Rattle.public_half.specs.Entries.{OldEntry}
 use Rattle.plans.specs.declared.states.State.{State}
 use Rattle.rounds.specs.declared.rounds.Step.{Step}
 use Rattle.plans.specs.States.{stateOf}

@@ -11,9 +11,9 @@ ghost use lib.ListN.{length};
 ghost use Rattle.model.specs.Layout.{Drive, mapEntry};
 ghost use Rattle.model.specs.Rounds.{mapStores, headerStore};
 ghost use Rattle.layout.specs.Geometries.{geometryOf};
+ghost use Rattle.layout.specs.PublicMap.{OldEntry};
 ghost use Rattle.stores.specs.Made.{Made};
 ghost use Rattle.table.specs.Rows.{publicOf};
-ghost use Rattle.public_half.specs.Entries.{OldEntry};
 
 // Stores map and bits where the round took the call's data, and the header. The block is a buffer.
 pub fn store_ending(

@@ -36,6 +36,25 @@ pub fn store_block(
     next + 1
 }
 
+// Takes a block of the disk, with one change or none, into a lent buffer of one block.
+pub fn take_changed(
+    disk: &[u8],
+    g: Geometry,
+    address: DiskAddress,
+    change: Change,
+    block: &mut [u8],
+)
+    requires { ⌜ Drive (geometryOf g) (now disk) ⌝ }
+    requires { ⌜ address .0 < blockCount (geometryOf g) ⌝ }
+    requires { ⌜ Inside (geometryOf g .blockSize) change ⌝ }
+    requires { ⌜ length (now block) ≡ geometryOf g .blockSize ⌝ }
+    ensures { λ _. ⌜ now (block .exit) ≡
+        changed change (blockAt (geometryOf g .blockSize) (now (disk .entry)) (address .0)) ⌝ }
+{
+    copies::copy_at(block, 0, layout::blocks::block_at(disk, g, address));
+    crate::changes::change_block(block, change);
+}
+
 // Stores a block of the disk with one change or none, through a lent buffer of one block.
 pub fn store_changed(
     disk: &mut [u8],
@@ -55,7 +74,6 @@ pub fn store_changed(
         (changed change (blockAt (geometryOf g .blockSize) (now (disk .entry)) (address .0))) ∷ [])
         (now (disk .entry)) (now (list .entry)) next (now (disk .exit)) (now (list .exit)) r ⌝ }
 {
-    copies::copy_at(block, 0, layout::blocks::block_at(disk, g, address));
-    crate::changes::change_block(block, change);
+    take_changed(disk, g, address, change, block);
     store_block(disk, list, next, g, address, block)
 }

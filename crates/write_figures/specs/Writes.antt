@@ -34,4 +34,4 @@ fourWrites disk = diskOf (diskOf (diskOf (diskOf disk 0) 1) 2) 2
 
 -- the disk that three writes of number 2 leave: one random byte short, one entry short, just enough
 abbrev pub fifthWrites : (disk : Bytes) → Bytes
-fifthWrites disk = sizedWrite 2 192 18 (sizedWrite 2 192 17 (sizedWrite 2 191 18 disk))
+fifthWrites disk = sizedWrite 2 192 17 (sizedWrite 2 192 16 (sizedWrite 2 191 17 disk))

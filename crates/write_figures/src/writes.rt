@@ -150,26 +150,26 @@ fn print_four(disk: &mut [u8]) -> u32
     print_roomy(b"first of five, write 0", 7, disk, 0);
     print_roomy(b"second of five, write 1", 7, disk, 1);
     print_roomy(b"third of five, write 2", 7, disk, 2);
-    print_roomy(b"fourth of five, write 2", 8, disk, 2);
+    print_roomy(b"fourth of five, write 2", 7, disk, 2);
     16
 }
 
-// Write 2 with 192 random bytes and a list of 18, and its list; answers the number of lines.
+// Write 2 with 192 random bytes and a list of 17, and its list; answers the number of lines.
 fn print_last(disk: &mut [u8]) -> u32
     ensures counted { λ r. ⌜ r ≡ 5 ⌝ }
-    ensures stored { λ _. ⌜ now (disk .exit) ≡ sizedWrite 2 192 18 (now (disk .entry)) ⌝ }
+    ensures stored { λ _. ⌜ now (disk .exit) ≡ sizedWrite 2 192 17 (now (disk .entry)) ⌝ }
 {
     let bytes = [165u8; 192];
-    let mut list = [99u32; 18];
+    let mut list = [99u32; 17];
     print_plain(
         b"fifth of five, write 2",
-        done(3, 18, 0),
+        done(3, 17, 0),
         disk,
         2,
         &bytes,
         &mut list,
     );
-    print_list(b"4 5 6 3 0 7 8 9 3 0 10 11 12 3 1 2 2 0", &list);
+    print_list(b"4 5 6 3 0 7 8 9 3 0 10 11 12 3 1 2 0", &list);
     5
 }
 
@@ -178,8 +178,8 @@ fn print_fifth(disk: &mut [u8]) -> u32
     ensures counted { λ r. ⌜ r ≡ 13 ⌝ }
     ensures stored { λ _. ⌜ now (disk .exit) ≡ fifthWrites (now (disk .entry)) ⌝ }
 {
-    print_sized(b"fifth, 191 random bytes", refused(8), disk, 2, 191, 18);
-    print_sized(b"fifth, list of 17", refused(9), disk, 2, 192, 17);
+    print_sized(b"fifth, 191 random bytes", refused(8), disk, 2, 191, 17);
+    print_sized(b"fifth, list of 16", refused(9), disk, 2, 192, 16);
     print_last(disk);
     13
 }
@@ -191,7 +191,7 @@ fn print_five() -> u32
     let mut disk = [0u8; 512];
     format_drive(&mut disk, two_high(32, 3, 2, 4));
     print_four(&mut disk);
-    print_needs(b"fifth needs", needs(0, 3, 18, 6), &disk, 2);
+    print_needs(b"fifth needs", needs(0, 3, 17, 6), &disk, 2);
     print_fifth(&mut disk);
     33
 }

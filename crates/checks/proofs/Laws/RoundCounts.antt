@@ -10,8 +10,8 @@ use lib.ListN.{length}
 use borrow.Author.Tests.{eq-eqb, ne-eqb}
 use Rattle.model.specs.Geometry.{Geometry, Fits, blockCount}
 use Rattle.model.specs.Blocks.{Bytes, DiskAddress}
-use Rattle.model.specs.Layout.{Drive, nextSlot}
-use Rattle.model.specs.Refusals.{oneMore, roundsTo, storeCount}
+use Rattle.model.specs.Layout.{Drive, headIn, slotOf, nextSlot, roundSlot, isShared, isOneBlock, mapEntry}
+use Rattle.model.specs.Refusals.{oneMore, roundsTo, roundCount, storeCount, writeStoreCount}
 use Rattle.model.proofs.Laws.RoundCounts.{roundsTo-zero, roundsTo-free, roundsTo-taken}
 
 -- the header's entries are the disk's
@@ -104,9 +104,32 @@ stores-small g f rounds h =
       f .blocks-high,
     )
 
-module _ (g : Geometry) (rounds : ℕ) (entry : DiskAddress) where
-  pub stores-new : entry ≡ 0 → rounds * (g .height + 3) + 2 ≡ storeCount g rounds entry
-  stores-new e = rw (eq-eqb entry 0 e)
+-- a slot and so many rounds are few enough to be added
+pub head-rounds-small :
+    (g : Geometry) → Fits g → (head rounds : ℕ) → head < g .slots → rounds ≤ g .slots → head + rounds < 2 ^ 32
+head-rounds-small g f head rounds h k =
+    omega (arith, mul-le-mul-left (g .slots) (f .height-low), f .blocks-high)
 
-  pub stores-moved : entry ≢ 0 → rounds * (g .height + 3) + 3 ≡ storeCount g rounds entry
-  stores-moved f = rw (ne-eqb entry 0 f)
+-- the stores counted from what is read are those of the write
+pub stores-counted :
+    (g : Geometry) (disk : Bytes) (number rounds entry head : ℕ) → rounds ≡ roundCount g disk →
+    entry ≡ mapEntry g disk number → head ≡ headIn disk →
+    storeCount g rounds entry (roundSlot g head rounds) ≡ writeStoreCount g disk number
+stores-counted g disk number rounds entry head r e h = rw (r, e, h)
+
+module _ (g : Geometry) (entry : DiskAddress) (slot : ℕ) where
+  pub one-block-new : entry ≡ 0 → true ≡ isOneBlock g entry slot
+  one-block-new e = rw (eq-eqb entry 0 e)
+
+  pub one-block-moved :
+      entry ≢ 0 → (old : ℕ) → old ≡ slotOf g entry → isShared g slot old ≡ isOneBlock g entry slot
+  one-block-moved ne old e = rw (ne-eqb entry 0 ne, e)
+
+  module _ (rounds : ℕ) where
+    pub storeCount-one-block :
+        isOneBlock g entry slot ≡ true → rounds * (g .height + 3) + 2 ≡ storeCount g rounds entry slot
+    storeCount-one-block e = rw e
+
+    pub storeCount-two-blocks :
+        isOneBlock g entry slot ≡ false → rounds * (g .height + 3) + 3 ≡ storeCount g rounds entry slot
+    storeCount-two-blocks e = rw e

@@ -7,13 +7,9 @@ use Rattle.laws.specs.Checks.{firstOf}
 use Rattle.laws.proofs.Checks.{firstOf-stop, firstOf-pass, firstOf-nil}
 use Rattle.model.specs.Geometry.{Geometry}
 use Rattle.model.specs.Blocks.{Bytes}
-use Rattle.model.specs.Layout.{mapEntry}
-use Rattle.model.specs.Refusals.{roundCount, storeCount, roundChecks}
+use Rattle.model.specs.Refusals.{roundCount, writeStoreCount, roundChecks}
 
 module _ (g : Geometry) (disk : Bytes) (number random room : ℕ) where
-  abbrev pub stores : ℕ
-  stores = storeCount g (roundCount g disk) (mapEntry g disk number)
-
   abbrev pub answer : ℕ
   answer = firstOf (roundChecks g disk number random room)
 
@@ -28,13 +24,13 @@ module _ (g : Geometry) (disk : Bytes) (number random room : ℕ) where
         sym (firstOf-pass 7 _ (ne-eqb (roundCount g disk) 0 some) ∙ firstOf-stop 8 _ (lt-ltb _ _ h))
 
     module _ (enough : roundCount g disk * g .height * g .blockSize ≤ random) where
-      pub rounds-room-short : room < stores → 9 ≡ answer
+      pub rounds-room-short : room < writeStoreCount g disk number → 9 ≡ answer
       unfolding roundChecks
       rounds-room-short h =
           sym (firstOf-pass 7 _ (ne-eqb (roundCount g disk) 0 some) ∙ firstOf-pass 8 _ (le-ltb _ _ enough)
           ∙ firstOf-stop 9 _ (lt-ltb _ _ h))
 
-      pub rounds-good : stores ≤ room → 0 ≡ answer
+      pub rounds-good : writeStoreCount g disk number ≤ room → 0 ≡ answer
       unfolding roundChecks
       rounds-good h =
           sym (firstOf-pass 7 _ (ne-eqb (roundCount g disk) 0 some) ∙ firstOf-pass 8 _ (le-ltb _ _ enough)

@@ -12,8 +12,9 @@ use Rattle.laws.proofs.Cases.{eq-cases, cond-true, cond-false}
 use Rattle.laws.proofs.Checks.{firstOf-stop, firstOf-pass, firstOf-nil}
 use Rattle.model.specs.Geometry.{Geometry}
 use Rattle.model.specs.Blocks.{Bytes}
-use Rattle.model.specs.Layout.{geometryIn, mapEntry}
-use Rattle.model.specs.Refusals.{driveRefusal, placeChecks, roundCount, storeCount, roundChecks, writeRefusal}
+use Rattle.model.specs.Layout.{geometryIn}
+use Rattle.model.specs.Refusals.{driveRefusal, placeChecks, roundCount, writeStoreCount, roundChecks}
+use Rattle.model.specs.Refusals.{writeRefusal}
 use Rattle.mapper.specs.Needs.{Needed, needsRefusal, refusedNeeds, neededFor, needsOf, Suffices}
 use Rattle.checks.proofs.Laws.RoundRefusals.{rounds-good}
 use Rattle.mapper.proofs.Laws.WriteRefusals.{chain, chain-drive, chain-place, chain-rest}
@@ -72,8 +73,8 @@ module _ (disk : Bytes) (number : ℕ) where
         ∙ needsRefusal-is disk number) (λ p. omega arith)
 
     pub needs-some :
-        places ≡ 0 → (rounds entry stores : ℕ) → rounds ≡ roundCount g disk → entry ≡ mapEntry g disk number →
-        stores ≡ storeCount g rounds entry → rounds ≢ 0 →
+        places ≡ 0 → (rounds stores : ℕ) → rounds ≡ roundCount g disk →
+        stores ≡ writeStoreCount g disk number → rounds ≢ 0 →
         _≡_ {A = Needed} (record {
           answer = 0;
           rounds = rounds;
@@ -82,7 +83,7 @@ module _ (disk : Bytes) (number : ℕ) where
               rounds * g .height;
         })
         (needsOf disk number)
-    needs-some z rounds entry stores counted mapped stored f =
+    needs-some z rounds stores counted stored f =
         let e : _≡_ {A = Needed}
         (record { answer = 0; rounds = rounds; stores = stores; randomBlocks = rounds * g .height })
         (neededFor g disk number) = cc in
@@ -131,8 +132,8 @@ module _ (disk : Bytes) (number : ℕ) (content : Bytes) (whole : length content
       good : (a : driveRefusal disk ≡ 0) → places disk number a g refl ≡ 0 → roundCount g disk ≢ 0 →
           writeRefusal disk number content random room ≡ 0
       good a p r =
-          let told = needs-some disk number a g refl p (roundCount g disk) (mapEntry g disk number)
-          (storeCount g (roundCount g disk) (mapEntry g disk number)) refl refl refl r in
+          let told = needs-some disk number a g refl p (roundCount g disk) (writeStoreCount g disk number)
+          refl refl r in
           sym write-chain ∙ sym (chain-rest disk number (g .blockSize) rest a g refl p)
           ∙ sym (rounds-good g disk number random room r
           (rw (ap (λ (n : Needed). n .randomBlocks) told) long)

@@ -12,10 +12,13 @@ use Rattle.laws.proofs.Checks.{Passed, passed-of-zero}
 use Rattle.laws.proofs.Checks.{firstOf-append-stop, firstOf-append-pass}
 use Rattle.model.specs.Geometry.{Geometry}
 use Rattle.model.specs.Blocks.{Bytes}
-use Rattle.model.specs.Layout.{geometryIn, headIn}
+use Rattle.model.specs.Layout.{geometryIn, headIn, mapEntry}
 use Rattle.model.specs.Refusals.{driveChecks, driveRefusal, placeChecks, roundChecks}
 use Rattle.model.specs.Refusals.{writeRefusal}
+use Rattle.model.proofs.Laws.Accepted.{accepted-of-passed}
 use Rattle.model.proofs.Laws.Refusals.{accepted-of-refusal, after-drive-stop, after-drive-pass}
+use Rattle.layout.specs.PublicMap.{OldEntry}
+use Rattle.layout.proofs.Laws.PublicMap.{entry-of-placed}
 
 -- the head is one of the slots of the geometry that was read
 pub head-read :
@@ -40,6 +43,14 @@ pub inside-of-places :
     number < g .publics
 unfolding placeChecks
 inside-of-places g disk number size e = leb-false (g .publics) number (places-passed g disk number size e .0)
+
+-- an entry that 6 does not meet
+pub entry-of-places :
+    (g : Geometry) (disk : Bytes) (number size : ℕ) → firstOf (placeChecks g disk number size) ≡ 0 →
+    OldEntry g (mapEntry g disk number)
+entry-of-places g disk number size e =
+    entry-of-placed g disk number
+    (accepted-of-passed g disk number size (places-passed g disk number size e) .in-place)
 
 module _ (disk : Bytes) (number size : ℕ) (rest : List Check) where
   abbrev pub chain : ℕ

@@ -15,11 +15,11 @@ use Rattle.laws.proofs.Cases.{cond-cases}
 use Rattle.laws.proofs.Lists.{over-nil}
 use Rattle.model.specs.Geometry.{Geometry}
 use Rattle.model.specs.Blocks.{Bytes, DiskAddress}
-use Rattle.model.specs.Layout.{geometryIn, headIn, isAllocated, mapEntry}
+use Rattle.model.specs.Layout.{geometryIn, headIn, roundSlot, isOneBlock, mapEntry}
 use Rattle.model.specs.Stores.{addresses}
 use Rattle.model.specs.HiddenHalf.{HiddenWrite}
 use Rattle.model.specs.Rounds.{Run, runFrom}
-use Rattle.model.specs.Refusals.{roundCount, storeCount, writeRefusal}
+use Rattle.model.specs.Refusals.{roundCount, writeStoreCount, writeRefusal}
 use Rattle.model.specs.Calls as model
 use Rattle.model.proofs.Laws.Runs.{rounds-ran, length-ran}
 use Rattle.model.proofs.Laws.Stores.{apply-nil}
@@ -27,7 +27,7 @@ use Rattle.model.proofs.Laws.Refusals.{Accepted, accepted-of-refusal}
 use Rattle.model.proofs.Laws.Accepted.{AcceptedWrite, accepted-of-write, driveRefusal-of-write}
 use Rattle.model.proofs.Laws.Calls.{written-refused, written-done}
 use Rattle.model.proofs.Laws.WriteRuns.{writeRun-ran}
-use Rattle.model.proofs.Refusals.Circle.{roundsTo-le}
+use Rattle.model.proofs.Refusals.Circle.{roundCount-le}
 use Rattle.rounds.specs.declared.runs.Ran.{Ran}
 use Rattle.plans.specs.declared.states.Offer.the-variants.{Absent, Waiting}
 use Rattle.plans.specs.States.{stateOf}
@@ -170,10 +170,7 @@ module _ (disk : Bytes) (number : ℕ) (content random : Bytes) (list : List Dis
       (allowed .some-rounds) disk theirs (writeRun-ran disk number content random (length list) offer
       accepted)
 
-  stores-are :
-      length (theirs .trace) ≡
-      storeCount (geometryIn disk) (roundCount (geometryIn disk) disk)
-      (mapEntry (geometryIn disk) disk number)
+  stores-are : length (theirs .trace) ≡ writeStoreCount (geometryIn disk) disk number
   stores-are =
       length-ran (geometryIn disk) number content (headIn disk) (roundCount (geometryIn disk) disk)
       (allowed .some-rounds) disk theirs (writeRun-ran disk number content random (length list) offer
@@ -221,10 +218,10 @@ module _ (disk : Bytes) (number : ℕ) (content random : Bytes) (list : List Dis
     stores-fit =
         let g = geometryIn disk in
         let rounds = roundCount g disk in
-        let small = stores-small g (drive .sized .fits) rounds
-        (roundsTo-le (isAllocated g disk) g (g .slots) (headIn disk)) in
-        let few : storeCount g rounds (mapEntry g disk number) < 2 ^ 32 =
-        cond-cases (λ (n : ℕ). rounds * (g .height + 3) + n < 2 ^ 32) (eqb (mapEntry g disk number) 0)
+        let small = stores-small g (drive .sized .fits) rounds (roundCount-le g disk) in
+        let few : writeStoreCount g disk number < 2 ^ 32 =
+        cond-cases (λ (n : ℕ). rounds * (g .height + 3) + n < 2 ^ 32)
+        (isOneBlock g (mapEntry g disk number) (roundSlot g (headIn disk) rounds))
         (λ e. omega arith) (λ e. omega arith) in
         omega (arith, done-theirs .run-made .made .counted, stores-are)
 

@@ -20,8 +20,8 @@ use Rattle.model.specs.Layout.{geometryIn, isPlace, mapEntry}
 use Rattle.model.specs.HiddenTree.{walk, isDamaged}
 use Rattle.model.specs.HiddenHalf.{HiddenWrite}
 use Rattle.model.specs.Refusals.{driveChecks, driveRefusal, hiddenChecks, hiddenWriteRefusal}
-use Rattle.model.specs.Refusals.{placeChecks, publicReadRefusal, roundChecks, roundCount, storeCount}
-use Rattle.model.specs.Refusals.{walkChecks, writeRefusal}
+use Rattle.model.specs.Refusals.{placeChecks, publicReadRefusal, roundChecks, roundCount}
+use Rattle.model.specs.Refusals.{writeStoreCount, walkChecks, writeRefusal}
 use Rattle.model.specs.Calls.{offerRefusal, offeredWrites}
 use Rattle.model.proofs.Laws.Places.{Placed}
 use Rattle.model.proofs.Laws.Refusals.{driveRefusal-of-chain, passed-after-drive}
@@ -33,7 +33,7 @@ pub record AcceptedNumber (g : Geometry) (disk : Bytes) (number size : ℕ) : Ty
   pub block-sized : size ≡ g .blockSize
   pub in-place : Placed g disk number
 
-accepted-of-passed :
+pub accepted-of-passed :
     (g : Geometry) (disk : Bytes) (number size : ℕ) → Passed (placeChecks g disk number size) →
     AcceptedNumber g disk number size
 unfolding placeChecks
@@ -84,7 +84,7 @@ pub record AcceptedWrite (g : Geometry) (disk : Bytes) (number size random room 
   pub accepted : AcceptedNumber g disk number size
   pub some-rounds : roundCount g disk ≢ 0
   pub enough-random : roundCount g disk * g .height * g .blockSize ≤ random
-  pub enough-room : storeCount g (roundCount g disk) (mapEntry g disk number) ≤ room
+  pub enough-room : writeStoreCount g disk number ≤ room
 
 numbered-rounds :
     (g : Geometry) (disk : Bytes) (number random room : ℕ) → Numbered (roundChecks g disk number random room)
@@ -101,7 +101,7 @@ accepted-of-passed-write g disk number size random room p q =
       accepted = accepted-of-passed g disk number size p;
       some-rounds = eqb-false (roundCount g disk) 0 (q .0);
       enough-random = ltb-false random (roundCount g disk * g .height * g .blockSize) (q .1 .0);
-      enough-room = ltb-false room (storeCount g (roundCount g disk) (mapEntry g disk number)) (q .1 .1 .0);
+      enough-room = ltb-false room (writeStoreCount g disk number) (q .1 .1 .0);
     }
 
 pub accepted-of-write :

@@ -1,15 +1,15 @@
--- Laws of blocks, over their width: lengths, read after write at the same and at another address. Assumes
--- nothing.
+-- Laws of blocks, over their width: lengths, read after write at the same and at another address, one block
+-- written twice. Assumes nothing.
 use mathlib.Core.Path.{_≡_, refl, sym, ap, _∙_}
 use mathlib.Core.Logic.{_≢_, ⊎-elim}
 use Prim.Native.Nat.{ℕ, suc, _+_, _*_, _≤_, _<_}
 use native.Mathlib.Nat.{mul-le-mul-right}
 use native.Mathlib.Omega.{arith}
-use lib.ListN.{length, getD}
+use lib.ListN.{length}
 use Rattle.laws.specs.Lists.{part, over}
 use Rattle.laws.proofs.Cases.{lt-cases}
-use Rattle.laws.proofs.Lists.{length-part, getD-part, length-over, part-over-same, part-over-before}
-use Rattle.laws.proofs.Lists.{part-over-after}
+use Rattle.laws.proofs.Lists.{length-part, length-over, part-over-same, part-over-before}
+use Rattle.laws.proofs.Lists.{part-over-after, over-again}
 use Rattle.model.specs.Blocks.{Bytes, DiskAddress, blockAt, setBlock}
 
 -- ---- equations ----
@@ -24,12 +24,6 @@ pub setBlock-is :
     setBlock width disk address block ≡ over (address * width) block disk
 unfolding setBlock
 setBlock-is width disk address block = refl
-
-pub getD-blockAt :
-    (width : ℕ) (disk : Bytes) (address index : ℕ) → index < width →
-    getD (blockAt width disk address) index 0 ≡ getD disk (address * width + index) 0
-unfolding blockAt
-getD-blockAt width disk address index h = getD-part (address * width) width index disk 0 h
 
 module _ (width : ℕ) (disk : Bytes) (count : ℕ) (whole : length disk ≡ count * width) where
   -- ---- lengths ----
@@ -76,3 +70,14 @@ module _ (width : ℕ) (disk : Bytes) (count : ℕ) (whole : length disk ≡ cou
             let l : suc address ≤ other = omega arith in
             part-over-after block disk (address * width) over-inside (other * width) width
             (omega (arith, mul-le-mul-right width l))
+
+    -- ---- write after write ----
+
+    pub setBlock-again :
+        (same : DiskAddress) → address ≡ same → (again : Bytes) → length again ≡ width →
+        setBlock width (setBlock width disk address block) same again ≡ setBlock width disk same again
+    unfolding setBlock
+    setBlock-again same e again h =
+        ap (λ (a : ℕ). over (a * width) again (over (address * width) block disk)) (sym e)
+        ∙ over-again block disk (address * width) over-inside again (h ∙ sym sized)
+        ∙ ap (λ (a : ℕ). over (a * width) again disk) e

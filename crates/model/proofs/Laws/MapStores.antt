@@ -6,18 +6,18 @@ use mathlib.Core.Bool.{cond}
 use mathlib.Core.List.{[], _∷_}
 use Prim.Native.Nat.{ℕ, _+_, _*_, _≤_, _<_}
 use native.Mathlib.Omega.{arith}
-use lib.Dec.{eqb}
 use lib.ListN.{length}
-use borrow.Author.Tests.{eq-eqb, ne-eqb}
+use borrow.Author.Tests.{eq-eqb}
+use Rattle.laws.proofs.Cases.{cond-cases}
 use Rattle.laws.proofs.Members.{All, all-map}
 use Rattle.model.specs.Geometry.{Geometry, Fits, mapBlocks, rootAddress, blockCount}
 use Rattle.model.specs.Blocks.{Bytes, DiskAddress, blockAt}
-use Rattle.model.specs.Layout.{slotStart, slotOf, bitAddress, mapAddress, mapEntry}
+use Rattle.model.specs.Layout.{slotStart, slotOf, bitAddress, isOneBlock, mapAddress, mapEntry}
 use Rattle.model.specs.Stores.{Trace, apply, addresses}
 use Rattle.model.specs.Table.{PublicChoice, keepPublic, writePublic}
 use Rattle.model.specs.Rounds.{bitStores, mapStore, mapStores}
 use Rattle.model.proofs.Laws.Geometry.{mapAddress-lt, bitAddress-lt, bitAddress-ge}
-use Rattle.model.proofs.Laws.Places.{OldPlace, entry-not-zero}
+use Rattle.model.proofs.Laws.Places.{OldPlace}
 use Rattle.model.proofs.Laws.PublicMap.{length-mapBlockWith, mapped}
 use Rattle.model.proofs.Laws.Stores.{Stored, lastAt, lastAt-append, lastAt-other, lastAt-outside}
 use Rattle.model.proofs.Laws.Stores.{blockAt-apply}
@@ -44,16 +44,17 @@ module _ (g : Geometry) (f : Fits g) (disk : Bytes) (whole : length disk ≡ blo
     where
       by : OldPlace g (mapEntry g disk number) →
           All (InBitmap g)
-          (cond (eqb (mapEntry g disk number) 0) [] (bitAddress g (slotOf g (mapEntry g disk number)) ∷ []))
+          (cond (isOneBlock g (mapEntry g disk number) slot) []
+          (bitAddress g (slotOf g (mapEntry g disk number)) ∷ []))
       by (inl e) = rw (eq-eqb (mapEntry g disk number) 0 e) tt
       by (inr block) =
-          rw (ne-eqb (mapEntry g disk number) 0 (entry-not-zero g (mapEntry g disk number) block)) (
+          cond-cases (All (InBitmap g)) (isOneBlock g (mapEntry g disk number) slot) (λ e. tt) (λ e. (
             (
               bitAddress-ge g (slotOf g (mapEntry g disk number)),
               bitAddress-lt g f (slotOf g (mapEntry g disk number)) (block .slot-inside),
             ),
             tt,
-          )
+          ))
 
   -- they go to map and bitmap
   pub mapStores-inFront :

@@ -1,28 +1,31 @@
--- Laws of the bitmap's stores of a round that takes the call's data: where they go, that they are whole, and
--- the bits after them; and the addresses of all stores of map and bitmap. Assumes nothing.
+-- Laws of the bitmap's stores of a round that takes the call's data: where they go, how many they are, that
+-- they are whole, and the bits after them; and the addresses of all stores of map and bitmap. Assumes
+-- nothing.
 use mathlib.Core.Path.{_≡_, refl, sym, ap, _∙_}
-use mathlib.Core.Logic.{_≢_, inl, inr}
-use mathlib.Core.Bool.{Bool, true, false, cond}
+use mathlib.Core.Logic.{_≢_, inl, inr, ⊎-elim}
+use mathlib.Core.Bool.{Bool, true, false, cond, _||_}
 use mathlib.Core.List.{List, [], _∷_, _++_}
 use Prim.Native.Nat.{ℕ, _*_, _<_}
 use native.Mathlib.Omega.{arith}
 use lib.Dec.{eqb}
 use lib.ListN.{length}
-use borrow.Author.Tests.{eq-eqb, ne-eqb}
+use borrow.Author.Tests.{eq-eqb, ne-eqb, eqb-true}
+use Rattle.laws.proofs.Cases.{bool-cases}
 use Rattle.laws.proofs.Members.{All}
 use Rattle.model.specs.Geometry.{Geometry, Fits, blockCount}
 use Rattle.model.specs.Blocks.{Bytes, DiskAddress}
-use Rattle.model.specs.Layout.{slotOf, areaPlace, bitAddress, mapAddress, mapEntry}
-use Rattle.model.specs.Stores.{Trace, apply, addresses}
+use Rattle.model.specs.Layout.{slotOf, areaPlace, bitAddress, isShared, isOneBlock, bitmapWith}
+use Rattle.model.specs.Layout.{mapAddress, mapEntry}
+use Rattle.model.specs.Stores.{Store, Trace, apply, addresses}
 use Rattle.model.specs.Table.{writePublic}
-use Rattle.model.specs.Rounds.{bitStore, bitStores, mapStores}
+use Rattle.model.specs.Rounds.{bitStore, movedStores, bitStores, mapStores}
 use Rattle.model.specs.Invariants.{bitmapBit}
 use Rattle.model.proofs.Laws.Geometry.{bitAddress-lt}
-use Rattle.model.proofs.Laws.Blocks.{length-setBlock}
+use Rattle.model.proofs.Laws.Blocks.{length-setBlock, setBlock-again}
 use Rattle.model.proofs.Laws.Slots.{SlotBlock}
 use Rattle.model.proofs.Laws.Bitmap.{length-bitmapWith, marked, areaPlace-apart}
 use Rattle.model.proofs.Laws.Bitmap.{bitmapBit-marked-other, bitmapBit-marked-same}
-use Rattle.model.proofs.Laws.Stores.{Stored}
+use Rattle.model.proofs.Laws.Stores.{Stored, length-addresses}
 -- what it says of old places, and of each member of a list
 pub use Rattle.laws.proofs.Members.{all-map}
 pub use Rattle.model.proofs.Laws.Places.{OldPlace, entry-not-zero}
@@ -46,11 +49,21 @@ module _ (g : Geometry) (f : Fits g) (disk : Bytes) (whole : length disk ≡ blo
   unfolding bitStores
   bitStores-none entry e = rw (eq-eqb entry 0 e)
 
-  bitStores-some :
-      (entry : DiskAddress) → entry ≢ 0 →
-      bitStores g disk entry slot ≡ bitStore g disk slot true ∷ bitStore g withNew (slotOf g entry) false ∷ []
-  unfolding bitStores apply
-  bitStores-some entry e = rw (ne-eqb entry 0 e)
+  -- the old bit's block, cleared on top of the new bit
+  abbrev cleared : DiskAddress → Store
+  cleared entry = bitStore g withNew (slotOf g entry) false
+
+  bitStores-shared :
+      (entry : DiskAddress) → entry ≢ 0 → isShared g slot (slotOf g entry) ≡ true →
+      bitStores g disk entry slot ≡ cleared entry ∷ []
+  unfolding bitStores movedStores apply
+  bitStores-shared entry ne e = rw (ne-eqb entry 0 ne, e)
+
+  bitStores-apart :
+      (entry : DiskAddress) → entry ≢ 0 → isShared g slot (slotOf g entry) ≡ false →
+      bitStores g disk entry slot ≡ bitStore g disk slot true ∷ cleared entry ∷ []
+  unfolding bitStores movedStores apply
+  bitStores-apart entry ne e = rw (ne-eqb entry 0 ne, e)
 
   module _ (entry : DiskAddress) (old : OldPlace g entry) where
     -- the disk with the bits as a round leaves them
@@ -65,9 +78,26 @@ module _ (g : Geometry) (f : Fits g) (disk : Bytes) (whole : length disk ≡ blo
         (block : SlotBlock g 0 entry) →
         withBits ≡ marked g f withNew whole-new (slotOf g entry) (block .slot-inside) false
     unfolding apply
-    withBits-some block =
-        ap (λ (xs : Trace). apply (g .blockSize) xs disk)
-        (bitStores-some entry (entry-not-zero g entry block))
+    withBits-some block = ⊎-elim shared apart (bool-cases (isShared g slot (slotOf g entry)))
+      where
+        both : Bytes
+        both = marked g f withNew whole-new (slotOf g entry) (block .slot-inside) false
+
+        shared : isShared g slot (slotOf g entry) ≡ true → withBits ≡ both
+        shared e =
+            ap (λ (xs : Trace). apply (g .blockSize) xs disk)
+            (bitStores-shared entry (entry-not-zero g entry block) e)
+            ∙ sym (setBlock-again (g .blockSize) disk (blockCount g) whole (bitAddress g slot)
+            (omega (arith, bitAddress-lt g f slot inside)) (bitmapWith g disk slot true)
+            (length-bitmapWith g f disk whole slot inside true) (bitAddress g (slotOf g entry))
+            (eqb-true (bitAddress g slot) (bitAddress g (slotOf g entry)) e)
+            (bitmapWith g withNew (slotOf g entry) false)
+            (length-bitmapWith g f withNew whole-new (slotOf g entry) (block .slot-inside) false))
+
+        apart : isShared g slot (slotOf g entry) ≡ false → withBits ≡ both
+        apart e =
+            ap (λ (xs : Trace). apply (g .blockSize) xs disk)
+            (bitStores-apart entry (entry-not-zero g entry block) e)
 
     pub bitStores-stored : All (Stored (g .blockSize) (blockCount g)) (bitStores g disk entry slot)
     bitStores-stored = by old
@@ -76,19 +106,19 @@ module _ (g : Geometry) (f : Fits g) (disk : Bytes) (whole : length disk ≡ blo
         first =
             (omega (arith, bitAddress-lt g f slot inside), length-bitmapWith g f disk whole slot inside true)
 
+        second : SlotBlock g 0 entry → Stored (g .blockSize) (blockCount g) (cleared entry)
+        second block = (
+          omega (arith, bitAddress-lt g f (slotOf g entry) (block .slot-inside)),
+          length-bitmapWith g f withNew whole-new (slotOf g entry) (block .slot-inside) false,
+        )
+
         by : OldPlace g entry → All (Stored (g .blockSize) (blockCount g)) (bitStores g disk entry slot)
         by (inl e) = rw (bitStores-none entry e) (first, tt)
         by (inr block) =
-            rw (bitStores-some entry (entry-not-zero g entry block)) (
-              first,
-              (
-                (
-                  omega (arith, bitAddress-lt g f (slotOf g entry) (block .slot-inside)),
-                  length-bitmapWith g f withNew whole-new (slotOf g entry) (block .slot-inside) false,
-                ),
-                tt,
-              ),
-            )
+            let ne = entry-not-zero g entry block in
+            ⊎-elim (λ e. rw (bitStores-shared entry ne e) (second block, tt))
+            (λ e. rw (bitStores-apart entry ne e) (first, (second block, tt)))
+            (bool-cases (isShared g slot (slotOf g entry)))
 
     -- ---- the bits after them ----
 
@@ -136,16 +166,34 @@ module _ (g : Geometry) (f : Fits g) (disk : Bytes) (whole : length disk ≡ blo
 pub addresses-bitStores :
     (g : Geometry) (disk : Bytes) (entry : DiskAddress) (slot : ℕ) →
     addresses (bitStores g disk entry slot) ≡
-    bitAddress g slot ∷ cond (eqb entry 0) [] (bitAddress g (slotOf g entry) ∷ [])
-unfolding addresses bitStores
-addresses-bitStores g disk entry slot = by (eqb entry 0)
+    bitAddress g slot ∷ cond (isOneBlock g entry slot) [] (bitAddress g (slotOf g entry) ∷ [])
+unfolding addresses bitStores movedStores
+addresses-bitStores g disk entry slot =
+    by (eqb entry 0) (isShared g slot (slotOf g entry))
+    (eqb-true (bitAddress g slot) (bitAddress g (slotOf g entry)))
   where
-    after : Bytes
-    after = apply (g .blockSize) (bitStore g disk slot true ∷ []) disk
+    new : Store
+    new = bitStore g disk slot true
 
-    by : (b : Bool) →
-        bitAddress g slot ∷ addresses (cond b [] (bitStore g after (slotOf g entry) false ∷ [])) ≡
-        bitAddress g slot ∷ cond b [] (bitAddress g (slotOf g entry) ∷ [])
+    old : Store
+    old = bitStore g (apply (g .blockSize) (new ∷ []) disk) (slotOf g entry) false
+
+    by : (isNew isOne : Bool) → (isOne ≡ true → bitAddress g slot ≡ bitAddress g (slotOf g entry)) →
+        addresses (cond isNew (new ∷ []) (cond isOne (old ∷ []) (new ∷ old ∷ []))) ≡
+        bitAddress g slot ∷ cond (isNew || isOne) [] (bitAddress g (slotOf g entry) ∷ [])
+    by true isOne h = refl
+    by false true h = ap (λ (a : ℕ). a ∷ []) (sym (h refl))
+    by false false h = refl
+
+pub length-bitStores :
+    (g : Geometry) (disk : Bytes) (entry : DiskAddress) (slot : ℕ) →
+    length (bitStores g disk entry slot) ≡ cond (isOneBlock g entry slot) 1 2
+length-bitStores g disk entry slot =
+    sym (length-addresses (bitStores g disk entry slot)) ∙ ap length (addresses-bitStores g disk entry slot)
+    ∙ by (isOneBlock g entry slot)
+  where
+    by : (isOne : Bool) →
+        length (bitAddress g slot ∷ cond isOne [] (bitAddress g (slotOf g entry) ∷ [])) ≡ cond isOne 1 2
     by true = refl
     by false = refl
 
@@ -154,12 +202,13 @@ pub addresses-mapStores :
     (g : Geometry) (disk : Bytes) (number slot : ℕ) →
     addresses (mapStores writePublic g disk number slot) ++ (0 ∷ []) ≡
     mapAddress g number ∷ bitAddress g slot ∷
-    cond (eqb (mapEntry g disk number) 0) (0 ∷ []) (bitAddress g (slotOf g (mapEntry g disk number)) ∷ 0 ∷ [])
+    cond (isOneBlock g (mapEntry g disk number) slot) (0 ∷ [])
+    (bitAddress g (slotOf g (mapEntry g disk number)) ∷ 0 ∷ [])
 unfolding addresses mapStores
 addresses-mapStores g disk number slot =
     ap (λ (xs : List ℕ). mapAddress g number ∷ (xs ++ (0 ∷ [])))
     (addresses-bitStores g disk (mapEntry g disk number) slot)
-    ∙ by (eqb (mapEntry g disk number) 0)
+    ∙ by (isOneBlock g (mapEntry g disk number) slot)
   where
     old : DiskAddress
     old = bitAddress g (slotOf g (mapEntry g disk number))

@@ -5,12 +5,11 @@ use mathlib.Core.Bool.{Bool, true, false, cond}
 use mathlib.Core.List.{List, [], _∷_, _++_}
 use Prim.Native.Nat.{ℕ, zero, suc, _+_, _*_, _<_}
 use native.Mathlib.Omega.{arith}
-use lib.Dec.{eqb}
 use lib.ListN.{length, length-append}
 use Rattle.laws.proofs.Cases.{cond-true, cond-false}
 use Rattle.model.specs.Geometry.{Geometry, Fits, rootAddress}
 use Rattle.model.specs.Blocks.{DiskAddress}
-use Rattle.model.specs.Layout.{slotStart, slotOf, nextSlot, bitAddress, mapAddress}
+use Rattle.model.specs.Layout.{slotStart, slotOf, nextSlot, bitAddress, isOneBlock, mapAddress}
 use Rattle.model.specs.Refusals.{oneMore, roundsTo, storeCount}
 use Rattle.model.specs.Simulator.{addressesFrom, slotAddresses, keptRounds, lastRound}
 use Rattle.model.proofs.Laws.Slots.{nextSlot-lt}
@@ -75,8 +74,8 @@ length-keptRounds (suc count) g slot =
 
 pub length-lastRound :
     (g : Geometry) (number : ℕ) (entry : DiskAddress) (slot : ℕ) →
-    length (lastRound g number entry slot) ≡ g .height + 3 + cond (eqb entry 0) 2 3
-length-lastRound g number entry slot = by (eqb entry 0)
+    length (lastRound g number entry slot) ≡ g .height + 3 + cond (isOneBlock g entry slot) 2 3
+length-lastRound g number entry slot = by (isOneBlock g entry slot)
   where
     tail : Bool → List ℕ
     tail b =
@@ -89,7 +88,8 @@ length-lastRound g number entry slot = by (eqb entry 0)
 -- so many kept rounds and a last one
 pub length-rounds :
     (earlier : ℕ) (g : Geometry) (number : ℕ) (entry : DiskAddress) (slot last : ℕ) →
-    length (keptRounds earlier g slot ++ lastRound g number entry last) ≡ storeCount g (suc earlier) entry
+    length (keptRounds earlier g slot ++ lastRound g number entry last) ≡
+    storeCount g (suc earlier) entry last
 length-rounds earlier g number entry slot last =
     length-append (keptRounds earlier g slot) (lastRound g number entry last)
     ∙ omega (arith, length-keptRounds earlier g slot, length-lastRound g number entry last)

@@ -13,14 +13,14 @@ use Rattle.laws.proofs.Members.{All, all-append}
 use Rattle.laws.proofs.Joins.{append-between}
 use Rattle.model.specs.Geometry.{Geometry, Fits, blockCount}
 use Rattle.model.specs.Blocks.{Bytes}
-use Rattle.model.specs.Layout.{nextSlot, mapEntry, isAllocated}
+use Rattle.model.specs.Layout.{nextSlot, roundSlot, mapEntry, isAllocated}
 use Rattle.model.specs.Stores.{Trace, apply, addresses}
 use Rattle.model.specs.Table.{keepPublic, writePublic}
 use Rattle.model.specs.HiddenHalf.{HiddenState, HiddenHalf, hiddenHalf}
 use Rattle.model.specs.Rounds.{Run, stopped, followedBy, roundTrace, runFrom}
 use Rattle.model.specs.Refusals.{roundsTo, storeCount}
 use Rattle.model.specs.Simulator.{slotAddresses, keptRounds, lastRound}
-use Rattle.model.proofs.Laws.Slots.{slotAfter, slotAfter-next, slotAfter-zero}
+use Rattle.model.proofs.Laws.Slots.{slotAfter, slotAfter-next, slotAfter-zero, slotAfter-round}
 use Rattle.model.proofs.Laws.Stores.{Stored, apply-append, addresses-append, length-addresses}
 use Rattle.model.proofs.Laws.RoundStores.{afterRound, addresses-kept, addresses-last, round-stored}
 use Rattle.model.proofs.Laws.RoundStores.{Round}
@@ -156,9 +156,12 @@ module _ (g : Geometry) (number : ℕ) (content : Bytes) (slot rounds : ℕ) (so
   pub rounds-ran : run .rounds ≡ rounds
   rounds-ran = omega (arith, ran .counted)
 
-  pub length-ran : length (run .trace) ≡ storeCount g rounds (mapEntry g disk number)
+  pub length-ran :
+      length (run .trace) ≡ storeCount g rounds (mapEntry g disk number) (roundSlot g slot rounds)
   length-ran =
       let e : suc (rounds - 1) ≡ rounds = omega arith in
       sym (length-addresses (run .trace)) ∙ ap length (ran .listed)
       ∙ length-rounds (rounds - 1) g number (mapEntry g disk number) slot (slotAfter g slot (rounds - 1))
-      ∙ ap (λ (n : ℕ). storeCount g n (mapEntry g disk number)) e
+      ∙ ap (storeCount g (suc (rounds - 1)) (mapEntry g disk number))
+      (sym (slotAfter-round g slot (rounds - 1)))
+      ∙ ap (λ (n : ℕ). storeCount g n (mapEntry g disk number) (roundSlot g slot n)) e

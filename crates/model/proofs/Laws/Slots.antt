@@ -13,7 +13,7 @@ use Rattle.laws.proofs.Cases.{and-left, and-right, and-both, and-false-left, an
 use Rattle.model.specs.Geometry.{Geometry, Fits, areaStart, blockCount}
 use Rattle.model.specs.Blocks.{DiskAddress}
 use Rattle.model.specs.Layout.{slotStart, slotOf, nextSlot, levelPlace, levelAddress, isSlotBlock}
-use Rattle.model.specs.Layout.{isWellFormed}
+use Rattle.model.specs.Layout.{roundSlot, isWellFormed}
 use Rattle.model.proofs.Laws.Geometry.{slot-block-lt}
 
 -- ---- a slot's blocks ----
@@ -172,7 +172,7 @@ nextSlot-slotAfter g slot earlier =
 
 -- the slot of a round, counted from 1
 pub slotAfter-round :
-    (g : Geometry) (slot earlier : ℕ) → (slot + suc earlier - 1) % g .slots ≡ slotAfter g slot earlier
+    (g : Geometry) (slot earlier : ℕ) → roundSlot g slot (suc earlier) ≡ slotAfter g slot earlier
 slotAfter-round g slot earlier =
     let e : slot + suc earlier - 1 ≡ slot + earlier = omega arith in
     ap (λ (n : ℕ). n % g .slots) e

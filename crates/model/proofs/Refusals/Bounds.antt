@@ -5,16 +5,15 @@ use mathlib.Core.List.{_++_}
 use Prim.Native.Nat.{ℕ, _+_, _*_, _≤_, _<_}
 use native.Mathlib.Nat.{mul-le-mul-right, le-trans}
 use native.Mathlib.Omega.{arith}
-use lib.Dec.{eqb}
 use lib.ListN.{length}
 use borrow.Author.Tests.{le-ltb}
 use Rattle.laws.proofs.Cases.{cond-cases}
 use Rattle.laws.proofs.Checks.{Never, firstOf-never, never-append}
 use Rattle.model.specs.Geometry.{Geometry}
 use Rattle.model.specs.Blocks.{Bytes, DiskAddress}
-use Rattle.model.specs.Layout.{geometryIn, mapEntry}
+use Rattle.model.specs.Layout.{geometryIn, headIn, roundSlot, isOneBlock, mapEntry}
 use Rattle.model.specs.Refusals.{sizeChecks, driveChecks, placeChecks, roundCount, storeCount}
-use Rattle.model.specs.Refusals.{roundChecks, writeRefusal}
+use Rattle.model.specs.Refusals.{writeStoreCount, roundChecks, writeRefusal}
 
 -- ---- the numbers of the chains ----
 
@@ -47,10 +46,11 @@ refusal-of-rounds disk number content random room answer h never =
 -- ---- enough for the most rounds ----
 
 storeCount-le :
-    (g : Geometry) (rounds most : ℕ) (entry : DiskAddress) → rounds ≤ most →
-    storeCount g rounds entry ≤ most * (g .height + 3) + 3
-storeCount-le g rounds most entry h =
-    cond-cases (λ (n : ℕ). rounds * (g .height + 3) + n ≤ most * (g .height + 3) + 3) (eqb entry 0)
+    (g : Geometry) (rounds most : ℕ) (entry : DiskAddress) (slot : ℕ) → rounds ≤ most →
+    storeCount g rounds entry slot ≤ most * (g .height + 3) + 3
+storeCount-le g rounds most entry slot h =
+    cond-cases (λ (n : ℕ). rounds * (g .height + 3) + n ≤ most * (g .height + 3) + 3)
+    (isOneBlock g entry slot)
     (λ e. omega (arith, mul-le-mul-right (g .height + 3) h))
     (λ e. omega (arith, mul-le-mul-right (g .height + 3) h))
 
@@ -77,13 +77,14 @@ module _ (disk : Bytes) (most : ℕ) (few : roundCount (geometryIn disk) disk �
   unfolding roundChecks
   never-nine-of-rounds h =
       let g = geometryIn disk in
-      let entry = mapEntry g disk number in
-      let l : storeCount g (roundCount g disk) entry ≤ room =
-      le-trans (storeCount-le g (roundCount g disk) most entry few) h in
+      let rounds = roundCount g disk in
+      let l : writeStoreCount g disk number ≤ room =
+      le-trans
+      (storeCount-le g rounds most (mapEntry g disk number) (roundSlot g (headIn disk) rounds) few) h in
       refusal-of-rounds disk number content random room 9 (omega arith) (
         λ e. absurd (omega arith),
         (
           (λ e. absurd (omega arith)),
-          ((λ e. le-ltb room (storeCount g (roundCount g disk) entry) l), tt),
+          ((λ e. le-ltb room (writeStoreCount g disk number) l), tt),
         ),
       )

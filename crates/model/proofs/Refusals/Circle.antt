@@ -8,8 +8,9 @@ use native.Mathlib.Nat.{mod-lt, mod-eq-of-lt, mod-add-mod, add-mod-mod, add-mod-
 use native.Mathlib.Omega.{arith}
 use Rattle.laws.proofs.Cases.{bool-cases, cond-cases}
 use Rattle.model.specs.Geometry.{Geometry}
-use Rattle.model.specs.Layout.{nextSlot}
-use Rattle.model.specs.Refusals.{oneMore, roundsTo}
+use Rattle.model.specs.Blocks.{Bytes}
+use Rattle.model.specs.Layout.{headIn, nextSlot, isAllocated}
+use Rattle.model.specs.Refusals.{oneMore, roundsTo, roundCount}
 use Rattle.model.proofs.Laws.Slots.{slotAfter, slotAfter-next, slotAfter-zero}
 
 -- ---- how many slots on ----
@@ -82,10 +83,14 @@ module _ (isTaken : ℕ → Bool) (g : Geometry) where
   oneMore-le zero most h = omega arith
   oneMore-le (suc rounds) most h = omega arith
 
-  pub roundsTo-le : (most slot : ℕ) → roundsTo most isTaken g slot ≤ most
+  roundsTo-le : (most slot : ℕ) → roundsTo most isTaken g slot ≤ most
   unfolding roundsTo
   roundsTo-le zero slot = omega arith
   roundsTo-le (suc most) slot =
       cond-cases (λ (n : ℕ). n ≤ suc most) (isTaken slot)
       (λ e. oneMore-le (roundsTo most isTaken g (nextSlot g slot)) most (roundsTo-le most (nextSlot g slot)))
       (λ e. omega arith)
+
+-- a write takes at most a round for each slot
+pub roundCount-le : (g : Geometry) (disk : Bytes) → roundCount g disk ≤ g .slots
+roundCount-le g disk = roundsTo-le (isAllocated g disk) g (g .slots) (headIn disk)

@@ -12,7 +12,7 @@ use Rattle.laws.proofs.Cases.{lt-cases, true-is-not-false}
 use Rattle.laws.proofs.Decides.{Decides, decides-lt, decides-same}
 use Rattle.model.specs.Geometry.{Geometry}
 use Rattle.model.specs.Blocks.{Bytes, DiskAddress}
-use Rattle.model.specs.Layout.{headIn, isAllocated, mapEntry}
+use Rattle.model.specs.Layout.{headIn, roundSlot, isOneBlock, isAllocated, mapEntry}
 use Rattle.model.specs.Refusals.{roundCount, storeCount, roundChecks}
 use Rattle.model.specs.Conditions.{TakesRounds, storesOf, roundConditions}
 use Rattle.model.proofs.Laws.Slots.{slotAfter, slotAfter-round}
@@ -49,7 +49,7 @@ module _ (g : Geometry) (disk : Bytes) where
       }
     where
       others : (round : ℕ) → 1 ≤ round → round < suc index →
-          isAllocated g disk ((headIn disk + round - 1) % g .slots) ≡ true
+          isAllocated g disk (roundSlot g (headIn disk) round) ≡ true
       others zero h k = absurd (omega arith)
       others (suc before) h k =
           ap (isAllocated g disk) (slotAfter-round g (headIn disk) before) ∙ f before (omega arith)
@@ -90,24 +90,25 @@ module _ (g : Geometry) (disk : Bytes) where
 -- ---- the stores of so many rounds ----
 
 storeCount-is :
-    (g : Geometry) (rounds : ℕ) (entry : DiskAddress) → 1 ≤ rounds →
-    storeCount g rounds entry ≡ storesOf g rounds entry
-storeCount-is g (suc rounds) entry h = by (eqb entry 0)
+    (g : Geometry) (rounds : ℕ) (entry : DiskAddress) (slot : ℕ) → 1 ≤ rounds →
+    storeCount g rounds entry slot ≡ storesOf g rounds entry slot
+storeCount-is g (suc rounds) entry slot h = by (isOneBlock g entry slot)
   where
-    by : (isNew : Bool) →
-        suc rounds * (g .height + 3) + cond isNew 2 3 ≡
-        (suc rounds - 1) * (g .height + 3) + cond isNew (g .height + 5) (g .height + 6)
+    by : (isOne : Bool) →
+        suc rounds * (g .height + 3) + cond isOne 2 3 ≡
+        (suc rounds - 1) * (g .height + 3) + cond isOne (g .height + 5) (g .height + 6)
     by true = rw (suc-mul, suc-sub-suc, sub-zero) (omega arith)
     by false = rw (suc-mul, suc-sub-suc, sub-zero) (omega arith)
 
 decides-room :
     (g : Geometry) (disk : Bytes) (rounds : ℕ) → TakesRounds g disk rounds →
     (room : ℕ) (entry : DiskAddress) →
-    Decides (ltb room (storeCount g rounds entry))
-    ((taken : ℕ) × TakesRounds g disk taken × (room < storesOf g taken entry))
+    Decides (ltb room (storeCount g rounds entry (roundSlot g (headIn disk) rounds)))
+    ((taken : ℕ) × TakesRounds g disk taken ×
+    (room < storesOf g taken entry (roundSlot g (headIn disk) taken)))
 decides-room g disk rounds t room entry =
-    rw (storeCount-is g rounds entry (t .at-least-one))
-    (decides-short g disk rounds t room (λ taken. storesOf g taken entry))
+    rw (storeCount-is g rounds entry (roundSlot g (headIn disk) rounds) (t .at-least-one))
+    (decides-short g disk rounds t room (λ taken. storesOf g taken entry (roundSlot g (headIn disk) taken)))
 
 -- ---- the chain ----
 

@@ -6,14 +6,14 @@ use native.Mathlib.Omega.{arith}
 use lib.ListN.{length}
 use Rattle.model.specs.Geometry.{Geometry}
 use Rattle.model.specs.Blocks.{Bytes}
-use Rattle.model.specs.Layout.{geometryIn, headIn, isAllocated}
+use Rattle.model.specs.Layout.{geometryIn}
 use Rattle.model.specs.Refusals.{roundCount, driveRefusal}
 use Rattle.model.specs.Calls.{Written}
 use Rattle.model.specs.Invariants.{BitmapInvariant}
 use Rattle.model.specs.Promises.BufferBounds.{AtMost, BufferBounds}
 use Rattle.model.proofs.Laws.Refusals.{accepted-of-refusal}
 use Rattle.model.proofs.Laws.Calls.{answer-written, written-cases}
-use Rattle.model.proofs.Refusals.Circle.{roundsTo-le}
+use Rattle.model.proofs.Refusals.Circle.{roundCount-le}
 use Rattle.model.proofs.Refusals.Writes.{rounds-done}
 use Rattle.model.proofs.Refusals.Mapped.{roundCount-le-of-mapped}
 use Rattle.model.proofs.Refusals.Bounds.{never-eight-of-rounds, never-nine-of-rounds}
@@ -50,5 +50,5 @@ buffer-bounds =
           (atMost-of-mapped disk e (subst (λ (h : Geometry). BitmapInvariant h disk) (sym same) v));
       any-drive = λ disk.
           atMost-of-rounds disk (geometryIn disk .slots)
-          (roundsTo-le (isAllocated (geometryIn disk) disk) (geometryIn disk) _ (headIn disk));
+          (roundCount-le (geometryIn disk) disk);
     }

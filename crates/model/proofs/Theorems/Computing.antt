@@ -12,7 +12,7 @@ use Rattle.model.specs.Stores.{apply, addresses}
 use Rattle.model.specs.Table.{table, rowAt}
 use Rattle.model.specs.Paths.{linkedNode, nodeStores, pathStores, keptBlocks, randomBlocks}
 use Rattle.model.specs.HiddenHalf.{ownerOf, isLive, isOwnerDamaged, isNextDamaged, hiddenBy, hiddenHalf}
-use Rattle.model.specs.Rounds.{publicStore, bitStores, mapStores, roundTrace, runFrom}
+use Rattle.model.specs.Rounds.{publicStore, movedStores, bitStores, mapStores, roundTrace, runFrom}
 use Rattle.model.specs.Refusals.{sizeChecks, sizeRefusal, driveChecks, placeChecks, roundsTo}
 use Rattle.model.specs.Refusals.{roundChecks, hiddenChecks, walkChecks, driveRefusal, publicReadRefusal}
 use Rattle.model.specs.Refusals.{writeRefusal, hiddenReadRefusal, hiddenWriteRefusal}
@@ -24,8 +24,8 @@ unfoldable pub computing : Type 0
 unfolding isSame firstOf part over numberOf littleEndian bitOf withBit bitAt setBit isGeometry blockAt
     setBlock entryAt setEntry packed isSlotBlock isAllocated bitmapWith mapEntry isPlace branchAt walkFrom
     apply addresses table rowAt ownerOf isLive isOwnerDamaged isNextDamaged linkedNode nodeStores
-    pathStores keptBlocks randomBlocks hiddenBy hiddenHalf publicStore bitStores mapStores roundTrace
-    runFrom sizeChecks sizeRefusal driveChecks placeChecks roundsTo roundChecks hiddenChecks walkChecks
-    driveRefusal publicReadRefusal writeRefusal hiddenReadRefusal hiddenWriteRefusal headerBlock
+    pathStores keptBlocks randomBlocks hiddenBy hiddenHalf publicStore movedStores bitStores mapStores
+    roundTrace runFrom sizeChecks sizeRefusal driveChecks placeChecks roundsTo roundChecks hiddenChecks
+    walkChecks driveRefusal publicReadRefusal writeRefusal hiddenReadRefusal hiddenWriteRefusal headerBlock
     freshFront formatted publicRead hiddenRead outcomeOf offerRefusal offeredWrites writeRun written
 computing = Unit {0}

@@ -48,4 +48,8 @@ limits =
       three-lines = same-of-isSame threeLines listedDrive refl;
       six-lines = same-of-isSame sixLines agedDrive refl;
       hidden-zero-kept = same-of-isSame (hiddenRead sixLines 0 (filled 0)) (filled 5) refl;
+      bits-in-first = refl;
+      bits-in-both = refl;
+      bits-in-both-short = refl;
+      bits-in-second = refl;
     }

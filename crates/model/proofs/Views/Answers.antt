@@ -3,7 +3,7 @@ use mathlib.Core.Path.{_≡_, refl, sym, ap, _∙_}
 use mathlib.Core.Logic.{_≢_}
 use mathlib.Core.Bool.{Bool, true, false, not, cond, _&&_, _||_}
 use mathlib.Core.List.{List, [], _++_, append-nil}
-use Prim.Native.Nat.{ℕ, zero, suc, _+_, _*_, _-_, _%_, _<_}
+use Prim.Native.Nat.{ℕ, zero, suc, _+_, _*_, _-_, _<_}
 use native.Mathlib.Omega.{arith}
 use lib.Dec.{ltb, eqb}
 use lib.ListN.{length}
@@ -13,9 +13,11 @@ use Rattle.laws.proofs.Cases.{and-ext}
 use Rattle.laws.proofs.Checks.{SameAnswer, sameAnswer-check, sameAnswer-refl}
 use Rattle.model.specs.Geometry.{Geometry, Fits}
 use Rattle.model.specs.Blocks.{Bytes}
-use Rattle.model.specs.Layout.{geometryIn, headIn, slotOf, mapEntry, isAllocated, isPlace, isSlotBlock}
-use Rattle.model.specs.Refusals.{oneMore, roundsTo, roundCount, storeCount, driveRefusal, placeChecks}
-use Rattle.model.specs.Refusals.{roundChecks, publicReadRefusal, writeRefusal}
+use Rattle.model.specs.Layout.{geometryIn, headIn, slotOf, roundSlot, mapEntry, isAllocated, isPlace}
+use Rattle.model.specs.Layout.{isSlotBlock}
+use Rattle.model.specs.Refusals.{oneMore, roundsTo, roundCount, storeCount, writeStoreCount}
+use Rattle.model.specs.Refusals.{driveRefusal, placeChecks, roundChecks, publicReadRefusal}
+use Rattle.model.specs.Refusals.{writeRefusal}
 use Rattle.model.specs.Simulator.{Simulator, CallLengths, entryFor, isTaken, leastFrom, simulatedRounds}
 use Rattle.model.specs.Simulator.{simulatedStores, simulatedPlaceChecks, simulatedRoundChecks}
 use Rattle.model.specs.Simulator.{simulatedAnswer}
@@ -43,7 +45,7 @@ countedFrom-zero (suc rounds) = omega arith
 -- the least round with a free slot is the count of rounds up to it
 leastFrom-roundsTo :
     (g : Geometry) (isTaken : ℕ → Bool) (head most first : ℕ) →
-    leastFrom most (λ round. not (isTaken ((head + round - 1) % g .slots))) (suc first) ≡
+    leastFrom most (λ round. not (isTaken (roundSlot g head round))) (suc first) ≡
     countedFrom first (roundsTo most isTaken g (slotAfter g head first))
 unfolding leastFrom roundsTo
 leastFrom-roundsTo g isTaken head zero first = refl
@@ -101,13 +103,15 @@ module _ (g : Geometry) (f : Fits g) (disk : Bytes) (inside : headIn disk < g .s
 
   length-simulatedStores :
       (number : ℕ) → number < g .publics → roundCount g disk ≢ 0 →
-      length (simulatedStores sim number) ≡ storeCount g (roundCount g disk) (mapEntry g disk number)
+      length (simulatedStores sim number) ≡ writeStoreCount g disk number
   unfolding simulatedStores
   length-simulatedStores number h some =
       let rounds : suc (roundCount g disk - 1) ≡ roundCount g disk = omega arith in
       rw (simulatedRounds-is g f (headIn disk) disk inside, getD-entries g disk number h)
-      (length-rounds (roundCount g disk - 1) g number (mapEntry g disk number) (headIn disk) _
-      ∙ ap (λ (n : ℕ). storeCount g n (mapEntry g disk number)) rounds)
+      (length-rounds (roundCount g disk - 1) g number (mapEntry g disk number) (headIn disk)
+      (roundSlot g (headIn disk) (roundCount g disk))
+      ∙ ap (λ (n : ℕ). storeCount g n (mapEntry g disk number)
+      (roundSlot g (headIn disk) (roundCount g disk))) rounds)
 
   -- 7 to 9
   round-answer :

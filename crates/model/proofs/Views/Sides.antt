@@ -13,11 +13,11 @@ use Rattle.laws.proofs.Members.{all-map}
 use Rattle.model.specs.Geometry.{Geometry, Fits, fanout, rootAddress, blockCount}
 use Rattle.model.specs.Blocks.{Bytes, DiskAddress, blockAt, entryAt, setEntry}
 use Rattle.model.specs.Layout.{slotStart, slotOf, nextSlot, mapAddress, mapEntry, bitAddress}
-use Rattle.model.specs.Layout.{isAllocated, bitmapWith}
+use Rattle.model.specs.Layout.{isShared, isAllocated, bitmapWith}
 use Rattle.model.specs.Stores.{Trace, store, apply, addresses}
 use Rattle.model.specs.Table.{PublicChoice, keepPublic, writePublic}
-use Rattle.model.specs.Rounds.{publicStore, mapStore, bitStore, bitStores, headerStore, mapStores}
-use Rattle.model.specs.Rounds.{roundTrace}
+use Rattle.model.specs.Rounds.{publicStore, mapStore, bitStore, movedStores, bitStores, headerStore}
+use Rattle.model.specs.Rounds.{mapStores, roundTrace}
 use Rattle.model.specs.View.{shownOf}
 use Rattle.model.proofs.Laws.Geometry.{mapAddress-lt, bitAddress-lt, slot-block-lt, rootAddress-lt}
 use Rattle.model.proofs.Laws.Geometry.{slotStart-lt}
@@ -131,8 +131,8 @@ module _ (g : Geometry) (f : Fits g) (disk other : Bytes) (same : ShowSame g dis
   bitStores-alike :
       (entry : DiskAddress) → OldPlace g entry →
       TraceSame g (bitStores g disk entry slot) (bitStores g other entry slot)
-  unfolding bitStores
-  bitStores-alike entry old = more new (by old)
+  unfolding bitStores movedStores
+  bitStores-alike entry old = by old
     where
       new : StoreSame g (bitStore g disk slot true) (bitStore g other slot true)
       new = bitStore-alike g f disk other same slot true inside
@@ -143,17 +143,17 @@ module _ (g : Geometry) (f : Fits g) (disk other : Bytes) (same : ShowSame g dis
       after : ShowSame g (withNew disk) (withNew other)
       after = agree-apply (shownOf g) (g .blockSize) (blockCount g) (more new none) same
 
-      chosen : (b : Bool) {xs ys : Trace} → TraceSame g xs ys → TraceSame g (cond b [] xs) (cond b [] ys)
-      chosen true h = none
-      chosen false h = h
+      chosen : (b : Bool) {xs ys zs ws : Trace} → TraceSame g xs ys → TraceSame g zs ws →
+          TraceSame g (cond b xs zs) (cond b ys ws)
+      chosen true h k = h
+      chosen false h k = k
 
-      by : OldPlace g entry →
-          TraceSame g (cond (eqb entry 0) [] (bitStore g (withNew disk) (slotOf g entry) false ∷ []))
-          (cond (eqb entry 0) [] (bitStore g (withNew other) (slotOf g entry) false ∷ []))
-      by (inl e) = rw (eq-eqb entry 0 e) none
+      by : OldPlace g entry → TraceSame g (bitStores g disk entry slot) (bitStores g other entry slot)
+      by (inl e) = rw (eq-eqb entry 0 e) (more new none)
       by (inr block) =
-          chosen (eqb entry 0)
-          (more (bitStore-alike g f _ _ after (slotOf g entry) false (block .slot-inside)) none)
+          let cleared = bitStore-alike g f _ _ after (slotOf g entry) false (block .slot-inside) in
+          chosen (eqb entry 0) (more new none)
+          (chosen (isShared g slot (slotOf g entry)) (more cleared none) (more new (more cleared none)))
 
   mapStores-alike :
       (choice : PublicChoice) → OldPlace g (mapEntry g disk number) →

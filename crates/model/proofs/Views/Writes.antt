@@ -4,13 +4,13 @@ use mathlib.Core.Path.{_≡_, refl, sym, ap, ap₂, _∙_}
 use mathlib.Core.Logic.{_≢_, ⊎-elim}
 use mathlib.Core.Bool.{true, false, cond}
 use mathlib.Core.List.{_++_}
-use Prim.Native.Nat.{ℕ, suc, _+_, _-_, _%_, _<_}
+use Prim.Native.Nat.{ℕ, suc, _+_, _-_, _<_}
 use native.Mathlib.Omega.{arith}
 use lib.Dec.{eqb}
 use lib.ListN.{set}
 use Rattle.model.specs.Geometry.{Geometry}
 use Rattle.model.specs.Blocks.{Bytes}
-use Rattle.model.specs.Layout.{geometryIn, headIn, slotStart, slotOf, nextSlot, mapEntry}
+use Rattle.model.specs.Layout.{geometryIn, headIn, slotStart, slotOf, nextSlot, roundSlot, mapEntry}
 use Rattle.model.specs.Refusals.{driveRefusal, roundCount}
 use Rattle.model.specs.Simulator.{entryFor, simulatedRounds, slotOfRound, keptRounds, lastRound}
 use Rattle.model.specs.Simulator.{simulatedStores, simulatedWrite}
@@ -44,7 +44,7 @@ module _ (disk : Bytes) (accepted : driveRefusal disk ≡ 0) (number : ℕ)
 
   slotOfRound-last : slotOfRound (trackerOf disk) (simulatedRounds (trackerOf disk)) ≡ last
   slotOfRound-last =
-      ap (λ (n : ℕ). (headIn disk + n - 1) % g .slots) simulatedRounds-suc
+      ap (roundSlot g (headIn disk)) simulatedRounds-suc
       ∙ slotAfter-round g (headIn disk) earlier
 
   pub simulatedStores-is :

@@ -1,11 +1,11 @@
 -- The starred lines of document 01, "Figures to hold against", as one computed statement. Assumes nothing.
 use mathlib.Core.Path.{_≡_}
-use mathlib.Core.List.{List, [], _∷_, _++_}
+use mathlib.Core.List.{[], _∷_, _++_}
 use mathlib.Core.Option.{Option, none, some}
 use Prim.Native.Nat.{ℕ}
 use lib.ListN.{length, replicate}
 use Rattle.model.specs.Geometry.{Geometry, areaStart, blockCount, driveSize}
-use Rattle.model.specs.Blocks.{Bytes, DiskAddress}
+use Rattle.model.specs.Blocks.{Bytes}
 use Rattle.model.specs.Stores.{addresses}
 use Rattle.model.specs.HiddenHalf.{HiddenWrite}
 use Rattle.model.specs.Refusals.{formatRefusal, publicReadRefusal}
@@ -70,16 +70,16 @@ pub record Figures : Type 0 where
   pub offer-answer : writeOf fresh 0 256 23 offerOfTwo .answer ≡ 0
   pub offer-stores : addresses (writeOf fresh 0 256 23 offerOfTwo .trace) ≡ 4 ∷ 5 ∷ 6 ∷ 3 ∷ 1 ∷ 2 ∷ 0 ∷ []
   pub offer-outcome : outcomeNumber (writeOf fresh 0 256 23 offerOfTwo .outcome) ≡ 10
-  -- fresh, writes 0, 1, 2, 2, 2: the fifth has 3 rounds and 18 stores; 192 random bytes and a list of 18
-  -- suffice
-  pub fifth-answer : writeOf fourWritten 2 192 18 none .answer ≡ 0
-  pub fifth-rounds : writeOf fourWritten 2 192 18 none .rounds ≡ 3
-  pub fifth-count : length (writeOf fourWritten 2 192 18 none .trace) ≡ 18
+  -- fresh, writes 0, 1, 2, 2, 2: the fifth has 3 rounds and, by document 02, K2, 17 stores; 192 random bytes
+  -- and a list of 17 suffice
+  pub fifth-answer : writeOf fourWritten 2 192 17 none .answer ≡ 0
+  pub fifth-rounds : writeOf fourWritten 2 192 17 none .rounds ≡ 3
+  pub fifth-count : length (writeOf fourWritten 2 192 17 none .trace) ≡ 17
   pub fifth-stores :
-      addresses (writeOf fourWritten 2 192 18 none .trace) ≡
-      (4 ∷ 5 ∷ 6 ∷ 3 ∷ 0 ∷ 7 ∷ 8 ∷ 9 ∷ 3 ∷ 0 ∷ []) ++ (10 ∷ 11 ∷ 12 ∷ 3 ∷ 1 ∷ 2 ∷ 2 ∷ 0 ∷ [])
-  pub random-short : writeOf fourWritten 2 191 18 none .answer ≡ 8
-  pub list-short : writeOf fourWritten 2 192 17 none .answer ≡ 9
+      addresses (writeOf fourWritten 2 192 17 none .trace) ≡
+      (4 ∷ 5 ∷ 6 ∷ 3 ∷ 0 ∷ 7 ∷ 8 ∷ 9 ∷ 3 ∷ 0 ∷ []) ++ (10 ∷ 11 ∷ 12 ∷ 3 ∷ 1 ∷ 2 ∷ 0 ∷ [])
+  pub random-short : writeOf fourWritten 2 191 17 none .answer ≡ 8
+  pub list-short : writeOf fourWritten 2 192 16 none .answer ≡ 9
   -- fresh, read 1: the blank
   pub blank-answer : publicReadRefusal fresh 1 (filled 5) ≡ 0
   pub blank-shown : publicRead fresh 1 (filled 5) ≡ filled 5

@@ -1,17 +1,21 @@
 -- What is computed at document 01's limits: each geometry limit at and past it, the example of each refusal,
--- what formatting leaves, and every byte of the drive after the three lines of the listing and after three
--- more, worked out by hand from document 01 (docs/ON-DISK-FORMAT.md has the working). Assumes nothing.
+-- what formatting leaves, every byte of the drive after the three lines of the listing and after three more,
+-- worked out by hand from document 01 (docs/ON-DISK-FORMAT.md has the working), and the stores of a drive
+-- with two bitmap blocks. Assumes nothing.
 use mathlib.Core.Path.{_≡_}
-use mathlib.Core.List.{List, [], _∷_, _++_}
+use mathlib.Core.Bool.{true}
+use mathlib.Core.List.{[], _∷_, _++_}
 use mathlib.Core.Option.{Option, none, some}
 use Prim.Native.Nat.{ℕ, _+_}
 use lib.ListN.{take, replicate}
 use Rattle.model.specs.Geometry.{Geometry, blockCount, driveSize}
 use Rattle.model.specs.Blocks.{Bytes, DiskAddress, setEntry, setBlock}
+use Rattle.model.specs.Stores.{apply, addresses}
 use Rattle.model.specs.HiddenHalf.{HiddenWrite}
+use Rattle.model.specs.Rounds.{mapStore, bitStore, headerStore}
 use Rattle.model.specs.Refusals.{sizeRefusal, driveRefusal, publicReadRefusal, hiddenReadRefusal}
 use Rattle.model.specs.Refusals.{writeRefusal}
-use Rattle.model.specs.Calls.{formatted, hiddenRead, written, writtenDisk, writtenList}
+use Rattle.model.specs.Calls.{formatted, hiddenRead, Written, written, writtenDisk, writtenList}
 use Rattle.model.specs.Promises.Figures.{geometry, small, formatAnswer, fresh, filled}
 
 -- ---- geometries at the limit ----
@@ -102,6 +106,23 @@ agedDrive =
     filled 3 ++ filled 165 ++ filled 165 ++
     filled 6 ++ filled 165 ++ filled 165
 
+-- ---- a drive with two bitmap blocks ----
+
+-- B 32, k 2, P 1, H 1, M 100: the bits of slots 0 to 85 lie in block 2, those of the others in block 3
+abbrev pub twoBitmaps : Geometry
+twoBitmaps = geometry 32 2 1 1 100
+
+-- fresh but for public number 0, which is in a slot, and the head after it
+abbrev pub driveWithPlace : (slot : ℕ) → Bytes
+driveWithPlace slot =
+    let g = twoBitmaps in
+    let disk = formatted (replicate 9760 0) g in
+    apply 32 (mapStore g disk 0 slot ∷ bitStore g disk slot true ∷ headerStore g disk slot ∷ []) disk
+
+-- a write that moves the number to the next slot, with a list of this length
+abbrev pub moveFrom : (slot room : ℕ) → Written
+moveFrom slot room = written (driveWithPlace slot) 0 (filled 7) (replicate 64 165) room none
+
 -- ---- the limits ----
 
 pub record Limits : Type 0 where
@@ -159,3 +180,8 @@ pub record Limits : Type 0 where
   -- and after three more, a live slot's path stored again among them
   pub six-lines : sixLines ≡ agedDrive
   pub hidden-zero-kept : hiddenRead sixLines 0 (filled 0) ≡ filled 5
+  -- document 02, K2: new and old bit in block 2, in 3 and 2, in 3; two bitmap blocks take a list of 8
+  pub bits-in-first : addresses (moveFrom 84 7 .trace) ≡ 260 ∷ 261 ∷ 262 ∷ 4 ∷ 1 ∷ 2 ∷ 0 ∷ []
+  pub bits-in-both : addresses (moveFrom 85 8 .trace) ≡ 263 ∷ 264 ∷ 265 ∷ 4 ∷ 1 ∷ 3 ∷ 2 ∷ 0 ∷ []
+  pub bits-in-both-short : moveFrom 85 7 .answer ≡ 9
+  pub bits-in-second : addresses (moveFrom 86 7 .trace) ≡ 266 ∷ 267 ∷ 268 ∷ 4 ∷ 1 ∷ 3 ∷ 0 ∷ []

@@ -1,19 +1,18 @@
 -- Laws of all stores of map and bitmap: the entry's store, then the bits', which the entry leaves alone.
 -- Assumes nothing.
 use mathlib.Core.Path.{_≡_, subst}
-use mathlib.Core.Bool.{true}
 use mathlib.Core.List.{List, [], _∷_}
 use Prim.Native.Nat.{ℕ, _+_, _≤_, _<_}
 use native.Mathlib.Omega.{arith}
-use lib.Dec.{eqb}
 use lib.ListN.{length}
 use Rattle.laws.proofs.Cases.{cond-cases}
 use Rattle.model.specs.Geometry.{Geometry, blockCount}
 use Rattle.model.specs.Blocks.{Bytes, DiskAddress, blockAt}
-use Rattle.model.specs.Layout.{Drive, slotStart, bitAddress, mapEntry, slotOf}
+use Rattle.model.specs.Layout.{Drive, slotStart, slotOf, bitAddress, isOneBlock, mapEntry}
 use Rattle.model.specs.Stores.{Trace, addresses}
-use Rattle.model.specs.Rounds.{mapStore, bitStore, bitStores, mapStores}
+use Rattle.model.specs.Rounds.{mapStore, bitStores, mapStores}
 use Rattle.model.proofs.Laws.Geometry.{mapAddress-lt, bitAddress-ge}
+use Rattle.model.proofs.Laws.PublicHalf.{length-bitStores}
 use Rattle.model.proofs.Laws.PublicMap.{length-mapBlockWith}
 use Rattle.model.proofs.Laws.Stores.{All, Stored}
 use Rattle.stores.specs.Made.{Made}
@@ -25,10 +24,9 @@ use Rattle.public_half.proofs.Laws.Bits.{bitStores-block}
 
 length-bitStores-le : (g : Geometry) (disk : Bytes) (entry : DiskAddress) (slot : ℕ) →
     length (bitStores g disk entry slot) ≤ 2
-unfolding bitStores
 length-bitStores-le g disk entry slot =
-    cond-cases (λ (xs : Trace). length (bitStore g disk slot true ∷ xs) ≤ 2) (eqb entry 0) (λ e. omega arith)
-    (λ e. omega arith)
+    rw (length-bitStores g disk entry slot)
+    (cond-cases (λ (n : ℕ). n ≤ 2) (isOneBlock g entry slot) (λ e. omega arith) (λ e. omega arith))
 
 -- ---- a kept round ----
 

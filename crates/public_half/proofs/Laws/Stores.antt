@@ -1,27 +1,17 @@
 -- One store of the public half as the store of a block with a change or none, whose address and change are
 -- the code's. Assumes nothing.
-use mathlib.Core.Path.{_≡_, subst}
+use mathlib.Core.Path.{_≡_}
 use mathlib.Core.Bool.{Bool}
-use mathlib.Core.List.{List, [], _∷_}
 use Prim.Native.Nat.{ℕ, _%_}
 use Rattle.laws.specs.Bits.{setBit}
 use Rattle.model.specs.Geometry.{Geometry, fanout}
 use Rattle.model.specs.Blocks.{Bytes, DiskAddress, blockAt, setEntry}
 use Rattle.model.specs.Layout.{slotStart, bitAddress, bitPlace, bitmapWith, mapAddress}
-use Rattle.model.specs.Stores.{Store, store}
+use Rattle.model.specs.Stores.{store}
 use Rattle.model.specs.Rounds.{publicStore, bitStore, mapStore}
-use Rattle.stores.specs.Made.{Made}
 use Rattle.table.specs.Rows.{publicOf}
 use Rattle.table.specs.declared.PublicChoice.{PublicChoice}
 use Rattle.table.specs.declared.PublicChoice.the-variants.{Keep, Write}
-
--- what one store made, an equal one made
-pub made-store :
-    {width : ℕ} {x y : Store} {disk after : Bytes} {list entered : List DiskAddress} {next last : ℕ} → x ≡ y →
-    Made width (x ∷ []) disk list next after entered last →
-    Made width (y ∷ []) disk list next after entered last
-made-store {width} {x} {y} {disk} {after} {list} {entered} {next} {last} e made =
-    subst (λ (z : Store). Made width (z ∷ []) disk list next after entered last) e made
 
 -- ---- the public block ----
 

@@ -1,29 +1,24 @@
 -- Laws of what a round stores after its slot and the root: how many stores, and the header after map and
--- bits.
--- Assumes nothing.
+-- bits. Assumes nothing.
 use mathlib.Core.Path.{_≡_, refl, ap}
-use mathlib.Core.Logic.{_≢_, inl, inr}
+use mathlib.Core.Logic.{_≢_}
 use mathlib.Core.List.{List, [], _∷_, _++_}
-use Prim.Native.Nat.{ℕ, _+_, _≤_, _<_}
+use Prim.Native.Nat.{ℕ, suc, _+_, _≤_, _<_}
 use native.Mathlib.Omega.{arith}
 use lib.ListN.{length}
+use Rattle.laws.proofs.Cases.{cond-cases}
 use Rattle.model.specs.Geometry.{Geometry, blockCount}
 use Rattle.model.specs.Blocks.{Bytes, DiskAddress, setEntry}
-use Rattle.model.specs.Layout.{Drive, nextSlot, mapEntry}
+use Rattle.model.specs.Layout.{Drive, nextSlot, isOneBlock, mapEntry}
 use Rattle.model.specs.Stores.{Trace, store, addresses}
 use Rattle.model.specs.Table.{PublicChoice, keepPublic, writePublic}
-use Rattle.model.specs.Rounds.{bitStores, headerStore, mapStores}
+use Rattle.model.specs.Rounds.{headerStore, mapStores}
 use Rattle.model.proofs.Laws.MapStores.{InFront, mapStores-inFront, mapStores-stored}
-use Rattle.model.proofs.Laws.PublicHalf.{OldPlace, all-map}
-use Rattle.model.proofs.Laws.Slots.{slotBlock-of}
+use Rattle.model.proofs.Laws.PublicHalf.{all-map, length-bitStores}
+use Rattle.layout.specs.PublicMap.{OldEntry}
+use Rattle.layout.proofs.Laws.PublicMap.{old-of-entry}
 use Rattle.stores.specs.Made.{Made}
 use Rattle.stores.proofs.Laws.Made.{made-then, drive-made, blockAt-made-outside}
-use Rattle.public_half.specs.Entries.{OldEntry}
-
--- an entry that may be left, as the model's laws say it
-pub old-of-entry : (g : Geometry) (entry : DiskAddress) → OldEntry g entry → OldPlace g entry
-old-of-entry g entry (inl e) = inl e
-old-of-entry g entry (inr e) = inr (slotBlock-of g 0 entry e)
 
 pub mapStores-keep : (g : Geometry) (disk : Bytes) (number slot : ℕ) →
     mapStores keepPublic g disk number slot ≡ []
@@ -33,8 +28,11 @@ mapStores-keep g disk number slot = refl
 -- the map block and at least one bitmap block
 pub length-mapStores-write :
     (g : Geometry) (disk : Bytes) (number slot : ℕ) → 2 ≤ length (mapStores writePublic g disk number slot)
-unfolding mapStores bitStores
-length-mapStores-write g disk number slot = omega arith
+unfolding mapStores
+length-mapStores-write g disk number slot =
+    let entry = mapEntry g disk number in
+    rw (length-bitStores g disk entry slot)
+    (cond-cases (λ (n : ℕ). 2 ≤ suc n) (isOneBlock g entry slot) (λ e. omega arith) (λ e. omega arith))
 
 module _ (g : Geometry) (disk : Bytes) (drive : Drive g disk) (number : ℕ) (counted : number < g .publics)
     (slot : ℕ)

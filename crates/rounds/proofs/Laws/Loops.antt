@@ -22,6 +22,7 @@ use Rattle.model.proofs.Laws.Places.{Placed}
 use Rattle.model.proofs.Laws.RoundStores.{Round, round-stored}
 use Rattle.model.proofs.Laws.Slots.{nextSlot-lt}
 use Rattle.model.proofs.Laws.Wrote.{placed-kept}
+use Rattle.layout.proofs.Laws.PublicMap.{entry-of-placed}
 use Rattle.stores.specs.Made.{Made}
 use Rattle.stores.proofs.Laws.Made.{made-nothing, made-then, drive-made, length-made-list}
 use Rattle.plans.specs.declared.states.State.{State}
@@ -31,7 +32,7 @@ use Rattle.rounds.specs.Rounds.{choiceAt, roundAt, Ready, Stepped}
 use Rattle.rounds.specs.Runs.{Runnable}
 use Rattle.rounds.proofs.Laws.Steps.{waiting-whole}
 use Rattle.rounds.proofs.Laws.Runs.{after, after-nothing, after-round, after-stopped, restBy}
-use Rattle.rounds.proofs.Laws.Runs.{runFrom-round, runFrom-zero, keep-of-goes-on, entry-of-placed}
+use Rattle.rounds.proofs.Laws.Runs.{runFrom-round, runFrom-zero, keep-of-goes-on}
 
 -- what holds whenever the loop's test is reached
 pub record Going (g : Geometry) (number : ℕ) (content random hidden : Bytes) (offered : ℕ) (run : Run)

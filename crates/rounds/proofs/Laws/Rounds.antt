@@ -21,12 +21,12 @@ use Rattle.model.proofs.Laws.RoundCounts.{length-addressesFrom}
 use Rattle.model.proofs.Laws.RoundStores.{HiddenAddress, hides-addresses, stored-of-whole}
 use Rattle.model.proofs.Laws.RoundStores.{publicStore-address, publicStore-stored}
 use Rattle.model.proofs.Laws.Stores.{All, Stored, length-addresses}
+use Rattle.layout.specs.PublicMap.{OldEntry}
+use Rattle.layout.proofs.Laws.PublicMap.{old-of-entry}
 use Rattle.stores.specs.Made.{Made}
 use Rattle.stores.proofs.Laws.Made.{made-then, drive-made, blockAt-made-outside, length-made-list}
-use Rattle.public_half.specs.Entries.{OldEntry}
 use Rattle.hidden_half.proofs.Laws.Plans.{SameHidden}
 use Rattle.rounds.proofs.Laws.Fronts.{SameFront, headerStore-same, mapEntry-same, mapStores-same}
-use Rattle.rounds.proofs.Laws.Endings.{old-of-entry}
 
 -- ---- how many stores ----
 

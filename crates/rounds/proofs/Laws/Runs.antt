@@ -2,21 +2,18 @@
 -- nothing.
 use mathlib.Core.Path.{_≡_, refl, sym, ap, ap₂}
 use mathlib.Core.Bool.{true, cond}
-use mathlib.Core.Logic.{inl, inr}
 use mathlib.Core.List.{[], _++_, append-assoc, append-nil}
 use Prim.Native.Nat.{ℕ, suc, _+_, _*_}
 use native.Mathlib.Omega.{arith}
 use lib.ListN.{drop}
-use Rattle.laws.proofs.Cases.{and-left, true-is-not-false}
+use Rattle.laws.proofs.Cases.{true-is-not-false}
 use Rattle.model.specs.Geometry.{Geometry}
 use Rattle.model.specs.Blocks.{Bytes}
-use Rattle.model.specs.Layout.{slotOf, nextSlot, isSlotBlock, isAllocated, mapEntry, isPlace}
+use Rattle.model.specs.Layout.{nextSlot}
 use Rattle.model.specs.Stores.{Trace, apply}
 use Rattle.model.specs.Table.{PublicChoice, keepPublic, writePublic}
 use Rattle.model.specs.HiddenHalf.{HiddenState, hiddenHalf}
 use Rattle.model.specs.Rounds.{Run, stopped, followedBy, goesOn, runFrom}
-use Rattle.model.proofs.Laws.Places.{Placed}
-use Rattle.public_half.specs.Entries.{OldEntry}
 use Rattle.rounds.specs.Rounds.{choiceAt, roundAt}
 
 -- ---- a run, and what is done before it ----
@@ -76,11 +73,3 @@ runFrom-zero g number content slot random disk state = refl
 pub keep-of-goes-on : (choice : PublicChoice) → goesOn choice ≡ true → choice ≡ keepPublic
 keep-of-goes-on keepPublic e = refl
 keep-of-goes-on writePublic e = true-is-not-false e refl
-
-pub entry-of-placed : (g : Geometry) (disk : Bytes) (number : ℕ) → Placed g disk number →
-    OldEntry g (mapEntry g disk number)
-unfolding isPlace
-entry-of-placed g disk number (inl e) = inl e
-entry-of-placed g disk number (inr e) =
-    let entry = mapEntry g disk number in
-    inr (and-left (isSlotBlock g 0 entry) (isAllocated g disk (slotOf g entry)) e)

@@ -14,9 +14,9 @@ use Rattle.model.specs.Rounds.{headerStore, mapStores, roundTrace, goesOn}
 use Rattle.model.proofs.Laws.HiddenHalf.{WholeWrite, hiddenHalf-hides}
 use Rattle.model.proofs.Laws.Paths.{Hides}
 use Rattle.model.proofs.Laws.Stores.{All}
+use Rattle.layout.specs.PublicMap.{OldEntry}
 use Rattle.stores.specs.Made.{Made}
 use Rattle.table.specs.Rows.{publicOf}
-use Rattle.public_half.specs.Entries.{OldEntry}
 use Rattle.slot_blocks.specs.NodeBlocks.{blocksIn}
 use Rattle.hidden_half.specs.Plans.{hiddenTrace}
 use Rattle.hidden_half.proofs.Laws.Plans.{hiddenTrace-agree}

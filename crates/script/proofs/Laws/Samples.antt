@@ -1,4 +1,4 @@
--- Computed samples: document 01's lines of output from their numbers, a refused line, and lines of input of
+-- Computed samples: the listing's lines of output from their numbers, a refused line, and lines of input of
 -- good and of other forms. The text of each list of bytes stands above it. Assumes nothing.
 use mathlib.Core.Path.{_≡_, refl}
 use mathlib.Core.List.{[], _∷_}
@@ -18,11 +18,11 @@ line-none :
 unfolding decimalWithin decimal outcomeText laterText storesText
 line-none = refl
 
--- 2 0 1 placed 2 7,8,9,3,1,2,2,0
+-- 2 0 1 placed 2 7,8,9,3,1,2,0
 line-placed :
-    reportLine 2 0 1 1 2 (7 ∷ 8 ∷ 9 ∷ 3 ∷ 1 ∷ 2 ∷ 2 ∷ 0 ∷ []) ≡
+    reportLine 2 0 1 1 2 (7 ∷ 8 ∷ 9 ∷ 3 ∷ 1 ∷ 2 ∷ 0 ∷ []) ≡
     50 ∷ 32 ∷ 48 ∷ 32 ∷ 49 ∷ 32 ∷ 112 ∷ 108 ∷ 97 ∷ 99 ∷ 101 ∷ 100 ∷ 32 ∷ 50 ∷ 32 ∷ 55 ∷ 44 ∷ 56 ∷ 44 ∷
-    57 ∷ 44 ∷ 51 ∷ 44 ∷ 49 ∷ 44 ∷ 50 ∷ 44 ∷ 50 ∷ 44 ∷ 48 ∷ 10 ∷ []
+    57 ∷ 44 ∷ 51 ∷ 44 ∷ 49 ∷ 44 ∷ 50 ∷ 44 ∷ 48 ∷ 10 ∷ []
 unfolding decimalWithin decimal outcomeText laterText storesText
 line-placed = refl
 

@@ -1,6 +1,6 @@
 -- Laws of `Made`: nothing stored, one store, one trace after another, and what stays: lengths, a whole drive,
 -- blocks that are not stored to. Assumes nothing.
-use mathlib.Core.Path.{_≡_, refl, sym, ap, _∙_}
+use mathlib.Core.Path.{_≡_, refl, sym, ap, subst, _∙_}
 use mathlib.Core.Logic.{_≢_}
 use mathlib.Core.List.{List, [], _∷_, _++_}
 use Prim.Native.Nat.{ℕ, _+_, _*_, _≤_, _<_}
@@ -11,7 +11,7 @@ use Rattle.laws.proofs.Lists.{length-over, over-append, over-nil, over-one}
 use Rattle.model.specs.Geometry.{Geometry, blockCount}
 use Rattle.model.specs.Blocks.{Bytes, DiskAddress, blockAt}
 use Rattle.model.specs.Layout.{Drive}
-use Rattle.model.specs.Stores.{Trace, store, apply, addresses}
+use Rattle.model.specs.Stores.{Store, Trace, store, apply, addresses}
 use Rattle.model.proofs.Laws.Blocks.{setBlock-is}
 use Rattle.model.proofs.Laws.Stores.{All, Stored, apply-append, apply-nil, apply-one, addresses-append}
 use Rattle.model.proofs.Laws.Stores.{length-addresses, length-apply, blockAt-apply-outside}
@@ -43,6 +43,14 @@ made-one width address content disk after list next h e =
       in-list = sym (over-one list next address h);
       counted = refl;
     }
+
+-- what one store made, an equal one made
+pub made-store :
+    {width : ℕ} {x y : Store} {disk after : Bytes} {list entered : List DiskAddress} {next last : ℕ} → x ≡ y →
+    Made width (x ∷ []) disk list next after entered last →
+    Made width (y ∷ []) disk list next after entered last
+made-store {width} {x} {y} {disk} {after} {list} {entered} {next} {last} e made =
+    subst (λ (z : Store). Made width (z ∷ []) disk list next after entered last) e made
 
 module _ {width : ℕ} {disk middle after : Bytes} {list listed entered : List DiskAddress}
     {next place last : ℕ} where

@@ -1,13 +1,12 @@
 -- `round_fault` meets its contract: each answer is a way through the chain of 7 to 9. Assumes nothing.
-use mathlib.Core.Path.{_≡_, sym, ap, _∙_}
+use mathlib.Core.Path.{sym, _∙_}
 use mathlib.Core.Logic.{_≢_}
-use Prim.Native.Nat.{ℕ, _≤_}
+use Prim.Native.Nat.{_≤_}
 use native.Mathlib.Omega.{arith}
 use borrow.Author.Needs.{needs}
 use Rattle.model.specs.Geometry.{Geometry}
-use Rattle.model.specs.Layout.{headIn, isAllocated, mapEntry}
-use Rattle.model.specs.Refusals.{roundCount, storeCount}
-use Rattle.model.proofs.Refusals.Circle.{roundsTo-le}
+use Rattle.model.specs.Refusals.{roundCount}
+use Rattle.model.proofs.Refusals.Circle.{roundCount-le}
 use Rattle.layout.specs.Geometries.{geometryOf}
 use Rattle.checks.proofs.Laws.RoundCounts.{random-blocks-small, random-small}
 use Rattle.checks.proofs.Laws.RoundRefusals.{rounds-none, rounds-random-short, rounds-room-short}
@@ -34,41 +33,17 @@ countOf c = positiveOf c .before
 abbrev countOfEnough : tie.Else2 → tie.After-round-count
 countOfEnough c = countOf (c .before)
 
--- the stores are counted
-abbrev enoughOf : tie.After-store-count → tie.Else2
-enoughOf c = c .before .before
-
-abbrev countOfStores : tie.After-store-count → tie.After-round-count
-countOfStores c = countOfEnough (enoughOf c)
-
 -- ---- what is known there ----
 
 -- the rounds are at most the slots
 few : (c : tie.After-round-count) → c .round-count .result ≤ c .before .before .args .g .slots
 few c =
     let s = c .before .before in
-    let g = shapeOf s in
-    rw (c .round-count .ensures)
-    (roundsTo-le (isAllocated g (s .args .disk .now)) g (g .slots) (headIn (s .args .disk .now)))
+    rw (c .round-count .ensures) (roundCount-le (shapeOf s) (s .args .disk .now))
 
 -- there is a round
 some : (c : tie.Else1) → roundCount (shapeOf (startOf (c .before))) (startOf (c .before) .args .disk .now) ≢ 0
 some c e = c .if1 .left (c .before .round-count .ensures ∙ e)
-
--- the stores that are counted are those of the write
-counted :
-    (c : tie.After-store-count) →
-    let s = startOf (countOfStores c) in
-    let disk = s .args .disk .now in
-    c .store-count .result ≡
-    storeCount (shapeOf s) (roundCount (shapeOf s) disk) (mapEntry (shapeOf s) disk (s .args .number .0))
-counted c =
-    let rounds = countOfStores c in
-    let s = startOf rounds in
-    let g = shapeOf s in
-    c .store-count .ensures ∙ ap (storeCount g (rounds .round-count .result)) (c .before .map-entry .ensures)
-    ∙ ap (λ (n : ℕ). storeCount g n (mapEntry g (s .args .disk .now) (s .args .number .0)))
-    (rounds .round-count .ensures)
 
 -- ---- what the calls need, and what is answered ----
 
@@ -114,35 +89,37 @@ returns-2 c =
     rounds-random-short (shapeOf s) (a .disk .now) (a .number .0) (a .random) (a .room)
     (some (positiveOf (c .before))) (rw (← rounds .round-count .ensures) (c .if2 .taken))
 
-map-entry-requires : tie.Need-map-entry-requires
-map-entry-requires c κs = search needs
-
-store-count-requires : tie.Need-store-count-requires
-store-count-requires c κs =
-    let rounds = countOfEnough (c .before) in (startOf rounds .pre .0 .fits, few rounds)
+write-store-count-requires : tie.Need-write-store-count-requires
+write-store-count-requires c κs =
+    let positive = positiveOf (c .before) in
+    let rounds = positive .before in
+    let pre = startOf rounds .pre in
+    (pre .0, (pre .1 .0, (pre .1 .1 .0, (pre .1 .1 .1, (rounds .round-count .ensures, positive .if1 .left)))))
 
 cast-if3 : tie.Need-cast-if3
 cast-if3 c = search needs
 
 returns-3 : tie.Need-returns-3
 returns-3 c =
-    let enough = enoughOf (c .before) in
+    let stores = c .before in
+    let enough = stores .before in
     let rounds = countOfEnough enough in
     let s = startOf rounds in
     let a = s .args in
     rounds-room-short (shapeOf s) (a .disk .now) (a .number .0) (a .random) (a .room)
     (some (positiveOf (enough .before))) (rw (← rounds .round-count .ensures) (enough .if2 .left))
-    (rw (← counted (c .before)) (c .if3 .taken))
+    (rw (← stores .write-store-count .ensures) (c .if3 .taken))
 
 returns-4 : tie.Need-returns-4
 returns-4 c =
-    let enough = enoughOf (c .before) in
+    let stores = c .before in
+    let enough = stores .before in
     let rounds = countOfEnough enough in
     let s = startOf rounds in
     let a = s .args in
     rounds-good (shapeOf s) (a .disk .now) (a .number .0) (a .random) (a .room)
     (some (positiveOf (enough .before))) (rw (← rounds .round-count .ensures) (enough .if2 .left))
-    (rw (← counted (c .before)) (c .if3 .left))
+    (rw (← stores .write-store-count .ensures) (c .if3 .left))
 
 pub round-fault-spec : {M : Type 1} → statement M
 round-fault-spec =
@@ -156,8 +133,7 @@ round-fault-spec =
     cast-if2-3
     mul-if2-2
     returns-2
-    map-entry-requires
-    store-count-requires
+    write-store-count-requires
     cast-if3
     returns-3
     returns-4)

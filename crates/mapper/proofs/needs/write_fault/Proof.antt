@@ -10,8 +10,8 @@ use Rattle.model.specs.Layout.{geometryIn}
 use Rattle.model.specs.Refusals.{driveRefusal, placeChecks, roundChecks, writeRefusal}
 use Rattle.layout.specs.Geometries.{geometryOf}
 use Rattle.reads.proofs.Laws.Drives.{long-enough, drive-read}
-use Rattle.mapper.proofs.Laws.WriteRefusals.{head-read, inside-of-places, chain, chain-drive}
-use Rattle.mapper.proofs.Laws.WriteRefusals.{chain-place, chain-rest, writeRefusal-is}
+use Rattle.mapper.proofs.Laws.WriteRefusals.{head-read, inside-of-places, entry-of-places, chain}
+use Rattle.mapper.proofs.Laws.WriteRefusals.{chain-drive, chain-place, chain-rest, writeRefusal-is}
 use Rattle.mapper.proofs.needs.write_fault.Statement.{statement}
 use Rattle.mapper.proofs.needs.write_fault.Tie as tie
 
@@ -106,7 +106,10 @@ round-fault-requires c κs =
       drive-read (a .disk .now) (accepted (read .before)) (shapeOf read) same,
       (
         head-read (a .disk .now) (accepted (read .before)) (shapeOf read) same,
-        inside-of-places (shapeOf read) (a .disk .now) (a .number .0) (length (a .content .now)) (placed c),
+        (
+          inside-of-places (shapeOf read) (a .disk .now) (a .number .0) (length (a .content .now)) (placed c),
+          entry-of-places (shapeOf read) (a .disk .now) (a .number .0) (length (a .content .now)) (placed c),
+        ),
       ),
     )
 

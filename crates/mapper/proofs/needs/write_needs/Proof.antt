@@ -2,16 +2,18 @@
 -- nothing.
 use mathlib.Core.Path.{_≡_, sym, ap, _∙_}
 use Prim.Native.Nat.{ℕ, _≤_}
+use native.Mathlib.Omega.{arith}
 use borrow.Author.Needs.{needs}
 use Rattle.model.specs.Geometry.{Geometry}
 use Rattle.model.specs.Blocks.{Bytes}
-use Rattle.model.specs.Layout.{Drive, headIn, isAllocated}
+use Rattle.model.specs.Layout.{Drive}
 use Rattle.model.specs.Refusals.{driveRefusal}
-use Rattle.model.proofs.Refusals.Circle.{roundsTo-le}
+use Rattle.model.proofs.Refusals.Circle.{roundCount-le}
 use Rattle.layout.specs.Geometries.{geometryOf}
+use Rattle.checks.proofs.Laws.RoundCounts.{random-blocks-small}
 use Rattle.mapper.specs.Needs.{refusedNeeds}
 use Rattle.reads.proofs.Laws.Drives.{long-enough, drive-read}
-use Rattle.mapper.proofs.Laws.WriteRefusals.{head-read, inside-of-places}
+use Rattle.mapper.proofs.Laws.WriteRefusals.{head-read, inside-of-places, entry-of-places}
 use Rattle.mapper.proofs.Laws.Needs.{needs-drive, needs-place, needs-none, needs-some, told-suffice}
 use Rattle.mapper.proofs.needs.write_needs.Statement.{statement}
 use Rattle.mapper.proofs.needs.write_needs.Tie as tie
@@ -24,7 +26,7 @@ startOf c = c .before .before .before
 abbrev readOf : tie.Else2 → tie.After-geometry-in
 readOf c = c .before .before .before
 
-abbrev foundOf : tie.After-map-entry → tie.After-round-count
+abbrev foundOf : tie.After-write-store-count → tie.After-round-count
 foundOf c = c .before .before
 
 abbrev diskOf : tie.After-geometry-in → Bytes
@@ -49,9 +51,7 @@ read-drive c = drive-read (diskOf c) (accepted (c .before)) (shapeOf c) (c .geom
 few : (c : tie.After-round-count) → c .round-count .result ≤ shapeOf (readOf (c .before)) .slots
 few c =
     let read = readOf (c .before) in
-    let g = shapeOf read in
-    rw (c .round-count .ensures) (roundsTo-le (isAllocated g (diskOf read)) g (g .slots)
-    (headIn (diskOf read)))
+    rw (c .round-count .ensures) (roundCount-le (shapeOf read) (diskOf read))
 
 -- ---- what the calls need, and what is answered ----
 
@@ -114,34 +114,45 @@ returns-3 c =
     (sym (found .round-count .ensures) ∙ c .before .if3 .taken) in
     (told, told-suffice (diskOf read) (numberOf read) told)
 
-map-entry-requires : tie.Need-map-entry-requires
-map-entry-requires c κs =
-    let passed = c .before .before in
+write-store-count-requires : tie.Need-write-store-count-requires
+write-store-count-requires c κs =
+    let found = c .before in
+    let passed = found .before in
     let read = readOf passed in
-    let g = shapeOf read in (
+    let g = shapeOf read in
+    let placed = sym (passed .before .place-fault .ensures) ∙ passed .if2 .left in (
       read-drive read,
-      inside-of-places g (diskOf read) (numberOf read) (g .blockSize)
-          (sym (passed .before .place-fault .ensures) ∙ passed .if2 .left),
+      (
+        head-read (diskOf read) (accepted (read .before)) g (read .geometry-in .ensures),
+        (
+          inside-of-places g (diskOf read) (numberOf read) (g .blockSize) placed,
+          (
+            entry-of-places g (diskOf read) (numberOf read) (g .blockSize) placed,
+            (found .round-count .ensures, c .if3 .left),
+          ),
+        ),
+      ),
     )
 
-store-count-requires : tie.Need-store-count-requires
-store-count-requires c κs =
-    let found = foundOf c in (read-drive (readOf (found .before)) .fits, few found)
-
-mul-t11 : tie.Need-mul-t11
-mul-t11 c = search needs
+mul-t10 : tie.Need-mul-t10
+mul-t10 c =
+    let found = foundOf (c .before) in
+    let read = readOf (found .before) in
+    omega (
+      arith,
+      random-blocks-small (shapeOf read) (read-drive read .fits) (found .round-count .result) (few found),
+    )
 
 returns-4 : tie.Need-returns-4
 returns-4 c =
-    let mapped = c .before .before in
-    let found = foundOf mapped in
+    let counted = c .before in
+    let found = foundOf counted in
     let passed = found .before in
     let read = readOf passed in
     let told = needs-some (diskOf read) (numberOf read) (accepted (read .before)) (shapeOf read)
     (read .geometry-in .ensures) (sym (passed .before .place-fault .ensures) ∙ passed .if2 .left)
-    (found .round-count .result) (mapped .map-entry .result .0) (c .before .store-count .result)
-    (found .round-count .ensures) (mapped .map-entry .ensures) (c .before .store-count .ensures)
-    (mapped .before .if3 .left) in
+    (found .round-count .result) (counted .write-store-count .result) (found .round-count .ensures)
+    (counted .write-store-count .ensures) (counted .before .if3 .left) in
     (told, told-suffice (diskOf read) (numberOf read) told)
 
 pub write-needs-spec : {M : Type 1} → statement M
@@ -159,7 +170,6 @@ write-needs-spec =
     round-count-requires
     refused-needs-requires-3
     returns-3
-    map-entry-requires
-    store-count-requires
-    mul-t11
+    write-store-count-requires
+    mul-t10
     returns-4)

@@ -8,7 +8,8 @@ use Rattle.model.specs.Geometry.{blockCount}
 use Rattle.model.proofs.Laws.Bitmap.{bitPlace-byte-lt}
 use Rattle.model.proofs.Laws.Geometry.{bitAddress-lt}
 use Rattle.layout.specs.Geometries.{geometryOf}
-use Rattle.public_half.proofs.Laws.Stores.{made-store, bitStore-changed}
+use Rattle.stores.proofs.Laws.Made.{made-store}
+use Rattle.public_half.proofs.Laws.Stores.{bitStore-changed}
 use Rattle.public_half.proofs.bitmap.store_bit.Statement.{statement}
 use Rattle.public_half.proofs.bitmap.store_bit.Tie as tie
 

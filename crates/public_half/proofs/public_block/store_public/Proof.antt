@@ -6,7 +6,8 @@ use borrow.Author.Needs.{needs}
 use Rattle.model.specs.Geometry.{blockCount}
 use Rattle.model.proofs.Laws.Geometry.{slot-block-lt}
 use Rattle.layout.specs.Geometries.{geometryOf}
-use Rattle.public_half.proofs.Laws.Stores.{made-store, publicStore-kept, publicStore-written}
+use Rattle.stores.proofs.Laws.Made.{made-store}
+use Rattle.public_half.proofs.Laws.Stores.{publicStore-kept, publicStore-written}
 use Rattle.public_half.proofs.public_block.store_public.Statement.{statement}
 use Rattle.public_half.proofs.public_block.store_public.Tie as tie
 

@@ -7,7 +7,8 @@ use Rattle.model.specs.Geometry.{blockCount}
 use Rattle.model.proofs.Laws.Geometry.{mapAddress-lt}
 use Rattle.model.proofs.Laws.PublicMap.{map-index-fits}
 use Rattle.layout.specs.Geometries.{geometryOf}
-use Rattle.public_half.proofs.Laws.Stores.{made-store, mapStore-changed}
+use Rattle.stores.proofs.Laws.Made.{made-store}
+use Rattle.public_half.proofs.Laws.Stores.{mapStore-changed}
 use Rattle.public_half.proofs.public_map.store_entry.Statement.{statement}
 use Rattle.public_half.proofs.public_map.store_entry.Tie as tie
 

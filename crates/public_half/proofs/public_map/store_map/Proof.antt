@@ -6,7 +6,7 @@ use native.Mathlib.Omega.{arith}
 use borrow.Author.Needs.{needs}
 use lib.ListN.{length}
 use Rattle.layout.specs.Geometries.{geometryOf}
-use Rattle.public_half.specs.Entries.{OldEntry}
+use Rattle.layout.specs.PublicMap.{OldEntry}
 use Rattle.public_half.proofs.Laws.Map.{made-map-kept, made-map}
 use Rattle.public_half.proofs.public_map.store_map.Statement.{statement}
 use Rattle.public_half.proofs.public_map.store_map.Tie as tie

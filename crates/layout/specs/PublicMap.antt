@@ -1,4 +1,4 @@
--- What a public number's entry may be when its block is stored anew. Assumes nothing.
+-- What a public number's entry may be where 6 does not meet it. Assumes nothing.
 use mathlib.Core.Path.{_≡_}
 use mathlib.Core.Bool.{true}
 use mathlib.Core.Logic.{_⊎_}

@@ -1,23 +1,27 @@
--- `slot_of` meets its contract: a public block stands at the start of the data area or after it.
--- Assumes nothing.
+-- `layout::geometry::slot_of` meets its contract: a public block stands at the start of the data area or
+-- after it. Assumes nothing.
 use mathlib.Core.Path.{ap}
 use Prim.Native.Nat.{ℕ, _+_, _-_, _/_}
 use native.Mathlib.Omega.{arith}
 use borrow.Author.Needs.{needs}
 use Rattle.model.proofs.Laws.Slots.{slotBlock-of}
 use Rattle.layout.specs.Geometries.{geometryOf}
-use Rattle.public_half.proofs.bitmap.slot_of.Statement.{statement}
-use Rattle.public_half.proofs.bitmap.slot_of.Tie as tie
+use Rattle.layout.proofs.geometry.slot_of.Statement.{statement}
+use Rattle.layout.proofs.geometry.slot_of.Tie as tie
+
+abbrev readOf : tie.After-struct-known2 → tie.After-area-start
+readOf c = c .before .before
 
 area-start-requires : tie.Need-area-start-requires
 area-start-requires c κs = search needs
 
 sub-result : tie.Need-sub-result
 sub-result c =
-    let start = c .before .before .before in
+    let read = readOf c in
+    let start = read .before in
     omega (
       arith,
-      c .before .before .area-start .ensures,
+      read .area-start .ensures,
       slotBlock-of (geometryOf (start .args .g)) 0 (start .args .address .0) (start .pre .1) .address-is,
     )
 
@@ -29,9 +33,9 @@ div-result c = search needs
 
 returns : tie.Need-returns
 returns c =
-    let start = c .before .before .before .before .args in
-    ap (λ (n : ℕ). (start .address .0 - n) / (start .g .height + 1))
-    (c .before .before .before .area-start .ensures)
+    let read = readOf (c .before) in
+    let start = read .before .args in
+    ap (λ (n : ℕ). (start .address .0 - n) / (start .g .height + 1)) (read .area-start .ensures)
 
 pub slot-of-spec : {M : Type 1} → statement M
 slot-of-spec = tie.close (tie.spec area-start-requires sub-result add-result div-result returns)

@@ -1,0 +1,36 @@
+-- Laws of a public number's entry that 6 does not meet: from the number's place, and the slot that it is of.
+-- Assumes nothing.
+use mathlib.Core.Path.{_≡_}
+use mathlib.Core.Logic.{_≢_, inl, inr}
+use mathlib.Core.Bool.{true}
+use Prim.Native.Nat.{ℕ, _<_}
+use Rattle.laws.proofs.Cases.{and-left}
+use Rattle.model.specs.Geometry.{Geometry}
+use Rattle.model.specs.Blocks.{Bytes, DiskAddress}
+use Rattle.model.specs.Layout.{slotOf, isSlotBlock, isAllocated, mapEntry, isPlace}
+use Rattle.model.proofs.Laws.Places.{OldPlace, Placed}
+use Rattle.model.proofs.Laws.Slots.{slotBlock-of}
+use Rattle.layout.specs.PublicMap.{OldEntry}
+
+pub entry-of-placed : (g : Geometry) (disk : Bytes) (number : ℕ) → Placed g disk number →
+    OldEntry g (mapEntry g disk number)
+unfolding isPlace
+entry-of-placed g disk number (inl e) = inl e
+entry-of-placed g disk number (inr e) =
+    let entry = mapEntry g disk number in
+    inr (and-left (isSlotBlock g 0 entry) (isAllocated g disk (slotOf g entry)) e)
+
+-- as the model's laws say it
+pub old-of-entry : (g : Geometry) (entry : DiskAddress) → OldEntry g entry → OldPlace g entry
+old-of-entry g entry (inl e) = inl e
+old-of-entry g entry (inr e) = inr (slotBlock-of g 0 entry e)
+
+-- an entry that is not 0 is block A of one of the slots
+pub old-block : (g : Geometry) (entry : DiskAddress) → OldEntry g entry → entry ≢ 0 →
+    isSlotBlock g 0 entry ≡ true
+old-block g entry (inl e) ne = absurd (ne e)
+old-block g entry (inr e) ne = e
+
+pub old-slot-lt : (g : Geometry) (entry : DiskAddress) → OldEntry g entry → entry ≢ 0 →
+    slotOf g entry < g .slots
+old-slot-lt g entry old ne = slotBlock-of g 0 entry (old-block g entry old ne) .slot-inside

@@ -1,6 +1,6 @@
 //! The proved mapper beside two written in Rust: what they answer is compared, and how long they take. The
 //! programs are `differential`, `bit_places`, `benchmark`, `waiting` and `longest`; `tests/` holds all three
-//! mappers to document 01's examples.
+//! mappers to the documents' examples.
 pub mod arguments;
 pub mod calls;
 pub mod drive;

@@ -17,8 +17,11 @@ Inv-loop disk₀ times i₀ disk i = (i ≤ times) × ((disk ≡ moved i disk₀
 abbrev μ-loop : tie.MeasureT-loop
 μ-loop disk₀ times i₀ disk i = times - i
 
-abbrev at-turn : tie.After-slice-known2 Inv-loop μ-loop → tie.At-loop Inv-loop μ-loop
-at-turn c = c .before .before .before .before .before
+abbrev after-write : tie.After-slice-known2 Inv-loop μ-loop → tie.After-move-once Inv-loop μ-loop
+after-write c = c .before .before
+
+abbrev at-turn : tie.After-move-once Inv-loop μ-loop → tie.At-loop Inv-loop μ-loop
+at-turn c = c .before .before .before
 
 abbrev start-of : tie.At-loop Inv-loop μ-loop → tie.Start Inv-loop μ-loop
 start-of c = c .before .before
@@ -51,10 +54,15 @@ loop-less c = search needs
 
 loop-again : tie.Need-loop-again Inv-loop μ-loop
 loop-again c =
-    let made = c .before .before .move-once in
-    let turn = at-turn c .loop in
-    let start = start-of (at-turn c) .args .disk .now in
-    (search needs, (moved-more (turn .i) start (turn .inv .1 .0) (made .ensures), search needs))
+    let written = after-write c in
+    let turn = at-turn written in
+    let start = start-of turn .args .disk .now in (
+      search needs,
+      (
+        moved-more (turn .loop .i) start (turn .loop .inv .1 .0) (written .move-once .ensures),
+        search needs,
+      ),
+    )
 
 same-length : tie.Need-same-length Inv-loop μ-loop
 same-length c = c .before .loop .inv .1 .1

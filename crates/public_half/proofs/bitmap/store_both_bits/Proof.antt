@@ -15,8 +15,11 @@ use Rattle.public_half.proofs.bitmap.store_both_bits.Tie as tie
 
 -- ---- the places on the way, each named from a later one ----
 
+abbrev after-address : tie.After-bit-place2 → tie.After-bit-address
+after-address c = c .before .before
+
 abbrev startOf : tie.After-bit-place2 → tie.Start
-startOf c = c .before .before .before .before .before .before
+startOf c = after-address c .before .before .before .before
 
 abbrev after-places : tie.After-take-changed-arg2 → tie.After-bit-place2
 after-places c = c .before .before
@@ -35,13 +38,13 @@ after-store c = c .before .before .before .before
 -- the bitmap block stands on the disk
 address-inside :
     (c : tie.After-bit-place2) →
-    c .before .before .bit-address .result .0 < blockCount (geometryOf (startOf c .args .g))
+    after-address c .bit-address .result .0 < blockCount (geometryOf (startOf c .args .g))
 address-inside c =
     let start = startOf c in
     let g = geometryOf (start .args .g) in
     omega (
       arith,
-      c .before .before .bit-address .ensures,
+      after-address c .bit-address .ensures,
       bitAddress-lt g (start .pre .0 .fits) (start .args .old) (start .pre .1 .0 .1),
     )
 
@@ -117,7 +120,7 @@ returns c =
     let placed = after-places (taken .before) in
     let start = startOf placed in
     let g = geometryOf (start .args .g) in
-    let address = placed .before .before .bit-address in
+    let address = after-address placed .bit-address in
     let new = placed .before .bit-place in
     let old = placed .bit-place2 in
     made-moved-shared g (start .pre .0 .fits) (start .args .slot) (start .pre .1 .0 .0)

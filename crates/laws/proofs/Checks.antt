@@ -70,6 +70,15 @@ unfolding firstOf
 firstOf-append-pass [] ds h = refl
 firstOf-append-pass (c ∷ cs) ds h = rw (h .0) (firstOf-append-pass cs ds (h .1))
 
+-- a numbered front that answers 0 does so too
+pub firstOf-append-zero :
+    (cs ds : List Check) → Numbered cs → firstOf cs ≡ 0 → firstOf (cs ++ ds) ≡ firstOf ds
+firstOf-append-zero cs ds n e = firstOf-append-pass cs ds (passed-of-zero cs n e)
+
+pub numbered-append : (cs ds : List Check) → Numbered cs → Numbered ds → Numbered (cs ++ ds)
+numbered-append [] ds n m = m
+numbered-append (c ∷ cs) ds n m = (n .0, numbered-append cs ds (n .1) m)
+
 -- a whole that passes has a front and a rest that pass
 pub passed-front : (cs ds : List Check) → Passed (cs ++ ds) → Passed cs
 passed-front [] ds h = tt

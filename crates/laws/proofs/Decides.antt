@@ -25,7 +25,7 @@ decides-eq n m = record { holds = eqb-true n m; fails = eqb-false n m }
 
 module _ {a : Bool} {A : Type 0} (d : Decides a A) where
   -- the test of what holds
-  test-of : A → a ≡ true
+  pub test-of : A → a ≡ true
   test-of h = ⊎-elim (λ e. e) (λ e. absurd (d .fails e h)) (bool-cases a)
 
   pub decides-not : Decides (not a) (A → ⊥)
@@ -51,4 +51,17 @@ module _ {a : Bool} {A : Type 0} (d : Decides a A) where
         record {
           holds = λ e. (d .holds (and-left a b e), q .holds (and-right a b e));
           fails = λ e h. q .fails (rw (test-of (h .0)) at e) (h .1);
+        }
+
+    -- one of two tests fails just if not both hold
+    pub decides-not-and : Decides (not (a && b)) ((A → ⊥) ⊎ (B → ⊥))
+    decides-not-and =
+        record {
+          holds = λ e.
+              ⊎-elim
+              (λ p. inr (λ h. decides-and .fails (not-true (a && b) e) (d .holds p, h)))
+              (λ p. inl (d .fails p)) (bool-cases a);
+          fails = λ e either.
+              let both = decides-and .holds (not-false (a && b) e) in
+              ⊎-elim (λ f. f (both .0)) (λ f. f (both .1)) either;
         }

@@ -24,3 +24,5 @@ pub mod Runs
 pub mod WriteRuns
 pub mod Formatting
 pub mod Calls
+pub mod TreeCheck
+pub mod TreePasses

@@ -9,3 +9,4 @@ pub mod Calls
 pub mod Writes
 pub mod Mapped
 pub mod Bounds
+pub mod Tree

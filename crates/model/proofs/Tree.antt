@@ -14,3 +14,4 @@ pub mod Unused
 pub mod Placing
 pub mod Turns
 pub mod Shown
+pub mod Check

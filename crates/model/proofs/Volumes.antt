@@ -11,3 +11,4 @@ pub mod Kept
 pub mod Lists
 pub mod Shown
 pub mod Calls
+pub mod Damage

@@ -14,4 +14,6 @@ pub mod Runs
 pub mod Simulator
 pub mod Invariants
 pub mod Conditions
+pub mod TreeCheck
+pub mod TreeConditions
 pub mod Promises

@@ -5,6 +5,7 @@ ghost use Rattle.model.specs.Promises.Refusals.{Refusals};
 ghost use Rattle.model.specs.Promises.Noninterference.{Noninterference};
 ghost use Rattle.model.specs.Promises.ReadAfterWrite.{ReadAfterWrite};
 ghost use Rattle.model.specs.Promises.BufferBounds.{BufferBounds};
+ghost use Rattle.model.specs.Promises.TreeCheck.{TreeCheck};
 
 // Holds the promises in its contract, so that none can be dropped or weakened unseen.
 pub fn promises()
@@ -14,4 +15,5 @@ pub fn promises()
     ensures noninterference { λ _. ⌜ Noninterference ⌝ }
     ensures read_after_write { λ _. ⌜ ReadAfterWrite ⌝ }
     ensures buffer_bounds { λ _. ⌜ BufferBounds ⌝ }
+    ensures tree_check { λ _. ⌜ TreeCheck ⌝ }
 {}

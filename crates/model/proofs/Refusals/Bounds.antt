@@ -17,12 +17,12 @@ use Rattle.model.specs.Refusals.{writeStoreCount, roundChecks, writeRefu
 
 -- ---- the numbers of the chains ----
 
-never-drive : (disk : Bytes) (answer : ℕ) → 3 < answer → Never answer (driveChecks disk)
+pub never-drive : (disk : Bytes) (answer : ℕ) → 3 < answer → Never answer (driveChecks disk)
 unfolding driveChecks sizeChecks
 never-drive disk answer h =
     (λ e. absurd (omega arith), ((λ e. absurd (omega arith)), ((λ e. absurd (omega arith)), tt)))
 
-never-place :
+pub never-place :
     (g : Geometry) (disk : Bytes) (number size answer : ℕ) → 6 < answer →
     Never answer (placeChecks g disk number size)
 unfolding placeChecks
@@ -30,7 +30,7 @@ never-place g disk number size answer h =
     (λ e. absurd (omega arith), ((λ e. absurd (omega arith)), ((λ e. absurd (omega arith)), tt)))
 
 -- a write is refused for its rounds only by its rounds' checks
-refusal-of-rounds :
+pub refusal-of-rounds :
     (disk : Bytes) (number : ℕ) (content : Bytes) (random room answer : ℕ) → 6 < answer →
     Never answer (roundChecks (geometryIn disk) disk number random room) →
     writeRefusal disk number content random room ≢ answer

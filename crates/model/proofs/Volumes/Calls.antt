@@ -15,13 +15,27 @@ use Rattle.model.proofs.Tree.FromInvariant.{treeOf, ghost-of-hiddenInva
 use Rattle.model.proofs.Volumes.Reads.{public-read-accepted, hidden-read-accepted}
 use Rattle.model.proofs.Volumes.Writes.{fits-of-accepted}
 use Rattle.model.proofs.Volumes.Kept.{write-keeps-public, write-keeps-bitmap, write-keeps-hidden}
-use Rattle.model.proofs.Volumes.Kept.{write-keeps-sound}
+use Rattle.model.proofs.Volumes.Kept.{write-keeps-sound, write-keeps-geometry, write-keeps-accepted}
 use Rattle.model.proofs.Volumes.Lists.{Stepped}
 use Rattle.model.proofs.Volumes.Shown.{write-carries-public, write-carries-hidden}
 
 -- ---- what a call keeps ----
 
 module _ (g : Geometry) (disk : Bytes) where
+  pub call-keeps-geometry :
+      (call : Call) → geometryIn disk ≡ g → driveRefusal disk ≡ 0 → geometryIn (diskAfter disk call) ≡ g
+  call-keeps-geometry (readPublic number blank) states accepted = states
+  call-keeps-geometry (readHidden number blank) states accepted = states
+  call-keeps-geometry (write number content random list offer) states accepted =
+      write-keeps-geometry g disk states accepted number content random (length list) offer
+
+  pub call-keeps-accepted :
+      (call : Call) → geometryIn disk ≡ g → driveRefusal disk ≡ 0 → driveRefusal (diskAfter disk call) ≡ 0
+  call-keeps-accepted (readPublic number blank) states accepted = accepted
+  call-keeps-accepted (readHidden number blank) states accepted = accepted
+  call-keeps-accepted (write number content random list offer) states accepted =
+      write-keeps-accepted g disk states accepted number content random (length list) offer
+
   pub call-keeps-public :
       (call : Call) → geometryIn disk ≡ g → driveRefusal disk ≡ 0 → PublicInvariant g disk →
       PublicInvariant g (diskAfter disk call)

@@ -26,13 +26,13 @@ module _ (g : Geometry) (disk : Bytes) (states : geometryIn disk ≡ g) (accepte
   f : Fits g
   f = fits-of-accepted g disk states accepted
 
-  write-keeps-geometry : geometryIn after ≡ g
+  pub write-keeps-geometry : geometryIn after ≡ g
   write-keeps-geometry =
       write-cases g disk states accepted number content random room offer
       (λ (made : Written) (final : Bytes). geometryIn final ≡ g) (λ ne. states)
       (λ run leaves. leaves .geometry)
 
-  write-keeps-accepted : driveRefusal after ≡ 0
+  pub write-keeps-accepted : driveRefusal after ≡ 0
   write-keeps-accepted =
       write-cases g disk states accepted number content random room offer
       (λ (made : Written) (final : Bytes). driveRefusal final ≡ 0) (λ ne. accepted)

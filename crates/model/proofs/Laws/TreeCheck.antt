@@ -1,0 +1,172 @@
+-- Laws of the whole-tree check: its tests, what is met at a place of a node and below an entry, the checks of
+-- what is met, and the first fault by entries, by places and by what is below. Assumes nothing.
+use mathlib.Core.Path.{_≡_, refl, sym, ap, _∙_}
+use mathlib.Core.Logic.{_≢_}
+use mathlib.Core.Bool.{true}
+use mathlib.Core.List.{List, [], _∷_, _++_, append-assoc}
+use Prim.Native.Nat.{ℕ, suc, _+_, _-_, _≤_, _<_}
+use native.Mathlib.Omega.{arith}
+use borrow.Author.Tests.{leb-false, eqb-true, eq-eqb, ne-eqb, not-false}
+use Rattle.laws.specs.Checks.{Check, firstOf}
+use Rattle.laws.proofs.Cases.{true-is-not-false, cond-true}
+use Rattle.laws.proofs.Checks.{Numbered, numbered-append, passed-of-zero, firstOf-nil, firstOf-append-stop}
+use Rattle.laws.proofs.Checks.{firstOf-append-zero}
+use Rattle.laws.proofs.Decides.{Decides, decides-and, decides-le, decides-lt}
+use Rattle.model.specs.Geometry.{Geometry}
+use Rattle.model.specs.Blocks.{Bytes, DiskAddress, blockAt}
+use Rattle.model.specs.Layout.{isWellFormed}
+use Rattle.model.specs.HiddenTree.{End, found, unmapped, damaged, isFoundAt}
+use Rattle.model.specs.Invariants.{entriesIn}
+use Rattle.model.specs.TreeCheck.{MetEntry, metInTurn, metWith, metBelow, metAt, entryChecks}
+use Rattle.model.specs.TreeCheck.{isBelow, metChecks, firstFault}
+use Rattle.model.specs.TreeConditions.{Below}
+
+-- ---- tests ----
+
+pub decides-found :
+    (address : DiskAddress) (end : End) → Decides (isFoundAt address end) (end ≡ found address)
+decides-found address end =
+    record {
+      holds = holds end;
+      fails = λ e p. true-is-not-false (ap (isFoundAt address) p ∙ eq-eqb address address refl) e;
+    }
+  where
+    holds : (end : End) → isFoundAt address end ≡ true → end ≡ found address
+    holds (found reached) e = ap {B = End} found (eqb-true reached address e)
+    holds unmapped e = true-is-not-false e refl
+    holds damaged e = true-is-not-false e refl
+
+pub decides-below : (g : Geometry) (level first number : ℕ) →
+    Decides (isBelow g level first number) (Below g level first number)
+decides-below g level first number = decides-and (decides-le first number) (decides-lt number _)
+
+-- ---- what is met ----
+
+-- what is met below an entry
+abbrev pub belowEntry : Geometry → (disk : Bytes) → MetEntry → List MetEntry
+belowEntry g disk met =
+    metBelow g disk (met .level) (met .first) (blockAt (g .blockSize) disk (met .entry))
+
+module _ (g : Geometry) (disk : Bytes) where
+  pub metBelow-zero : (first : ℕ) (block : Bytes) → metBelow g disk 0 first block ≡ []
+  unfolding metBelow
+  metBelow-zero first block = refl
+
+  pub metBelow-suc : (level first : ℕ) (node : Bytes) →
+      metBelow g disk (suc level) first node ≡
+      metInTurn (metAt g disk level first node) (entriesIn g level) 0
+  unfolding metBelow
+  metBelow-suc level first node = refl
+
+module _ (g : Geometry) (met : MetEntry) (below : List MetEntry) where
+  pub metWith-zero : met .entry ≡ 0 → metWith g met below ≡ []
+  unfolding metWith
+  metWith-zero e = cond-true _ _ (eq-eqb (met .entry) 0 e)
+
+  pub metWith-formed :
+      met .entry ≢ 0 → isWellFormed g (met .level) (met .entry) ≡ true → metWith g met below ≡ met ∷ below
+  unfolding metWith
+  metWith-formed ne e = rw (ne-eqb (met .entry) 0 ne, e)
+
+-- ---- the checks of what is met ----
+
+module _ (g : Geometry) (disk : Bytes) where
+  numbered-entry : (met : MetEntry) → Numbered (entryChecks g disk met)
+  unfolding entryChecks
+  numbered-entry met = (λ e. omega arith, ((λ e. omega arith), ((λ e. omega arith), tt)))
+
+  -- an entry without fault is well formed, and its first number is a hidden number
+  module _ (met : MetEntry) (z : firstOf (entryChecks g disk met) ≡ 0) where
+    pub formed-of-faultless : isWellFormed g (met .level) (met .entry) ≡ true
+    unfolding entryChecks
+    formed-of-faultless = not-false _ (passed-of-zero (entryChecks g disk met) (numbered-entry met) z .0)
+
+    pub first-of-faultless : met .first < g .hidden
+    unfolding entryChecks
+    first-of-faultless =
+        leb-false (g .hidden) (met .first)
+        (passed-of-zero (entryChecks g disk met) (numbered-entry met) z .1 .0)
+
+  pub numbered-met : (mets : List MetEntry) → Numbered (metChecks g disk mets)
+  unfolding metChecks
+  numbered-met [] = tt
+  numbered-met (met ∷ later) =
+      numbered-append (entryChecks g disk met) (metChecks g disk later) (numbered-entry met)
+      (numbered-met later)
+
+  pub metChecks-append : (front rest : List MetEntry) →
+      metChecks g disk (front ++ rest) ≡ metChecks g disk front ++ metChecks g disk rest
+  unfolding metChecks
+  metChecks-append [] rest = refl
+  metChecks-append (met ∷ later) rest =
+      ap (λ (cs : List Check). entryChecks g disk met ++ cs) (metChecks-append later rest)
+      ∙ sym (append-assoc (entryChecks g disk met) (metChecks g disk later) (metChecks g disk rest))
+
+  -- ---- the first fault, by entries ----
+
+  pub firstFault-nil : firstFault g disk [] ≡ 0
+  unfolding metChecks
+  firstFault-nil = firstOf-nil
+
+  firstFault-append-stop : (front rest : List MetEntry) → firstFault g disk front ≢ 0 →
+      firstFault g disk (front ++ rest) ≡ firstFault g disk front
+  firstFault-append-stop front rest f =
+      ap firstOf (metChecks-append front rest)
+      ∙ firstOf-append-stop (metChecks g disk front) (metChecks g disk rest) f
+
+  firstFault-append-zero : (front rest : List MetEntry) → firstFault g disk front ≡ 0 →
+      firstFault g disk (front ++ rest) ≡ firstFault g disk rest
+  firstFault-append-zero front rest z =
+      ap firstOf (metChecks-append front rest)
+      ∙ firstOf-append-zero (metChecks g disk front) (metChecks g disk rest) (numbered-met front) z
+
+  module _ (met : MetEntry) (below : List MetEntry) where
+    -- a 0 has no fault
+    pub firstFault-zero : met .entry ≡ 0 → firstFault g disk (metWith g met below) ≡ 0
+    firstFault-zero e = ap (firstFault g disk) (metWith-zero g met below e) ∙ firstFault-nil
+
+    module _ (some : met .entry ≢ 0) where
+      -- an entry's own fault comes first
+      pub firstFault-own : firstOf (entryChecks g disk met) ≢ 0 →
+          firstFault g disk (metWith g met below) ≡ firstOf (entryChecks g disk met)
+      unfolding metWith metChecks
+      firstFault-own f =
+          rw (ne-eqb (met .entry) 0 some) (firstOf-append-stop (entryChecks g disk met) _ f)
+
+      -- an entry without fault leaves the answer to what is below it
+      pub firstFault-below : firstOf (entryChecks g disk met) ≡ 0 →
+          firstFault g disk (metWith g met below) ≡ firstFault g disk below
+      unfolding metChecks
+      firstFault-below z =
+          ap (firstFault g disk) (metWith-formed g met below some (formed-of-faultless met z))
+          ∙ firstOf-append-zero (entryChecks g disk met) (metChecks g disk below) (numbered-entry met) z
+
+  -- ---- the first fault, by places ----
+
+  module _ (at : ℕ → List MetEntry) (count place : ℕ) where
+    pub firstFault-end : count ≤ place → firstFault g disk (metInTurn at (count - place) place) ≡ 0
+    unfolding metInTurn
+    firstFault-end h =
+        let e : count - place ≡ 0 = omega arith in
+        rw e firstFault-nil
+
+    module _ (h : place < count) where
+      turn : metInTurn at (count - place) place ≡ at place ++ metInTurn at (count - (place + 1)) (place + 1)
+      unfolding metInTurn
+      turn =
+          let e : count - place ≡ suc (count - (place + 1)) = omega arith in
+          let p : suc place ≡ place + 1 = omega arith in
+          rw (e, p)
+
+      pub firstFault-place : firstFault g disk (at place) ≢ 0 →
+          firstFault g disk (metInTurn at (count - place) place) ≡ firstFault g disk (at place)
+      firstFault-place f =
+          ap (firstFault g disk) turn
+          ∙ firstFault-append-stop (at place) (metInTurn at (count - (place + 1)) (place + 1)) f
+
+      pub firstFault-next : firstFault g disk (at place) ≡ 0 →
+          firstFault g disk (metInTurn at (count - place) place) ≡
+          firstFault g disk (metInTurn at (count - (place + 1)) (place + 1))
+      firstFault-next z =
+          ap (firstFault g disk) turn
+          ∙ firstFault-append-zero (at place) (metInTurn at (count - (place + 1)) (place + 1)) z

@@ -4,3 +4,4 @@ pub mod Geometry
 pub mod Places
 pub mod PublicMap
 pub mod Refusals
+pub mod Drives

@@ -9,7 +9,7 @@ ghost use lib.ListN.{length};
 ghost use Rattle.laws.specs.Division.{ceilDiv};
 ghost use Rattle.model.specs.Geometry.{Fits, mapBlocks, areaBlocks, bitmapBlocks, rootAddress, areaStart};
 ghost use Rattle.model.specs.Geometry.{blockCount, treeCapacity, blockSizes, isOneOf, isGeometry};
-ghost use Rattle.model.specs.Layout.{geometryIn, headIn, slotStart, slotOf, isSlotBlock};
+ghost use Rattle.model.specs.Layout.{geometryIn, headIn, slotStart, slotOf};
 ghost use Rattle.layout.specs.Geometries.{geometryOf, Bounded};
 
 // Block size B in bytes, height k of the hidden tree with its root, P public and H hidden blocks, M slots.
@@ -183,10 +183,10 @@ pub fn slot_start(g: Geometry, slot: u32) -> DiskAddress
     DiskAddress(start.0 + slot * (g.height + 1))
 }
 
-// The slot that a public block belongs to.
+// The slot that a block of the data area belongs to.
 pub fn slot_of(g: Geometry, address: DiskAddress) -> u32
     requires { ⌜ Fits (geometryOf g) ⌝ }
-    requires { ⌜ isSlotBlock (geometryOf g) 0 (address .0) ≡ true ⌝ }
+    requires { ⌜ areaStart (geometryOf g) ≤ address .0 ⌝ }
     ensures { λ r. ⌜ r ≡ slotOf (geometryOf g) (address .0) ⌝ }
 {
     let start = area_start(g);

@@ -3,9 +3,10 @@
 use mathlib.Core.Path.{_≡_}
 use mathlib.Core.Logic.{_≢_, inl, inr}
 use mathlib.Core.Bool.{true}
-use Prim.Native.Nat.{ℕ, _<_}
+use Prim.Native.Nat.{ℕ, _≤_, _<_}
+use native.Mathlib.Omega.{arith}
 use Rattle.laws.proofs.Cases.{and-left}
-use Rattle.model.specs.Geometry.{Geometry}
+use Rattle.model.specs.Geometry.{Geometry, areaStart}
 use Rattle.model.specs.Blocks.{Bytes, DiskAddress}
 use Rattle.model.specs.Layout.{slotOf, isSlotBlock, isAllocated, mapEntry, isPlace}
 use Rattle.model.proofs.Laws.Places.{OldPlace, Placed}
@@ -26,10 +27,13 @@ old-of-entry g entry (inl e) = inl e
 old-of-entry g entry (inr e) = inr (slotBlock-of g 0 entry e)
 
 -- an entry that is not 0 is block A of one of the slots
-pub old-block : (g : Geometry) (entry : DiskAddress) → OldEntry g entry → entry ≢ 0 →
+old-block : (g : Geometry) (entry : DiskAddress) → OldEntry g entry → entry ≢ 0 →
     isSlotBlock g 0 entry ≡ true
 old-block g entry (inl e) ne = absurd (ne e)
 old-block g entry (inr e) ne = e
+
+pub old-in-area : (g : Geometry) (entry : DiskAddress) → OldEntry g entry → entry ≢ 0 → areaStart g ≤ entry
+old-in-area g entry old ne = omega (arith, slotBlock-of g 0 entry (old-block g entry old ne) .address-is)
 
 pub old-slot-lt : (g : Geometry) (entry : DiskAddress) → OldEntry g entry → entry ≢ 0 →
     slotOf g entry < g .slots

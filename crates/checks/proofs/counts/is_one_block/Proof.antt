@@ -2,7 +2,7 @@
 -- Assumes nothing.
 use mathlib.Core.Path.{_∙_}
 use Rattle.layout.specs.Geometries.{geometryOf}
-use Rattle.layout.proofs.Laws.PublicMap.{old-block, old-slot-lt}
+use Rattle.layout.proofs.Laws.PublicMap.{old-in-area, old-slot-lt}
 use Rattle.checks.proofs.Laws.RoundCounts.{one-block-new, one-block-moved}
 use Rattle.checks.proofs.counts.is_one_block.Statement.{statement}
 use Rattle.checks.proofs.counts.is_one_block.Tie as tie
@@ -23,7 +23,7 @@ slot-of-requires : tie.Need-slot-of-requires
 slot-of-requires c κs =
     let start = startOf (c .before) in (
       start .pre .0,
-      old-block (geometryOf (start .args .g)) (start .args .entry .0) (start .pre .1 .0) (c .if1 .left),
+      old-in-area (geometryOf (start .args .g)) (start .args .entry .0) (start .pre .1 .0) (c .if1 .left),
     )
 
 is-shared-requires : tie.Need-is-shared-requires

@@ -1,11 +1,9 @@
--- `layout::geometry::slot_of` meets its contract: a public block stands at the start of the data area or
--- after it. Assumes nothing.
+-- `layout::geometry::slot_of` meets its contract: the block stands at the start of the data area or after it.
+-- Assumes nothing.
 use mathlib.Core.Path.{ap}
 use Prim.Native.Nat.{ℕ, _+_, _-_, _/_}
 use native.Mathlib.Omega.{arith}
 use borrow.Author.Needs.{needs}
-use Rattle.model.proofs.Laws.Slots.{slotBlock-of}
-use Rattle.layout.specs.Geometries.{geometryOf}
 use Rattle.layout.proofs.geometry.slot_of.Statement.{statement}
 use Rattle.layout.proofs.geometry.slot_of.Tie as tie
 
@@ -19,11 +17,7 @@ sub-result : tie.Need-sub-result
 sub-result c =
     let read = readOf c in
     let start = read .before in
-    omega (
-      arith,
-      read .area-start .ensures,
-      slotBlock-of (geometryOf (start .args .g)) 0 (start .args .address .0) (start .pre .1) .address-is,
-    )
+    omega (arith, read .area-start .ensures, start .pre .1)
 
 add-result : tie.Need-add-result
 add-result c = search needs

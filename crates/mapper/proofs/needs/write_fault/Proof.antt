@@ -9,7 +9,7 @@ use Rattle.model.specs.Geometry.{Geometry}
 use Rattle.model.specs.Layout.{geometryIn}
 use Rattle.model.specs.Refusals.{driveRefusal, placeChecks, roundChecks, writeRefusal}
 use Rattle.layout.specs.Geometries.{geometryOf}
-use Rattle.reads.proofs.Laws.Drives.{long-enough, drive-read}
+use Rattle.layout.proofs.Laws.Drives.{long-enough, drive-read}
 use Rattle.mapper.proofs.Laws.WriteRefusals.{head-read, inside-of-places, entry-of-places, chain}
 use Rattle.mapper.proofs.Laws.WriteRefusals.{chain-drive, chain-place, chain-rest, writeRefusal-is}
 use Rattle.mapper.proofs.needs.write_fault.Statement.{statement}

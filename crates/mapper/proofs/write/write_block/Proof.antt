@@ -10,8 +10,8 @@ use Rattle.model.specs.Geometry.{Geometry}
 use Rattle.model.specs.Refusals.{driveRefusal, writeRefusal}
 use Rattle.model.proofs.Laws.Accepted.{driveRefusal-of-write}
 use Rattle.layout.specs.Geometries.{geometryOf}
+use Rattle.layout.proofs.Laws.Drives.{long-enough}
 use Rattle.mapper.specs.Writes.{offerOf}
-use Rattle.reads.proofs.Laws.Drives.{long-enough}
 use Rattle.mapper.proofs.Laws.Offers.{taken-whole}
 use Rattle.mapper.proofs.Laws.Writes.{answered-refused, runnable, stores-fit, answered-done}
 use Rattle.mapper.proofs.write.write_block.Statement.{statement}

@@ -5,8 +5,8 @@ use borrow.Author.Needs.{needs}
 use Rattle.model.specs.Geometry.{Geometry}
 use Rattle.model.specs.Refusals.{driveRefusal}
 use Rattle.layout.specs.Geometries.{geometryOf}
+use Rattle.layout.proofs.Laws.Drives.{long-enough, drive-read}
 use Rattle.hidden_map.specs.Ends.{endOf}
-use Rattle.reads.proofs.Laws.Drives.{long-enough, drive-read}
 use Rattle.reads.proofs.Laws.HiddenReads.{hidden-drive, hidden-number}
 use Rattle.mapper_c.proofs.Laws.Finds.{hidden-answers, hidden-refused, hidden-ended}
 use Rattle.mapper_c.proofs.finds.pddm_hidden_find.Statement.{statement}

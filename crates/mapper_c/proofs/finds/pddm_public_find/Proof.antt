@@ -4,7 +4,7 @@ use mathlib.Core.Path.{_≡_, sym, _∙_}
 use borrow.Author.Needs.{needs}
 use Rattle.model.specs.Refusals.{driveRefusal, publicReadRefusal}
 use Rattle.layout.specs.Geometries.{geometryOf}
-use Rattle.reads.proofs.Laws.Drives.{long-enough, drive-read}
+use Rattle.layout.proofs.Laws.Drives.{long-enough, drive-read}
 use Rattle.reads.proofs.Laws.PublicReads.{public-accepted, number-inside}
 use Rattle.mapper_c.proofs.Laws.Finds.{public-answers, public-refused, public-found}
 use Rattle.mapper_c.proofs.finds.pddm_public_find.Statement.{statement}

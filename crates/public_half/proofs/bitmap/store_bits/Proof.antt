@@ -3,7 +3,7 @@
 use Prim.Native.Nat.{_<_}
 use borrow.Author.Needs.{needs}
 use Rattle.layout.specs.Geometries.{geometryOf}
-use Rattle.layout.proofs.Laws.PublicMap.{old-block, old-slot-lt}
+use Rattle.layout.proofs.Laws.PublicMap.{old-in-area, old-slot-lt}
 use Rattle.public_half.proofs.Laws.Bits.{made-bits-none, made-bits-moved}
 use Rattle.public_half.proofs.bitmap.store_bits.Statement.{statement}
 use Rattle.public_half.proofs.bitmap.store_bits.Tie as tie
@@ -47,7 +47,7 @@ slot-of-requires : tie.Need-slot-of-requires
 slot-of-requires c κs =
     let start = startOf (c .before) in (
       start .pre .0 .fits,
-      old-block (geometryOf (start .args .g)) (start .args .entry .0) (start .pre .1 .1 .0) (c .if1 .left),
+      old-in-area (geometryOf (start .args .g)) (start .args .entry .0) (start .pre .1 .1 .0) (c .if1 .left),
     )
 
 -- the old slot is one of the drive's

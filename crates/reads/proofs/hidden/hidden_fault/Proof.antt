@@ -5,10 +5,10 @@ use borrow.Author.Needs.{needs}
 use Rattle.model.specs.HiddenTree.{isDamaged}
 use Rattle.model.specs.Refusals.{driveRefusal}
 use Rattle.layout.specs.Geometries.{geometryOf}
+use Rattle.layout.proofs.Laws.Drives.{long-enough, drive-read}
 use Rattle.hidden_map.specs.declared.walks.Reached.{Reached}
 use Rattle.hidden_map.specs.Ends.{endOf}
 use Rattle.hidden_map.proofs.Laws.Answers.{isDamaged-endOf}
-use Rattle.reads.proofs.Laws.Drives.{long-enough, drive-read}
 use Rattle.reads.proofs.Laws.HiddenReads.{hidden-drive, hidden-number, hidden-damaged, hidden-passes}
 use Rattle.reads.proofs.hidden.hidden_fault.Statement.{statement}
 use Rattle.reads.proofs.hidden.hidden_fault.Tie as tie

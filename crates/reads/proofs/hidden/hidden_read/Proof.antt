@@ -11,9 +11,9 @@ use Rattle.model.specs.HiddenTree.{End, found, unmapped, damaged, isDamaged}
 use Rattle.model.specs.Refusals.{driveRefusal, hiddenReadRefusal}
 use Rattle.model.specs.Calls.{shownAt, hiddenRead}
 use Rattle.layout.specs.Geometries.{geometryOf}
+use Rattle.layout.proofs.Laws.Drives.{long-enough, drive-read}
 use Rattle.hidden_map.specs.Ends.{endOf}
 use Rattle.hidden_map.proofs.Laws.Steps.{found-inside}
-use Rattle.reads.proofs.Laws.Drives.{long-enough, drive-read}
 use Rattle.reads.proofs.Laws.HiddenReads.{hidden-drive, hidden-number, hidden-damaged, end-shown}
 use Rattle.reads.proofs.Laws.HiddenReads.{nothing-shown}
 use Rattle.reads.proofs.hidden.hidden_read.Statement.{statement}

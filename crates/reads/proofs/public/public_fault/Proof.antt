@@ -3,7 +3,7 @@
 use mathlib.Core.Path.{_∙_, sym}
 use borrow.Author.Needs.{needs}
 use Rattle.layout.specs.Geometries.{geometryOf}
-use Rattle.reads.proofs.Laws.Drives.{long-enough, drive-read}
+use Rattle.layout.proofs.Laws.Drives.{long-enough, drive-read}
 use Rattle.reads.proofs.Laws.PublicReads.{public-drive, public-place}
 use Rattle.reads.proofs.public.public_fault.Statement.{statement}
 use Rattle.reads.proofs.public.public_fault.Tie as tie

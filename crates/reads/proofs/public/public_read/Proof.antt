@@ -5,7 +5,7 @@ use borrow.Author.Needs.{needs}
 use Rattle.model.specs.Layout.{Drive}
 use Rattle.model.specs.Refusals.{publicReadRefusal}
 use Rattle.layout.specs.Geometries.{geometryOf}
-use Rattle.reads.proofs.Laws.Drives.{long-enough, drive-read}
+use Rattle.layout.proofs.Laws.Drives.{long-enough, drive-read}
 use Rattle.reads.proofs.Laws.PublicReads.{public-accepted, number-inside, entry-inside, blank-shown}
 use Rattle.reads.proofs.Laws.PublicReads.{block-shown, nothing-shown}
 use Rattle.reads.proofs.public.public_read.Statement.{statement}

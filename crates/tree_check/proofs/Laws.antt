@@ -1,0 +1,5 @@
+-- The laws that the functions' proofs cite.
+pub mod Spans
+pub mod Entries
+pub mod Nodes
+pub mod Trees

@@ -1,0 +1,44 @@
+-- Laws of the call: a refused drive answers, and any other leaves the answer to the root's entries. Assumes
+-- nothing.
+use mathlib.Core.Path.{_≡_, sym, ap, _∙_}
+use mathlib.Core.Logic.{_≢_}
+use Prim.Native.Nat.{ℕ, suc, _-_}
+use native.Mathlib.Omega.{arith}
+use Rattle.model.specs.Geometry.{Geometry, rootAddress}
+use Rattle.model.specs.Blocks.{Bytes, DiskAddress, blockAt}
+use Rattle.model.specs.Layout.{Drive, geometryIn}
+use Rattle.model.specs.Refusals.{driveRefusal}
+use Rattle.model.specs.TreeCheck.{metBelow, metEntries, firstFault, treeChecks, treeRefusal}
+use Rattle.model.proofs.Laws.Geometry.{rootAddress-lt}
+use Rattle.model.proofs.Laws.Refusals.{after-drive-stop, after-drive-pass}
+use Rattle.tree_check.specs.Nodes.{NodeOf}
+
+module _ (disk : Bytes) where
+  pub tree-refused : (fault : ℕ) → fault ≡ driveRefusal disk → fault ≢ 0 → fault ≡ treeRefusal disk
+  unfolding treeRefusal
+  tree-refused fault e ne =
+      e ∙ sym (after-drive-stop disk (treeChecks (geometryIn disk) disk) (λ z. ne (e ∙ z)))
+
+  module _ (accepted : driveRefusal disk ≡ 0) (g : Geometry) (e : g ≡ geometryIn disk) (d : Drive g disk)
+      (root : DiskAddress) (r : root ≡ rootAddress g) where
+    pub root-node : NodeOf g disk (g .height - 1) root
+    root-node =
+        record {
+          drive = d;
+          level-lt = omega (arith, d .fits .height-low);
+          node-lt = omega (arith, rootAddress-lt g);
+        }
+
+    pub tree-answered : (answer : ℕ) →
+        answer ≡
+        firstFault g disk (metBelow g disk (suc (g .height - 1)) 0 (blockAt (g .blockSize) disk root)) →
+        answer ≡ treeRefusal disk
+    unfolding treeRefusal
+    tree-answered answer a =
+        let up : suc (g .height - 1) ≡ g .height = omega (arith, d .fits .height-low) in
+        a
+        ∙ ap (firstFault g disk)
+        (ap (λ (n : ℕ). metBelow g disk n 0 (blockAt (g .blockSize) disk root)) up
+        ∙ ap (λ (n : ℕ). metBelow g disk (g .height) 0 (blockAt (g .blockSize) disk n)) r)
+        ∙ ap (λ (stated : Geometry). firstFault stated disk (metEntries stated disk)) e
+        ∙ sym (after-drive-pass disk (treeChecks (geometryIn disk) disk) accepted)

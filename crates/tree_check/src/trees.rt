@@ -1,0 +1,21 @@
+// The call: refusals 1 to 3, then the first fault of the tree.
+use crate::nodes::check_node;
+use layout::geometry::geometry_in;
+use layout::geometry::root_address;
+use layout::numbers::HiddenNumber;
+use layout::refusals::drive_fault;
+ghost use mathlib.Core.Path.{_≡_};
+ghost use Rattle.model.specs.TreeCheck.{treeRefusal};
+
+// 1 to 3 of a drive, then 13 to 15 of its hidden tree, the first that is met from the first root entry on;
+// 0 for a drive that passes. Nothing is changed.
+pub fn check_tree(disk: &[u8]) -> u8
+    ensures { λ r. ⌜ r ≡ treeRefusal (now (disk .entry)) ⌝ }
+{
+    let fault = drive_fault(disk);
+    if fault != 0 {
+        return fault;
+    }
+    let g = geometry_in(disk);
+    check_node(disk, g, g.height - 1, HiddenNumber(0), root_address(g))
+}

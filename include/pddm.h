@@ -11,7 +11,8 @@
  *
  * Refusals: 1 bad geometry or under 24 bytes, 2 wrong length, 3 head outside, 4 public number outside, 5 public data or
  * blank not one block, 6 bad map entry, 7 every slot allocated, 8 too few random bytes, 9 list too short, 10 hidden number
- * outside, 11 hidden data or blank not one block, 12 damaged tree. 0: not refused.
+ * outside, 11 hidden data or blank not one block, 12 damaged tree; by the tree check, 13 ill-formed entry, 14 entry past the
+ * hidden numbers, 15 slot that is not its owner's. 0: not refused.
  */
 #ifndef PDDM_H
 #define PDDM_H
@@ -70,6 +71,11 @@ typedef struct {
 
 /* What a good write of this number takes now: refusal 1 to 4, 6 or 7, or 0 and the buffers to lend. */
 pddm_needs pddm_write_needs(const uint8_t *disk, size_t disk_len, uint32_t number);
+
+/* Checks the whole hidden tree, from the first root entry on; changes nothing. Answers 0 if it passes: then no later call
+ * gives 12, and it still passes after each. Else refusal 1 to 3, or that of the first bad entry: 13 if it is no address of
+ * its level, 14 if all hidden numbers below it are outside, 15 if its slot's owner is not below it or not found there. */
+uint32_t pddm_check_tree(const uint8_t *disk, size_t disk_len);
 
 #ifdef __cplusplus
 }

@@ -1,4 +1,4 @@
-/* Formats a drive, writes both volumes, reads back and prints. Built by .ci/run against the proved archive. */
+/* Formats a drive, writes both volumes, reads back and checks the tree. Built by .ci/run against the proved archive. */
 #include <stdio.h>
 #include <string.h>
 #include "pddm.h"
@@ -48,5 +48,6 @@ int main(void)
         show("public", n, pddm_public_find(disk, sizeof disk, n, blank, BLOCK));
     for (uint32_t n = 0; n < 3; n++)
         show("hidden", n, pddm_hidden_find(disk, sizeof disk, n, blank, BLOCK));
+    printf("check: %u\n", pddm_check_tree(disk, sizeof disk));
     return 0;
 }

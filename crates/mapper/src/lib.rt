@@ -1,5 +1,6 @@
 // The calls of the mapper (document 01, "Public numbers and hidden outcomes"). None has a `requires`: each
-// contract fixes the answer and the bytes that the call leaves, for every input. The reads stand in `reads`.
+// contract fixes the answer and the bytes that the call leaves, for every input. The reads stand in `reads`,
+// the check of the hidden tree (document 02, K1) in `tree_check`.
 mod formatting; // header, map, bitmap and root of a fresh drive
 mod needs; // the rounds, stores and random bytes that a write takes, and its refusals
 mod write; // the write, with or without an offer
@@ -12,6 +13,7 @@ pub use reads::hidden::hidden_fault;
 pub use reads::hidden::hidden_read;
 pub use reads::public::public_fault;
 pub use reads::public::public_read;
+pub use tree_check::check_tree;
 pub use write::Outcome;
 pub use write::Written;
 pub use write::outcome_number;

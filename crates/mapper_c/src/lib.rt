@@ -4,3 +4,4 @@ mod formatting; // an empty drive
 mod finds; // where the block of a number stands, in either volume
 mod needs; // the buffers that a write takes
 mod writes; // the write, with or without an offer
+mod trees; // the check of the whole hidden tree

@@ -6,6 +6,7 @@ pub enum Call {
     PublicRead(u32, Vec<u8>),
     HiddenRead(u32, Vec<u8>),
     Needs(u32),
+    CheckTree,
     Write { number: u32, data: Vec<u8>, offer: Option<(u32, Vec<u8>)>, random: Vec<u8>, list: Vec<u32> },
 }
 
@@ -16,6 +17,7 @@ pub enum Given {
     Formatted(Result<(), u32>),
     Shown(Result<(Option<usize>, usize), u32>),
     Needed(Needs),
+    Checked(Result<(), u32>),
     Wrote(Written, Vec<u32>),
 }
 
@@ -34,6 +36,7 @@ impl Call {
                 Given::Shown((engine.hidden_read)(disk, *number, blank).map(|part| shown(part, blank)))
             }
             Call::Needs(number) => Given::Needed((engine.needs)(disk, *number)),
+            Call::CheckTree => Given::Checked((engine.check_tree)(disk)),
             Call::Write { number, data, offer, random, list } => {
                 let offer = offer.as_ref().map(|(number, data)| (*number, &data[..]));
                 let mut list = list.clone();
@@ -54,6 +57,7 @@ impl Call {
                 format!("hidden read of {number}, blank of {} bytes", blank.len())
             }
             Call::Needs(number) => format!("needs of {number}"),
+            Call::CheckTree => "tree check".to_string(),
             Call::Write { number, data, offer, random, list } => {
                 let offer = match offer {
                     Some((number, data)) => format!("offer {number} of {} bytes", data.len()),
@@ -76,6 +80,16 @@ impl Given {
             }
             (Given::Wrote(report, _), Given::Wrote(another, _)) => format!("{report:?}, not {another:?}"),
             _ => format!("{self:?}, not {other:?}"),
+        }
+    }
+
+    /// Whether the call met damage of the hidden tree, or is a check that the drive does not pass.
+    pub fn meets_damage(&self) -> bool {
+        match self {
+            Given::Shown(shown) => *shown == Err(12),
+            Given::Checked(answer) => answer.is_err(),
+            Given::Wrote(written, _) => written.outcome == 12,
+            Given::Formatted(_) | Given::Needed(_) => false,
         }
     }
 

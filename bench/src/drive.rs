@@ -84,6 +84,11 @@ impl Drive {
         (self.d..self.t).contains(&address) && (address - self.d) % (self.k + 1) == place
     }
 
+    /// Whether an address is one of a level: A + level of some slot, or A + k for level 0.
+    pub fn is_well_formed(&self, level: usize, address: usize) -> bool {
+        self.is_at(if level == 0 { self.k } else { level }, address)
+    }
+
     /// Bitmap block, byte and weight of a slot's bit.
     pub fn bit(&self, slot: usize) -> (usize, usize, u8) {
         let bit = slot * (self.k + 1);
@@ -101,7 +106,7 @@ impl Drive {
     }
 
     /// The place, in its node of level + 1, of the entry that leads a hidden number to a level.
-    fn branch(&self, number: usize, level: usize) -> usize {
+    pub fn branch(&self, number: usize, level: usize) -> usize {
         match level {
             0 => number % (self.f - 1),
             _ => (number / (self.f - 1)) >> (self.f.ilog2() as usize * (level - 1)) & (self.f - 1),
@@ -118,7 +123,7 @@ impl Drive {
             if node == 0 {
                 return Ok((None, nodes));
             }
-            check(!self.is_at(if level == 0 { self.k } else { level }, node), 12)?;
+            check(!self.is_well_formed(level, node), 12)?;
         }
         Ok((Some(node), nodes))
     }

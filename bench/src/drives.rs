@@ -1,4 +1,5 @@
-//! Random small drives: aged by calls, damaged, full or foreign; and what makes calls refuse a drive.
+//! Random small drives: aged by calls, damaged, full, foreign or with a deep tree; and what makes calls
+//! refuse a drive.
 use crate::drive::{Drive, put_entry};
 use crate::engine::{Engine, Geometry, Write, ample};
 use crate::random::Random;
@@ -13,9 +14,11 @@ pub enum Kind {
     Full,
     /// Map, bitmap, root, nodes and the header's rest are another's.
     Foreign,
+    /// Hidden numbers placed at random, in up to some 70 leaves.
+    Deep,
 }
 
-pub const KINDS: [Kind; 4] = [Kind::Aged, Kind::Damaged, Kind::Full, Kind::Foreign];
+pub const KINDS: [Kind; 5] = [Kind::Aged, Kind::Damaged, Kind::Full, Kind::Foreign, Kind::Deep];
 
 /// The most hidden numbers of a tree.
 pub fn capacity(block_size: u32, height: u32) -> u64 {
@@ -30,8 +33,9 @@ pub fn geometry(r: &mut Random, kind: Kind) -> Geometry {
     let block_size = if large { r.pick(&[512, 4096]) } else { r.pick(&[32, 32, 32, 64, 128]) };
     let height = 2 + r.below(3) as u32;
     let most = if !large && r.one_in(8) { 100 } else { 9 };
-    let capacity = capacity(block_size, height).min(most) as u32;
     let publics = 1 + r.below(most) as u32;
+    let most = if !large && kind == Kind::Deep { r.pick(&[9, 60, 60, 500]) } else { most };
+    let capacity = capacity(block_size, height).min(most) as u32;
     let hidden = (1 + r.below(most) as u32).min(capacity);
     let (publics, hidden) = match kind {
         Kind::Full => (publics.max(hidden), publics.max(hidden).min(capacity)),
@@ -61,7 +65,7 @@ pub fn bent_geometry(r: &mut Random, mut g: Geometry) -> Geometry {
 }
 
 /// An entry that may lead somewhere: 0, a place in a slot, any address, or anything.
-fn any_entry(r: &mut Random, v: &Drive) -> usize {
+pub fn any_entry(r: &mut Random, v: &Drive) -> usize {
     let slot = v.start(r.below(v.m as u64) as usize);
     match r.below(8) {
         0 => 0,
@@ -124,12 +128,17 @@ fn foreign(r: &mut Random, v: &Drive, disk: &mut [u8]) {
     }
 }
 
-/// Writes every public number, each with an offer.
-fn fill(engine: &Engine, g: Geometry, disk: &mut [u8]) {
+/// Writes public numbers, each with an offer of the hidden number beside it, if there is one.
+pub fn fill(
+    engine: &Engine,
+    g: Geometry,
+    disk: &mut [u8],
+    lines: impl IntoIterator<Item = (u32, Option<u32>)>,
+) {
     let (random, list) = ample(g);
     let (block, random, mut list) = (vec![1; g.block_size as usize], vec![2; random], vec![0; list]);
-    for number in 0..g.publics {
-        let offer = Some((number % g.hidden, &block[..]));
+    for (number, offered) in lines {
+        let offer = offered.map(|hidden| (hidden, &block[..]));
         let call = Write { number, data: &block, offer, random: &random };
         (engine.write)(disk, &call, &mut list);
     }
@@ -142,8 +151,13 @@ pub fn drive(r: &mut Random, engine: &Engine, kind: Kind, g: Geometry) -> Vec<u8
     (engine.format)(&mut disk, g).expect("a drive formatted");
     match kind {
         Kind::Aged | Kind::Damaged => {}
-        Kind::Full => fill(engine, g, &mut disk),
+        Kind::Full => fill(engine, g, &mut disk, (0..g.publics).map(|n| (n, Some(n % g.hidden)))),
         Kind::Foreign => foreign(r, &v, &mut disk),
+        Kind::Deep => {
+            let writes = 1 + r.below(2 * u64::from(g.slots));
+            let mut any = |n| r.below(u64::from(n)) as u32;
+            fill(engine, g, &mut disk, (0..writes).map(|_| (any(g.publics), Some(any(g.hidden)))));
+        }
     }
     disk
 }

@@ -68,6 +68,7 @@ pub struct Engine {
     pub public_read: for<'a> fn(&'a [u8], u32, &'a [u8]) -> Shown<'a>,
     pub hidden_read: for<'a> fn(&'a [u8], u32, &'a [u8]) -> Shown<'a>,
     pub needs: fn(&[u8], u32) -> Needs,
+    pub check_tree: fn(&[u8]) -> Result<(), u32>,
     /// Changes the disk and enters the stores in the list.
     pub write: fn(&mut [u8], &Write, &mut [u32]) -> Written,
 }

@@ -1,16 +1,19 @@
 //! The proved mapper beside two written in Rust: what they answer is compared, and how long they take. The
-//! programs are `differential`, `bit_places`, `benchmark`, `waiting` and `longest`; `tests/` holds all three
-//! mappers to the documents' examples.
+//! programs are `differential`, `bit_places`, `benchmark`, `tree_check`, `waiting` and `longest`; `tests/`
+//! holds all three mappers to the documents' examples.
 pub mod arguments;
 pub mod calls;
 pub mod drive;
 pub mod drives;
 pub mod engine;
 pub mod inplace;
+pub mod met;
 pub mod plain;
 pub mod plot;
 pub mod proved;
 pub mod random;
+pub mod tree;
+pub mod tree_damage;
 pub mod workload;
 
 /// All three mappers, the proved one first.

@@ -2,8 +2,10 @@
 //! 01's checks and no others. The proved mapper is measured and held against it.
 use crate::drive::{Drive, Nodes, check, entry, put_entry};
 use crate::engine::{Engine, Geometry, NONE, Needs, PLACED, Shown, WAITING, Write, Written};
+use crate::tree::check_tree;
 
-pub const PLAIN: Engine = Engine { name: "plain Rust", format, public_read, hidden_read, needs, write };
+pub const PLAIN: Engine =
+    Engine { name: "plain Rust", format, public_read, hidden_read, needs, check_tree, write };
 
 fn format(disk: &mut [u8], g: Geometry) -> Result<(), u32> {
     let v = Drive::sized(g, disk.len())?;

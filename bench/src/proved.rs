@@ -6,7 +6,8 @@
 use crate::drive::check;
 use crate::engine::{Engine, Geometry, Needs, Shown, Write, Written};
 
-pub const PROVED: Engine = Engine { name: "proved", format, public_read, hidden_read, needs, write };
+pub const PROVED: Engine =
+    Engine { name: "proved", format, public_read, hidden_read, needs, check_tree, write };
 
 /// `pddm_found`.
 #[repr(C)]
@@ -37,6 +38,7 @@ unsafe extern "C" {
         random: *const u8, random_len: usize, list: *mut u32, list_len: usize,
     ) -> Written;
     fn pddm_write_needs(disk: *const u8, disk_len: usize, number: u32) -> Needs;
+    fn pddm_check_tree(disk: *const u8, disk_len: usize) -> u32;
 }
 
 /// What a find says, as a part of the disk or the blank. A good find's blank is one block.
@@ -67,6 +69,11 @@ fn hidden_read<'a>(disk: &'a [u8], number: u32, blank: &'a [u8]) -> Shown<'a> {
 
 fn needs(disk: &[u8], number: u32) -> Needs {
     unsafe { pddm_write_needs(disk.as_ptr(), disk.len(), number) }
+}
+
+fn check_tree(disk: &[u8]) -> Result<(), u32> {
+    let answer = unsafe { pddm_check_tree(disk.as_ptr(), disk.len()) };
+    check(answer != 0, answer)
 }
 
 #[rustfmt::skip]

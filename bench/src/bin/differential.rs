@@ -1,18 +1,20 @@
 //! `differential [SECONDS [SEED]]`: holds the three mappers against each other, over document 02's K11 calls
 //! and then over random small drives until the seconds (20) are up. Answers, shown parts, lists with their
-//! tails and disks are to be equal after every call, and every refusal and outcome is to be met. Ends with
-//! status 1 on the first difference, which it prints, or where one was not met. A drive is made from its seed
-//! alone: the one that is printed, given as SEED, is the first.
+//! tails and disks are to be equal after every call, a drive that passes the tree check is to go on passing
+//! it, and every refusal and outcome is to be met. Ends with status 1 on the first difference, which it
+//! prints, or where one was not met. A drive is made from its seed alone: the one that is printed, given as
+//! SEED, is the first.
 use pddm_bench::arguments::Arguments;
 use pddm_bench::calls::{Call, Given};
 use pddm_bench::drives::{KINDS, Kind, bent_geometry, damage, drive, geometry, spoil};
-use pddm_bench::engine::{Engine, Geometry, NONE, NOT_TRIED, PLACED, WAITING, Written, fresh};
+use pddm_bench::engine::{Engine, Geometry, Written, fresh};
 use pddm_bench::inplace::IN_PLACE;
+use pddm_bench::met::Met;
 use pddm_bench::plain::PLAIN;
 use pddm_bench::proved::PROVED;
 use pddm_bench::random::Random;
+use pddm_bench::tree_damage::damage_tree;
 use pddm_bench::workload::{CALLS, Caller, GEOMETRY};
-use std::collections::BTreeMap;
 use std::process::ExitCode;
 use std::time::{Duration, Instant};
 
@@ -59,81 +61,6 @@ const LEAST: u64 = 1000;
 /// How often the random drives say how far they are.
 const PROGRESS: Duration = Duration::from_secs(5);
 
-/// What each kind of call is to give at least once, and nothing else.
-const DUE: [(&str, &[&str]); 6] = [
-    ("format", &["0", "1", "2"]),
-    ("public read", &["block", "blank", "1", "2", "3", "4", "5", "6"]),
-    ("hidden read", &["block", "blank", "1", "2", "3", "10", "11", "12"]),
-    ("needs", &["0", "1", "2", "3", "4", "6", "7"]),
-    ("write", &["0", "1", "2", "3", "4", "5", "6", "7", "8", "9"]),
-    ("outcome", &["none", "placed", "waiting", "not tried", "10", "11", "12"]),
-];
-
-/// How often each kind of call gave what.
-#[derive(Default)]
-struct Met {
-    counts: BTreeMap<(&'static str, String), u64>,
-    calls: u64,
-    rounds: u64,
-}
-
-impl Met {
-    fn count(&mut self, kind: &'static str, label: impl ToString) {
-        *self.counts.entry((kind, label.to_string())).or_default() += 1;
-    }
-
-    fn enter(&mut self, call: &Call, given: &Given) {
-        self.calls += 1;
-        match given {
-            Given::Formatted(answer) => self.count("format", answer.err().unwrap_or(0)),
-            Given::Shown(shown) => {
-                let public = matches!(call, Call::PublicRead(..));
-                let kind = if public { "public read" } else { "hidden read" };
-                match shown {
-                    Ok((Some(_), _)) => self.count(kind, "block"),
-                    Ok((None, _)) => self.count(kind, "blank"),
-                    Err(answer) => self.count(kind, answer),
-                }
-            }
-            Given::Needed(needs) => self.count("needs", needs.answer),
-            Given::Wrote(written, _) => {
-                self.count("write", written.answer);
-                self.rounds += u64::from(written.rounds);
-                match written.outcome {
-                    NONE => self.count("outcome", "none"),
-                    PLACED => self.count("outcome", "placed"),
-                    WAITING => self.count("outcome", "waiting"),
-                    NOT_TRIED => self.count("outcome", "not tried"),
-                    number => self.count("outcome", number),
-                }
-            }
-        }
-    }
-
-    /// Prints the counts, and whether they are those due: all of these and no others.
-    fn report(&self) -> bool {
-        let mut left = self.counts.clone();
-        let mut good = true;
-        for (kind, labels) in DUE {
-            let mut line = Vec::new();
-            for label in labels {
-                let count = left.remove(&(kind, label.to_string())).unwrap_or(0);
-                line.push(format!("{label}: {count}"));
-                if count == 0 {
-                    println!("not met: {kind} {label}");
-                    good = false;
-                }
-            }
-            println!("{kind:<11} | {}", line.join(", "));
-        }
-        for ((kind, label), count) in left {
-            println!("not due: {kind} {label}, {count} times");
-            good = false;
-        }
-        good
-    }
-}
-
 /// A number below n, or now and then one past it.
 fn any_number(r: &mut Random, n: u32) -> u32 {
     if r.one_in(15) { r.pick(&[n, n + 1, u32::MAX]) } else { r.below(u64::from(n)) as u32 }
@@ -157,12 +84,13 @@ fn any_room(r: &mut Random, needed: usize) -> usize {
 
 fn any_call(r: &mut Random, g: Geometry, disk: &[u8]) -> Call {
     let b = g.block_size as usize;
-    match r.below(60) {
+    match r.below(64) {
         0 if r.one_in(6) => Call::Format(g),
         0 | 1 => Call::Format(bent_geometry(r, g)),
         2..=9 => Call::PublicRead(any_number(r, g.publics), any_block(r, b)),
         10..=17 => Call::HiddenRead(any_number(r, g.hidden), any_block(r, b)),
         18..=21 => Call::Needs(any_number(r, g.publics)),
+        22..=25 => Call::CheckTree,
         _ => {
             let number = any_number(r, g.publics);
             let needs = (PLAIN.needs)(disk, number);
@@ -176,30 +104,71 @@ fn any_call(r: &mut Random, g: Geometry, disk: &[u8]) -> Call {
     }
 }
 
+/// Equal disks of the three mappers, and whether their tree is known to pass the tree check.
+struct Held {
+    disks: [Vec<u8>; 3],
+    passes: bool,
+}
+
+impl Held {
+    fn new(disk: Vec<u8>, passes: bool) -> Self {
+        Held { disks: [disk.clone(), disk.clone(), disk], passes }
+    }
+
+    /// Makes a call, held. Where the tree passes, no call meets damage, and it still passes after each.
+    fn call(&mut self, call: &Call, met: &mut Met) -> Result<Given, String> {
+        let given = hold_call(&mut self.disks, call).map_err(|what| format!("{}: {what}", call.told()))?;
+        met.enter(call, &given);
+        if self.passes && given.meets_damage() {
+            return Err(format!("{}: {given:?}, where the tree check passed", call.told()));
+        }
+        if self.passes && given.changes() && (PROVED.check_tree)(&self.disks[0]).is_err() {
+            return Err(format!("{}: the tree check no longer passes", call.told()));
+        }
+        self.passes |= matches!(given, Given::Checked(Ok(())) | Given::Formatted(Ok(())));
+        Ok(given)
+    }
+}
+
+/// The tree check on a drive whose tree is damaged on purpose; and calls where it still passes.
+fn hold_damage(r: &mut Random, g: Geometry, mut disk: Vec<u8>, met: &mut Met) -> Result<(), String> {
+    let damage = damage_tree(r, &mut disk);
+    let mut held = Held::new(disk, false);
+    if let Given::Checked(answer) = held.call(&Call::CheckTree, met)? {
+        met.count(damage, answer.err().unwrap_or(0));
+    }
+    let calls = if held.passes { 4 } else { 0 };
+    for _ in 0..calls {
+        let call = any_call(r, g, &held.disks[0]);
+        held.call(&call, met)?;
+        held.call(&Call::CheckTree, met)?;
+    }
+    Ok(())
+}
+
 /// Calls on one random drive, each held.
 fn hold_drive(seed: u64, met: &mut Met) -> Result<(), String> {
     let mut r = Random::new(seed);
     let kind = KINDS[seed as usize % KINDS.len()];
     let g = geometry(&mut r, kind);
-    let start = drive(&mut r, &PLAIN, kind, g);
-    let mut disks = [start.clone(), start.clone(), start];
+    let mut held = Held::new(drive(&mut r, &PLAIN, kind, g), kind != Kind::Foreign);
     for turn in 0..40 + r.below(80) {
-        let spoiled = r.one_in(12);
-        let mut one = disks[0].clone();
-        if spoiled {
+        let mut one = held.disks[0].clone();
+        let result = if r.one_in(12) {
             spoil(&mut r, g, &mut one);
-        } else if kind == Kind::Damaged && r.one_in(6) {
-            damage(&mut r, g, &mut one);
-            disks = [one.clone(), one.clone(), one.clone()];
-        }
-        let call = any_call(&mut r, g, &one);
-        let held = if spoiled {
-            hold_call(&mut [one.clone(), one.clone(), one], &call)
+            let call = any_call(&mut r, g, &one);
+            Held::new(one, false).call(&call, met).map(|_| ())
+        } else if kind == Kind::Deep && r.one_in(2) {
+            hold_damage(&mut r, g, one, met)
         } else {
-            hold_call(&mut disks, &call)
+            if kind == Kind::Damaged && r.one_in(6) {
+                damage(&mut r, g, &mut one);
+                held = Held::new(one, false);
+            }
+            let call = any_call(&mut r, g, &held.disks[0]);
+            held.call(&call, met).map(|_| ())
         };
-        let place = |what| format!("drive seed {seed}, call {turn}, {}: {what}", call.told());
-        met.enter(&call, &held.map_err(place)?);
+        result.map_err(|what| format!("drive seed {seed}, call {turn}, {what}"))?;
     }
     Ok(())
 }
@@ -215,7 +184,11 @@ fn hold_workload() -> Result<(), String> {
             return Err(format!("call {i} of K11: {} refused it or replied otherwise", ENGINES[who].name));
         }
         if (i + 1) % 20_000 == 0 {
-            hold_disks(&disks).map_err(|what| format!("after call {i} of K11: {what}"))?;
+            let after = |what| format!("after call {i} of K11: {what}");
+            hold_disks(&disks).map_err(after)?;
+            if hold_call(&mut disks, &Call::CheckTree).map_err(after)? != Given::Checked(Ok(())) {
+                return Err(after("the tree check refuses the drive".to_string()));
+            }
             println!("K11: {} of {CALLS} calls, all equal", i + 1);
         }
     }
@@ -233,7 +206,7 @@ fn hold_drives(seed: u64, end: Instant) -> Result<Met, String> {
             println!("{drives} drives, {} calls, all equal", met.calls);
         }
     }
-    println!("{drives} drives (aged, damaged, full and foreign in turn) from seed {seed} on");
+    println!("{drives} drives (aged, damaged, full, foreign and deep in turn) from seed {seed} on");
     println!("{} calls, {} rounds", met.calls, met.rounds);
     Ok(met)
 }

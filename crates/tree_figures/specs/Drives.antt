@@ -1,5 +1,5 @@
--- The drive with hidden 1 in slot 1 and then hidden 0 in slot 0, from any disk; from a zero disk it is
--- `fiveLines` of the model's figures. Assumes nothing.
+-- The drive with hidden 1 in slot 1 and then hidden 0 in slot 0, from any disk, by the five lines of the
+-- model's `TreeFigures`. Assumes nothing.
 use mathlib.Core.Option.{none}
 use Rattle.model.specs.Blocks.{Bytes}
 use Rattle.model.specs.Calls.{formatted}

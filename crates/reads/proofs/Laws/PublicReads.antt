@@ -9,14 +9,14 @@ use lib.ListN.{length}
 use borrow.Author.Tests.{leb-false, eq-eqb, ne-eqb}
 use Rattle.laws.specs.Checks.{firstOf}
 use Rattle.laws.proofs.Cases.{cond-true, cond-false}
-use Rattle.laws.proofs.Checks.{Passed, passed-of-zero}
+use Rattle.laws.proofs.Checks.{Passed}
 use Rattle.model.specs.Geometry.{Geometry, blockCount}
 use Rattle.model.specs.Blocks.{Bytes, DiskAddress, blockAt}
 use Rattle.model.specs.Layout.{geometryIn, mapEntry}
 use Rattle.model.specs.Refusals.{driveRefusal, placeChecks, publicReadRefusal}
 use Rattle.model.specs.Calls.{publicRead}
-use Rattle.model.proofs.Laws.Refusals.{after-drive-stop, after-drive-pass}
-use Rattle.reads.proofs.Laws.Drives.{Unrefused, unrefused-of-zero}
+use Rattle.model.proofs.Laws.Refusals.{after-drive-stop, after-drive-pass, driveRefusal-of-chain}
+use Rattle.model.proofs.Laws.Refusals.{passed-after-drive}
 use Rattle.checks.proofs.Laws.Places.{place-inside}
 
 module _ (disk : Bytes) (number : ℕ) (blank : Bytes) where
@@ -39,18 +39,16 @@ module _ (disk : Bytes) (number : ℕ) (blank : Bytes) where
   -- ---- a read that is not refused ----
 
   module _ (unrefused : publicReadRefusal disk number blank ≡ 0) where
-    own : Unrefused disk (placeChecks (geometryIn disk) disk number (length blank))
-    unfolding publicReadRefusal
-    own = unrefused-of-zero disk (placeChecks (geometryIn disk) disk number (length blank)) unrefused
-
     pub public-accepted : driveRefusal disk ≡ 0
-    public-accepted = own .drive-accepted
+    unfolding publicReadRefusal
+    public-accepted =
+        driveRefusal-of-chain disk (placeChecks (geometryIn disk) disk number (length blank)) unrefused
 
     passed : Passed (placeChecks (geometryIn disk) disk number (length blank))
-    unfolding placeChecks
+    unfolding publicReadRefusal placeChecks
     passed =
-        passed-of-zero (placeChecks (geometryIn disk) disk number (length blank))
-        (λ e. omega arith, ((λ e. omega arith), ((λ e. omega arith), tt))) (own .own-accepted)
+        passed-after-drive disk (placeChecks (geometryIn disk) disk number (length blank))
+        (λ e. omega arith, ((λ e. omega arith), ((λ e. omega arith), tt))) unrefused
 
     module _ (g : Geometry) (q : g ≡ geometryIn disk) where
       pub number-inside : number < g .publics

@@ -1,5 +1,5 @@
--- Laws of the tests of an entry: its slot's owner, its three faults in their order, and what an entry without
--- fault gives to the node below it. Assumes nothing.
+-- Laws of the tests of an entry: where a well-formed one leads, its slot's owner, and its three faults in
+-- their order. Assumes nothing.
 use mathlib.Core.Path.{_≡_, sym, ap, _∙_}
 use mathlib.Core.Bool.{Bool, true, false, not}
 use Prim.Native.Nat.{ℕ, _≤_, _<_}

@@ -73,6 +73,7 @@ module _ (g : Geometry) (f : Fits g) (level : ℕ) (low : level < g .height) whe
   b : Bounded g
   b = bounded-of-fits g f
 
+  -- at most 1,023 × 1,024²
   span-le : span g level ≤ 1072693248
   span-le = by (eq-cases level 0) (eq-cases level 1) (eq-cases level 2)
     where
@@ -93,7 +94,7 @@ module _ (g : Geometry) (f : Fits g) (level : ℕ) (low : level < g .height) whe
             leaf-times-le g b (fanout g * fanout g) 1048576 (fanout-square-le g b),
           )
 
-  -- so many spans, counted by places of a node
+  -- so many spans, counted by places of a node: at most 1,024 of them
   pub spans-le : (place count : ℕ) → place < fanout g → count ≡ span g level → place * count ≤ 1098437885952
   spans-le place count h e =
       let most : place ≤ 1024 = omega (arith, b .size-high) in

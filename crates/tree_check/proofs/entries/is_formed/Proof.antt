@@ -1,9 +1,8 @@
 -- `tree_check::entries::is_formed` meets its contract: the numbers that it hands on are those of its
 -- geometry. Assumes nothing.
-use mathlib.Core.Path.{refl, ap}
-use Prim.Native.Nat.{ℕ, _+_, _*_}
 use borrow.Author.Needs.{needs}
 use Rattle.layout.specs.Geometries.{geometryOf}
+use Rattle.hidden_map.proofs.Laws.Trees.{areaOf-start}
 use Rattle.tree_check.proofs.entries.is_formed.Statement.{statement}
 use Rattle.tree_check.proofs.entries.is_formed.Tie as tie
 
@@ -26,12 +25,8 @@ returns : tie.Need-returns
 returns c =
     let started = c .before .before .before in
     let g = geometryOf (started .before .args .g) in
-    c .is-well-formed .ensures g
-    (record {
-      height-is = refl;
-      start-is = started .area-start .ensures;
-      count-is = ap (λ (n : ℕ). n + g .slots * (g .height + 1)) (started .area-start .ensures);
-    })
+    let start = started .area-start in
+    c .is-well-formed .ensures g (areaOf-start g (start .result .0) (start .ensures))
 
 pub is-formed-spec : {M : Type 1} → statement M
 is-formed-spec =

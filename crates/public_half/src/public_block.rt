@@ -1,8 +1,8 @@
 // A slot's public block.
 use layout::geometry::Geometry;
 use layout::geometry::slot_start;
-use stores::blocks::store_block;
 use stores::blocks::store_changed;
+use stores::blocks::store_through;
 use stores::changes::Change;
 use table::PublicChoice;
 ghost use mathlib.Core.Path.{_≡_};
@@ -38,6 +38,6 @@ pub fn store_public(
     let address = slot_start(g, slot);
     match choice {
         PublicChoice::Keep => store_changed(disk, list, next, g, address, Change::Nothing, block),
-        PublicChoice::Write => store_block(disk, list, next, g, address, content),
+        PublicChoice::Write => store_through(disk, list, next, g, address, content, block),
     }
 }

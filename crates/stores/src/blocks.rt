@@ -1,4 +1,5 @@
-// The one store function, and a block of the disk stored with one change or none, through a lent buffer.
+// The one store function; stored through a lent buffer, a lent block, and a block of the disk with one change
+// or none.
 use crate::changes::Change;
 use layout::geometry::Geometry;
 use layout::numbers::DiskAddress;
@@ -34,6 +35,29 @@ pub fn store_block(
     copies::copy_at(disk, at, block);
     list[next] = address.0;
     next + 1
+}
+
+// Stores a lent block through a lent buffer of one block. Between two lent slices the compiler copies in a
+// loop, to or from the buffer by one call, so that two copies are faster than one (docs/SPEED.md).
+pub fn store_through(
+    disk: &mut [u8],
+    list: &mut [u32],
+    next: usize,
+    g: Geometry,
+    address: DiskAddress,
+    content: &[u8],
+    block: &mut [u8],
+) -> usize
+    requires { ⌜ Drive (geometryOf g) (now disk) ⌝ }
+    requires { ⌜ address .0 < blockCount (geometryOf g) ⌝ }
+    requires { ⌜ length (now content) ≡ geometryOf g .blockSize ⌝ }
+    requires { ⌜ length (now block) ≡ geometryOf g .blockSize ⌝ }
+    requires { ⌜ next < length (now list) ⌝ }
+    ensures { λ r. ⌜ Made (geometryOf g .blockSize) (store (address .0) (now (content .entry)) ∷ [])
+        (now (disk .entry)) (now (list .entry)) next (now (disk .exit)) (now (list .exit)) r ⌝ }
+{
+    copies::copy_at(block, 0, content);
+    store_block(disk, list, next, g, address, block)
 }
 
 // Takes a block of the disk, with one change or none, into a lent buffer of one block.

@@ -2,4 +2,4 @@
 // function by which a write changes disk or list; every other function here, and in the crates above, stores
 // through it.
 pub mod changes; // one entry or one bit of a block changed
-pub mod blocks; // the one store function, and a block of the disk stored with one change or none
+pub mod blocks; // the one store function, and blocks that are stored through a buffer

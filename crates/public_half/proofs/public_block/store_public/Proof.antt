@@ -17,14 +17,14 @@ startOf c = c .before .before .before .before .before
 abbrev to-keep : tie.After-store-changed-arg3 → tie.After-enum-told
 to-keep c = c .before .before .before
 
-abbrev to-write : tie.After-store-block-arg2 → tie.After-enum-told2
-to-write c = c .before .before
+abbrev to-write : tie.After-store-through-arg3 → tie.After-enum-told2
+to-write c = c .before .before .before
 
 abbrev after-keep : tie.After-slice-known6 → tie.After-store-changed
 after-keep c = c .before .before .before .before .before .before
 
-abbrev after-write : tie.After-slice-known8 → tie.After-store-block
-after-write c = c .before .before .before .before
+abbrev after-write : tie.After-slice-known9 → tie.After-store-through
+after-write c = c .before .before .before .before .before .before
 
 slot-start-requires : tie.Need-slot-start-requires
 slot-start-requires c κs = search needs
@@ -51,11 +51,11 @@ store-changed-requires c κs =
 enum-told-2 : tie.Need-enum-told-2
 enum-told-2 c = search needs
 
-store-block-requires : tie.Need-store-block-requires
-store-block-requires c κs =
+store-through-requires : tie.Need-store-through-requires
+store-through-requires c κs =
     let placed = to-write c .before .before in
     let pre = startOf placed .pre in
-    (pre .0, (inside placed, (pre .1 .1 .0, pre .1 .1 .1 .1)))
+    (pre .0, (inside placed, pre .1 .1))
 
 same-length : tie.Need-same-length
 same-length c = search needs
@@ -83,6 +83,9 @@ same-length-4 c = search needs
 same-length-5 : tie.Need-same-length-5
 same-length-5 c = search needs
 
+same-length-6 : tie.Need-same-length-6
+same-length-6 c = search needs
+
 returns-2 : tie.Need-returns-2
 returns-2 c =
     let stored = after-write c in
@@ -93,10 +96,11 @@ returns-2 c =
     (publicStore-written (geometryOf (start .g)) (start .disk .now) (start .slot) (start .content .now)
     (start .choice) (placed .slot-start .result .0) (told .enum-told2 .given .1)
     (placed .slot-start .ensures))
-    (stored .store-block .ensures)
+    (stored .store-through .ensures)
 
 pub store-public-spec : {M : Type 1} → statement M
 store-public-spec =
     tie.close
-    (tie.spec slot-start-requires enum-told store-changed-requires enum-told-2 store-block-requires
-    same-length same-length-2 same-length-3 returns same-length-4 same-length-5 returns-2)
+    (tie.spec slot-start-requires enum-told store-changed-requires enum-told-2 store-through-requires
+    same-length same-length-2 same-length-3 returns same-length-4 same-length-5 same-length-6
+    returns-2)

@@ -2,4 +2,5 @@ pub mod Branches
 pub mod Steps
 pub mod Answers
 pub mod Trees
-pub mod Paths
+pub mod Nodes
+pub mod Walks

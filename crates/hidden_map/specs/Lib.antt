@@ -1,3 +1,4 @@
 pub mod Ends
 pub mod Trees
-pub mod Paths
+pub mod Nodes
+pub mod Walks

@@ -1,6 +1,9 @@
 // The walk for a hidden number, from the root down, each step to the level below.
 use crate::branches::branch_at;
 use crate::branches::is_well_formed;
+use crate::nodes::Nodes;
+use crate::nodes::no_nodes;
+use crate::nodes::with_node;
 use layout::entries::entry_at;
 use layout::geometry::Geometry;
 use layout::geometry::area_start;
@@ -11,10 +14,10 @@ ghost use Prim.Native.Nat.{_<_};
 ghost use Rattle.model.specs.Geometry as model;
 ghost use Rattle.model.specs.Blocks.{blockAt};
 ghost use Rattle.model.specs.Layout.{Drive};
-ghost use Rattle.model.specs.HiddenTree as tree;
 ghost use Rattle.layout.specs.Geometries.{geometryOf};
 ghost use Rattle.hidden_map.specs.Ends.{endOf, stepOf};
 ghost use Rattle.hidden_map.specs.Trees.{TreeOf, Walkable};
+ghost use Rattle.hidden_map.specs.Walks.{Stopped, WalkedFrom, Walked};
 
 // Where a walk, or one step of it, ends: at an address, at 0, or at an ill-formed entry.
 pub enum Reached {
@@ -23,8 +26,14 @@ pub enum Reached {
     Damaged,
 }
 
+// What a walk hands back, its trail: where it ended, and the nodes below the root that it read.
+pub struct Trail {
+    pub end: Reached,
+    pub nodes: Nodes,
+}
+
 // Where a number's entry of a level leads that stands in the node at an address.
-pub fn step(
+fn step(
     disk: &[u8],
     size: u32,
     height: u32,
@@ -50,8 +59,17 @@ pub fn step(
     Reached::Damaged
 }
 
-// Where the walk for a number ends, from the node at an address down, by the level of the entry that it takes
-// there.
+// The trail of a walk that ended in the node that it started from.
+fn stopped(end: Reached) -> Trail
+    ensures { λ r. ⌜ Stopped end r ⌝ }
+{
+    Trail {
+        end,
+        nodes: no_nodes(),
+    }
+}
+
+// The walk for a number from the node at an address down, by the level of the entry that it takes there.
 fn walk_from(
     disk: &[u8],
     size: u32,
@@ -61,27 +79,34 @@ fn walk_from(
     number: HiddenNumber,
     level: u32,
     address: DiskAddress,
-) -> Reached
+) -> Trail
     requires { ⌜ Walkable (now disk) size height (start .0) count ⌝ }
     requires { ⌜ (level < height) × (address .0 < count) ⌝ }
     ensures { λ r. ⌜ ((g : model.Geometry) → TreeOf g (now (disk .entry)) size height (start .0) count →
-        let node = blockAt (g .blockSize) (now (disk .entry)) (address .0) in
-        endOf r ≡ tree.walkFrom g (now (disk .entry)) (number .0) level node .end) ⌝ }
+        WalkedFrom g (now (disk .entry)) (number .0) level
+        (blockAt (g .blockSize) (now (disk .entry)) (address .0)) r) ⌝ }
 {
     let next = step(disk, size, height, start, count, number, level, address);
     if level == 0 {
-        return next;
+        return stopped(next);
     }
     let Reached::Found(node) = next else {
-        return next;
+        return stopped(next);
     };
-    walk_from(disk, size, height, start, count, number, level - 1, node)
+    let below = level - 1;
+    let rest = walk_from(disk, size, height, start, count, number, below, node);
+    let end = rest.end;
+    let nodes = rest.nodes;
+    Trail {
+        end,
+        nodes: with_node(nodes, level, node),
+    }
 }
 
-// Where the walk for a number ends, from the root.
-pub fn walk(disk: &[u8], g: Geometry, number: HiddenNumber) -> Reached
+// The walk for a number from the root.
+pub fn walk(disk: &[u8], g: Geometry, number: HiddenNumber) -> Trail
     requires { ⌜ Drive (geometryOf g) (now disk) ⌝ }
-    ensures { λ r. ⌜ endOf r ≡ tree.walk (geometryOf g) (now (disk .entry)) (number .0) .end ⌝ }
+    ensures { λ r. ⌜ Walked (geometryOf g) (now (disk .entry)) (number .0) r ⌝ }
 {
     let height = g.height;
     let start = area_start(g);

@@ -1,6 +1,6 @@
 -- Laws of a step of the walk: its three ways, and what a walk is by its first step, at the leaf, where it
 -- stops and where it goes on. Assumes nothing.
-use mathlib.Core.Path.{_≡_, refl}
+use mathlib.Core.Path.{_≡_, refl, sym}
 use mathlib.Core.Logic.{_≢_}
 use mathlib.Core.Bool.{Bool, true, false, cond}
 use Prim.Native.Nat.{ℕ, zero, suc, _-_, _<_}
@@ -36,6 +36,22 @@ module _ (g : Geometry) (number level : ℕ) (node : Bytes) (entry : DiskAddress
     pub stepOf-damaged : isFormed ≡ false → damaged ≡ stepOf g number level node
     unfolding stepOf
     stepOf-damaged p = rw (← e, ne-eqb entry 0 some, ← f, p)
+
+-- a step that leads somewhere leads to a well-formed address
+pub stepOf-formed :
+    (g : Geometry) (number level : ℕ) (node : Bytes) (address : DiskAddress) →
+    found address ≡ stepOf g number level node → isWellFormed g level address ≡ true
+unfolding stepOf
+stepOf-formed g number level node address e =
+    let entry = entryAt (branchAt g number level) node in
+    by (eqb entry 0) (isWellFormed g level entry) entry refl e
+  where
+    by : (isZero isFormed : Bool) (entry : DiskAddress) → isFormed ≡ isWellFormed g level entry →
+        found address ≡ cond isZero unmapped (cond isFormed (found entry) damaged) →
+        isWellFormed g level address ≡ true
+    by true isFormed entry f h = absurd (let z : _≡_ {A = ℕ} 0 1 = cc in omega arith)
+    by false true entry f h = let same : address ≡ entry = cc in rw same (sym f)
+    by false false entry f h = absurd (let z : _≡_ {A = ℕ} 0 1 = cc in omega arith)
 
 -- ---- a walk by its first step ----
 

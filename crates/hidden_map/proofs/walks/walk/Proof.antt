@@ -1,13 +1,11 @@
 -- `hidden_map::walks::walk` meets its contract: the numbers that it hands on are those of its geometry.
 -- Assumes nothing.
-use mathlib.Core.Path.{ap, _∙_}
-use Prim.Native.Nat.{ℕ, _-_}
+use Prim.Native.Nat.{_-_}
 use native.Mathlib.Omega.{arith}
 use borrow.Author.Needs.{needs}
-use Rattle.model.specs.Blocks.{blockAt}
-use Rattle.model.specs.HiddenTree.{walkFrom}
 use Rattle.layout.specs.Geometries.{geometryOf}
 use Rattle.hidden_map.proofs.Laws.Trees.{treeOf-drive, walkable-drive, root-is, root-inside}
+use Rattle.hidden_map.proofs.Laws.Walks.{walked-root}
 use Rattle.hidden_map.proofs.walks.walk.Statement.{statement}
 use Rattle.hidden_map.proofs.walks.walk.Tie as tie
 
@@ -45,11 +43,11 @@ returns : tie.Need-returns
 returns c =
     let s = at-start (c .before .before) in
     let g = geometryOf (s .args .g) in
+    let disk = s .args .disk .now in
     let start = c .before .before .before .before .area-start in
-    c .walk-from .ensures g (treeOf-drive g (s .args .disk .now) (s .pre) (start .result .0) (start .ensures))
-    ∙ ap (λ (n : ℕ). walkFrom g (s .args .disk .now) (s .args .number .0) (g .height - 1)
-    (blockAt (g .blockSize) (s .args .disk .now) n) .end)
-    (root-is g (s .args .disk .now) (s .pre) (start .result .0) (start .ensures))
+    walked-root g disk (s .args .number .0) (start .result .0 - 1) (c .walk-from .result)
+    (root-is g disk (s .pre) (start .result .0) (start .ensures))
+    (c .walk-from .ensures g (treeOf-drive g disk (s .pre) (start .result .0) (start .ensures)))
 
 pub walk-spec : {M : Type 1} → statement M
 walk-spec =

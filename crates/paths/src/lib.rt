@@ -1,22 +1,23 @@
-// The four kinds of hidden half, each with the root: the blocks written back, random bytes, a path with given
-// data, a path with the slot's own. Disk and list are changed through the functions of `stores` alone.
+// The kinds of hidden half, each with the root: the blocks written back, random bytes, a path with the slot's
+// own data or with what is offered. Disk and list are changed through the functions of `stores` alone.
+use hidden_map::branches::branch_at;
+use hidden_map::nodes::Nodes;
 use layout::geometry::Geometry;
 use layout::geometry::root_address;
 use layout::geometry::slot_start;
 use layout::numbers::DiskAddress;
 use layout::numbers::HiddenNumber;
-use slot_blocks::nodes::store_linked;
 use slot_blocks::nodes::store_nodes;
 use slot_blocks::runs::keep_blocks;
 use slot_blocks::runs::random_blocks;
 use slots::levels::level_address;
-use stores::blocks::store_block;
 use stores::blocks::store_changed;
+use stores::blocks::store_through;
 use stores::changes::Change;
 ghost use mathlib.Core.Path.{_≡_};
 ghost use mathlib.Core.List.{[], _∷_};
 ghost use Prim.Native.Nat.{_+_, _*_, _-_, _≤_, _<_};
-ghost use lib.ListN.{length, take};
+ghost use lib.ListN.{length};
 ghost use Rattle.model.specs.Geometry.{rootAddress};
 ghost use Rattle.model.specs.Blocks.{blockAt};
 ghost use Rattle.model.specs.Layout.{Drive, levelAddress};
@@ -24,7 +25,8 @@ ghost use Rattle.model.specs.Stores.{store};
 ghost use Rattle.model.specs.Paths.{linkedNode, pathStores, writtenBack, dummyStores};
 ghost use Rattle.layout.specs.Geometries.{geometryOf};
 ghost use Rattle.stores.specs.Made.{Made};
-ghost use Rattle.slot_blocks.specs.NodeBlocks.{blocksIn};
+ghost use Rattle.hidden_map.specs.Nodes.{addressAt, pathBlocks, Placed};
+ghost use Rattle.paths.specs.Data.{dataOf};
 
 // ---- written back, and random bytes ----
 
@@ -93,7 +95,40 @@ pub fn fill_random(
 
 // ---- a path ----
 
-// Stores the root, the first of the nodes, leading to the slot.
+// The data that a path is stored with: the slot's own, kept, or what is offered.
+pub enum Data {
+    Own,
+    Offered,
+}
+
+// Stores a slot's data: its own as it is, or what is offered. The block is a buffer.
+fn store_data(
+    disk: &mut [u8],
+    list: &mut [u32],
+    next: usize,
+    g: Geometry,
+    slot: u32,
+    data: Data,
+    content: &[u8],
+    block: &mut [u8],
+) -> usize
+    requires { ⌜ Drive (geometryOf g) (now disk) ⌝ }
+    requires { ⌜ slot < g .slots ⌝ }
+    requires { ⌜ length (now content) ≡ geometryOf g .blockSize ⌝ }
+    requires { ⌜ length (now block) ≡ geometryOf g .blockSize ⌝ }
+    requires { ⌜ next < length (now list) ⌝ }
+    ensures { λ r. ⌜ Made (geometryOf g .blockSize) (store (levelAddress (geometryOf g) slot 0)
+        (dataOf «data» (geometryOf g) (now (disk .entry)) slot (now (content .entry))) ∷ [])
+        (now (disk .entry)) (now (list .entry)) next (now (disk .exit)) (now (list .exit)) r ⌝ }
+{
+    let address = level_address(g, slot, 0);
+    match data {
+        Data::Own => store_changed(disk, list, next, g, address, Change::Nothing, block),
+        Data::Offered => store_through(disk, list, next, g, address, content, block),
+    }
+}
+
+// Stores the root with a number's entry leading to a slot. The block is a buffer.
 fn store_root(
     disk: &mut [u8],
     list: &mut [u32],
@@ -101,36 +136,34 @@ fn store_root(
     g: Geometry,
     number: HiddenNumber,
     slot: u32,
-    nodes: &[u8],
     block: &mut [u8],
 ) -> usize
     requires { ⌜ Drive (geometryOf g) (now disk) ⌝ }
     requires { ⌜ slot < g .slots ⌝ }
-    requires { ⌜ length (now nodes) ≡ geometryOf g .height * geometryOf g .blockSize ⌝ }
     requires { ⌜ length (now block) ≡ geometryOf g .blockSize ⌝ }
     requires { ⌜ next < length (now list) ⌝ }
     ensures { λ r. ⌜ Made (geometryOf g .blockSize) (store (rootAddress (geometryOf g)) (linkedNode
         (geometryOf g) (number .0) slot (geometryOf g .height - 1)
-        (take (geometryOf g .blockSize) (now (nodes .entry)))) ∷ []) (now (disk .entry)) (now (list .entry))
-        next (now (disk .exit)) (now (list .exit)) r ⌝ }
+        (blockAt (geometryOf g .blockSize) (now (disk .entry)) (rootAddress (geometryOf g)))) ∷ [])
+        (now (disk .entry)) (now (list .entry)) next (now (disk .exit)) (now (list .exit)) r ⌝ }
 {
-    let width = g.block_size as usize;
     let top = g.height - 1;
-    store_linked(
+    let root = root_address(g);
+    let below = level_address(g, slot, top);
+    let branch = branch_at(g.block_size, number, top);
+    store_changed(
         disk,
         list,
         next,
         g,
-        number,
-        slot,
-        top,
-        root_address(g),
-        &nodes[..width],
+        root,
+        Change::Entry(branch, below.0),
         block,
     )
 }
 
-// Stores a path in a slot with the data given. The nodes stand one after another, the root first.
+// Stores a number's path in a slot: its nodes, read where the walk read them, the data, the root. The block
+// is a buffer.
 pub fn store_path(
     disk: &mut [u8],
     list: &mut [u32],
@@ -138,56 +171,23 @@ pub fn store_path(
     g: Geometry,
     number: HiddenNumber,
     slot: u32,
+    nodes: Nodes,
+    data: Data,
     content: &[u8],
-    nodes: &[u8],
     block: &mut [u8],
 ) -> usize
     requires { ⌜ Drive (geometryOf g) (now disk) ⌝ }
     requires { ⌜ slot < g .slots ⌝ }
+    requires { ⌜ Placed (geometryOf g) (addressAt nodes) ⌝ }
     requires { ⌜ length (now content) ≡ geometryOf g .blockSize ⌝ }
-    requires { ⌜ length (now nodes) ≡ geometryOf g .height * geometryOf g .blockSize ⌝ }
     requires { ⌜ length (now block) ≡ geometryOf g .blockSize ⌝ }
     requires { ⌜ next + geometryOf g .height + 1 ≤ length (now list) ⌝ }
     ensures { λ r. ⌜ Made (geometryOf g .blockSize) (pathStores (geometryOf g) (number .0) slot
-        (now (content .entry))
-        (blocksIn (geometryOf g .blockSize) (geometryOf g .height) (now (nodes .entry))))
+        (dataOf «data» (geometryOf g) (now (disk .entry)) slot (now (content .entry)))
+        (pathBlocks (geometryOf g) (now (disk .entry)) (addressAt nodes)))
         (now (disk .entry)) (now (list .entry)) next (now (disk .exit)) (now (list .exit)) r ⌝ }
 {
     let at = store_nodes(disk, list, next, g, number, slot, nodes, block);
-    let then = store_block(disk, list, at, g, level_address(g, slot, 0), content);
-    store_root(disk, list, then, g, number, slot, nodes, block)
-}
-
-// Stores a path in a slot with the slot's own data kept. The nodes stand one after another, the root first.
-pub fn keep_path(
-    disk: &mut [u8],
-    list: &mut [u32],
-    next: usize,
-    g: Geometry,
-    number: HiddenNumber,
-    slot: u32,
-    nodes: &[u8],
-    block: &mut [u8],
-) -> usize
-    requires { ⌜ Drive (geometryOf g) (now disk) ⌝ }
-    requires { ⌜ slot < g .slots ⌝ }
-    requires { ⌜ length (now nodes) ≡ geometryOf g .height * geometryOf g .blockSize ⌝ }
-    requires { ⌜ length (now block) ≡ geometryOf g .blockSize ⌝ }
-    requires { ⌜ next + geometryOf g .height + 1 ≤ length (now list) ⌝ }
-    ensures { λ r. ⌜ Made (geometryOf g .blockSize) (pathStores (geometryOf g) (number .0) slot
-        (blockAt (geometryOf g .blockSize) (now (disk .entry)) (levelAddress (geometryOf g) slot 0))
-        (blocksIn (geometryOf g .blockSize) (geometryOf g .height) (now (nodes .entry))))
-        (now (disk .entry)) (now (list .entry)) next (now (disk .exit)) (now (list .exit)) r ⌝ }
-{
-    let at = store_nodes(disk, list, next, g, number, slot, nodes, block);
-    let then = store_changed(
-        disk,
-        list,
-        at,
-        g,
-        level_address(g, slot, 0),
-        Change::Nothing,
-        block,
-    );
-    store_root(disk, list, then, g, number, slot, nodes, block)
+    let then = store_data(disk, list, at, g, slot, data, content, block);
+    store_root(disk, list, then, g, number, slot, block)
 }

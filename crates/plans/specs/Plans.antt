@@ -1,45 +1,71 @@
--- What is settled before a round's slot is stored: whether damage stops its hidden half, and the plan of both
--- halves.
--- Assumes nothing.
+-- What is settled before a round's slot is stored: the plan of both halves. Assumes nothing.
 use mathlib.Core.Path.{_≡_}
-use mathlib.Core.Bool.{Bool, true, false, not, _&&_, _||_}
+use mathlib.Core.Bool.{true, false, cond}
 use Prim.Native.Nat.{ℕ}
 use Rattle.model.specs.Geometry.{Geometry}
 use Rattle.model.specs.Blocks.{Bytes}
-use Rattle.model.specs.HiddenTree.{walk, isDamaged}
+use Rattle.model.specs.HiddenTree.{isDamaged}
 use Rattle.model.specs.HiddenHalf.{half, rowOf, hiddenHalf}
-use Rattle.hidden_map.specs.Paths.{joined}
+use Rattle.layout.specs.declared.numbers.HiddenNumber.{HiddenNumber}
+use Rattle.hidden_map.specs.declared.walks.Trail.{Trail}
+use Rattle.hidden_map.specs.Ends.{endOf}
+use Rattle.hidden_map.specs.Walks.{Walked}
+use Rattle.table.specs.declared.HiddenChoice.{HiddenChoice}
+use Rattle.table.specs.declared.HiddenChoice.the-variants.{Keep, Place, Fill}
 use Rattle.table.specs.Rows.{publicOf}
-use Rattle.slots.specs.declared.statuses.Status.{Status}
-use Rattle.slots.specs.Statuses.{isLiveStatus, isDamagedStatus}
-use Rattle.slot_blocks.specs.NodeBlocks.{blocksIn}
-use Rattle.hidden_half.specs.Plans.{hiddenTrace}
+use Rattle.slots.specs.declared.owners.Owner.{Owner}
+use Rattle.slots.specs.declared.owners.Owner.the-variants.{Nobody, Number}
+use Rattle.slots.specs.Owners.{isDamagedFor}
+use Rattle.paths.specs.declared.Data.the-variants.{Own, Offered}
+use Rattle.hidden_half.specs.declared.halves.Plan.{Plan}
+use Rattle.hidden_half.specs.declared.halves.Plan.the-variants as plan
+use Rattle.hidden_half.specs.Plans.{hiddenTrace, PathPlaced}
+use Rattle.plans.specs.declared.states.Offer.the-variants.{Placed}
 use Rattle.plans.specs.declared.states.State.{State}
 use Rattle.plans.specs.declared.plans.Plans.{Plans}
 use Rattle.plans.specs.States.{stateOf}
 
--- whether damage stops a slot of this status, and what the bytes that held its owner's path hold then
-pub record Hindered (status : Status) (g : Geometry) (disk : Bytes) (isWaiting : Bool) (number : ℕ)
-    (answer : Bool)
-    (before after : Bytes) : Type 0 where
-  pub decided :
-      answer ≡ (isDamagedStatus status || not (isLiveStatus status) &&
-      (isWaiting && isDamaged (walk g disk number .end)))
-  pub live-kept : isLiveStatus status ≡ true → after ≡ before
-  pub next-read :
-      isLiveStatus status ≡ false → answer ≡ false → isWaiting ≡ true → after ≡
-      joined (walk g disk number .nodes)
+-- ---- the hidden half ----
 
--- the public choice is the table's, and the plan with the nodes read is the hidden half, whatever is offered
--- or random
-pub record Planned (g : Geometry) (disk : Bytes) (slot : ℕ) (state : State) (number : ℕ) (plans : Plans)
-    (nodes : Bytes) : Type 0 where
+-- the owner's path with the slot's own data
+abbrev pub keptPlan : Owner → Plan
+keptPlan Nobody = plan.Fill
+keptPlan (Number own trail) = plan.Path own (trail .nodes) Own
+
+-- a number's path with what is offered, unless its walk is damaged
+abbrev pub placedPlan : HiddenNumber → Trail → Plan
+placedPlan number trail =
+    cond (isDamaged (endOf (trail .end))) plan.Back (plan.Path number (trail .nodes) Offered)
+
+-- the plan by the table's choice; what is placed has the nodes of the number's own walk
+abbrev pub PlannedBy : HiddenChoice → Geometry → (disk : Bytes) → Owner → HiddenNumber → Plan → Type 0
+PlannedBy Keep g disk owner number hidden = hidden ≡ keptPlan owner
+PlannedBy Place g disk owner number hidden =
+    (trail : Trail) × (Walked g disk (number .0) trail × (hidden ≡ placedPlan number trail))
+PlannedBy Fill g disk owner number hidden = hidden ≡ plan.Fill
+
+-- and where the owner's walk is damaged the slot is written back
+pub record HalfPlanned (g : Geometry) (disk : Bytes) (choice : HiddenChoice) (owner : Owner)
+    (number : HiddenNumber) (hidden : Plan) : Type 0 where
+  pub stopped : isDamagedFor owner ≡ true → hidden ≡ plan.Back
+  pub chosen : isDamagedFor owner ≡ false → PlannedBy choice g disk owner number hidden
+
+abbrev pub stateAfter : State → Plan → State
+stateAfter state plan.Back = record { offer = state .offer; «met_damage» = true }
+stateAfter state (plan.Path number nodes Own) = state
+stateAfter state (plan.Path number nodes Offered) =
+    record { offer = Placed; «met_damage» = state .«met_damage» }
+stateAfter state plan.Fill = state
+
+-- ---- the round ----
+
+-- the public choice is the table's, and the plan is the hidden half, whatever is offered or random
+pub record Planned (g : Geometry) (disk : Bytes) (slot : ℕ) (state : State) (number : ℕ) (plans : Plans) :
+    Type 0 where
   pub chosen : (content : Bytes) → publicOf (plans .public) ≡
       rowOf g disk slot (stateOf state number content .waiting) .public
   pub half-is :
       (content random : Bytes) →
       hiddenHalf g disk slot random (stateOf state number content) ≡
-      half
-      (hiddenTrace (plans .hidden) g disk slot number content random
-      (blocksIn (g .blockSize) (g .height) nodes))
-      (stateOf (plans .after) number content)
+      half (hiddenTrace (plans .hidden) g disk slot content random) (stateOf (plans .after) number content)
+  pub placed : PathPlaced g (plans .hidden)

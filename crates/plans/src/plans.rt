@@ -1,25 +1,31 @@
-// What a round is to do with its slot, all of it read before the slot is stored.
+// What a round is to do with its slot, all of it read before the slot is stored: one walk for the slot's
+// owner, and one for the waiting number where that is another.
 use crate::states::Offer;
 use crate::states::State;
 use crate::states::is_waiting;
 use hidden_half::halves::Plan;
+use hidden_map::ends::is_damaged;
+use hidden_map::walks::Trail;
+use hidden_map::walks::walk;
 use layout::bitmap::is_allocated;
 use layout::geometry::Geometry;
 use layout::numbers::HiddenNumber;
-use slots::statuses::Status;
-use slots::statuses::next_damaged;
-use slots::statuses::owner_of;
-use slots::statuses::slot_status;
+use paths::Data;
+use slots::owners::Owner;
+use slots::owners::is_live;
+use slots::owners::is_owner_damaged;
+use slots::owners::owner_of;
+use slots::owners::walk_owner;
 use table::HiddenChoice;
 use table::PublicChoice;
 use table::row_at;
 ghost use mathlib.Core.Path.{_≡_};
-ghost use Prim.Native.Nat.{_*_, _<_};
-ghost use lib.ListN.{length};
+ghost use Prim.Native.Nat.{_<_};
 ghost use Rattle.model.specs.Layout.{Drive};
 ghost use Rattle.layout.specs.Geometries.{geometryOf};
-ghost use Rattle.slots.specs.Statuses.{isLiveStatus};
-ghost use Rattle.plans.specs.Plans.{Hindered, Planned};
+ghost use Rattle.hidden_map.specs.Walks.{Walked};
+ghost use Rattle.slots.specs.Owners.{OwnWalked};
+ghost use Rattle.plans.specs.Plans.{keptPlan, placedPlan, stateAfter, HalfPlanned, Planned};
 
 // The choice for the public block, the plan of the hidden half, and the state of the offer after the round.
 pub struct Plans {
@@ -28,97 +34,118 @@ pub struct Plans {
     pub after: State,
 }
 
-// Whether a slot holds its owner's current block.
-fn is_live(status: Status) -> bool
-    ensures { λ r. ⌜ r ≡ isLiveStatus status ⌝ }
-{
-    match status {
-        Status::Live(_) => true,
-        Status::Damaged => false,
-        Status::Stale => false,
-    }
-}
+// ---- the hidden half ----
 
-// Whether damage stops the hidden half: the owner's walk, or for a slot that is not live the waiting
-// number's, whose nodes are then read.
-fn is_blocked(
-    disk: &[u8],
-    g: Geometry,
-    status: Status,
-    waiting: bool,
-    number: HiddenNumber,
-    nodes: &mut [u8],
-) -> bool
+// The walk for a number: that of the slot's owner, where the owner is this number, else one of its own.
+fn next_trail(disk: &[u8], g: Geometry, owner: Owner, number: HiddenNumber) -> Trail
     requires { ⌜ Drive (geometryOf g) (now disk) ⌝ }
-    requires { ⌜ length (now nodes) ≡ geometryOf g .height * geometryOf g .blockSize ⌝ }
-    ensures { λ r. ⌜ Hindered status (geometryOf g) (now (disk .entry)) waiting (number .0) r
-        (now (nodes .entry)) (now (nodes .exit)) ⌝ }
+    requires { ⌜ OwnWalked (geometryOf g) (now disk) owner ⌝ }
+    ensures { λ r. ⌜ Walked (geometryOf g) (now (disk .entry)) (number .0) r ⌝ }
 {
-    match status {
-        Status::Live(_) => false,
-        Status::Damaged => true,
-        Status::Stale => {
-            if waiting {
-                return next_damaged(disk, g, number, nodes);
+    match owner {
+        Owner::Nobody => walk(disk, g, number),
+        Owner::Number(own, trail) => {
+            if own.0 == number.0 {
+                return trail;
             }
-            false
+            walk(disk, g, number)
         }
     }
 }
 
-// What a round at a slot is to do, by the table's row, or the slot's hidden blocks written back where damage
-// stops it. The nodes of the path that is to be stored are read.
-pub fn plan_round(
+// The plan for a slot that is kept: its owner's path with the slot's own data. Nobody's slot is not kept.
+fn plan_kept(owner: Owner) -> Plan
+    ensures { λ r. ⌜ r ≡ keptPlan owner ⌝ }
+{
+    match owner {
+        Owner::Nobody => Plan::Fill,
+        Owner::Number(own, trail) => {
+            let nodes = trail.nodes;
+            Plan::Path(own, nodes, Data::Own)
+        }
+    }
+}
+
+// The plan for a number that is placed: its path with what is offered, or the slot written back where its
+// walk is damaged.
+fn plan_placed(number: HiddenNumber, trail: Trail) -> Plan
+    ensures { λ r. ⌜ r ≡ placedPlan number trail ⌝ }
+{
+    let end = trail.end;
+    let nodes = trail.nodes;
+    if is_damaged(end) {
+        return Plan::Back;
+    }
+    Plan::Path(number, nodes, Data::Offered)
+}
+
+// The plan for a slot's hidden half by the table's choice, or the slot written back where its owner's walk is
+// damaged.
+fn plan_half(
     disk: &[u8],
     g: Geometry,
-    slot: u32,
-    state: State,
+    choice: HiddenChoice,
+    owner: Owner,
     number: HiddenNumber,
-    nodes: &mut [u8],
-) -> Plans
+) -> Plan
     requires { ⌜ Drive (geometryOf g) (now disk) ⌝ }
-    requires { ⌜ slot < g .slots ⌝ }
-    requires { ⌜ length (now nodes) ≡ geometryOf g .height * geometryOf g .blockSize ⌝ }
-    ensures { λ r. ⌜ Planned (geometryOf g) (now (disk .entry)) slot state (number .0) r
-        (now (nodes .exit)) ⌝ }
+    requires { ⌜ OwnWalked (geometryOf g) (now disk) owner ⌝ }
+    ensures { λ r. ⌜ HalfPlanned (geometryOf g) (now (disk .entry)) choice owner number r ⌝ }
+{
+    if is_owner_damaged(owner) {
+        return Plan::Back;
+    }
+    match choice {
+        HiddenChoice::Keep => plan_kept(owner),
+        HiddenChoice::Place => plan_placed(number, next_trail(disk, g, owner, number)),
+        HiddenChoice::Fill => Plan::Fill,
+    }
+}
+
+// The state of the offer after a round with this plan.
+fn state_after(state: State, plan: Plan) -> State
+    ensures { λ r. ⌜ r ≡ stateAfter state plan ⌝ }
 {
     let offer = state.offer;
-    let waiting = is_waiting(offer);
-    let status = slot_status(disk, g, slot, nodes);
-    let row = row_at(waiting, is_allocated(disk, g, slot), is_live(status));
-    let public = row.public;
-    let hidden = row.hidden;
-    if is_blocked(disk, g, status, waiting, number, nodes) {
-        return Plans {
-            public,
-            hidden: Plan::Back,
-            after: State {
-                offer,
-                met_damage: true,
-            },
-        };
-    }
-    match hidden {
-        HiddenChoice::Keep => {
-            let owner = owner_of(disk, g, slot);
-            Plans {
-                public,
-                hidden: Plan::Keep(owner),
-                after: state,
-            }
-        }
-        HiddenChoice::Place => Plans {
-            public,
-            hidden: Plan::Place,
-            after: State {
+    match plan {
+        Plan::Back => State {
+            offer,
+            met_damage: true,
+        },
+        Plan::Path(_, _, data) => match data {
+            Data::Own => state,
+            Data::Offered => State {
                 offer: Offer::Placed,
                 met_damage: state.met_damage,
             },
         },
-        HiddenChoice::Fill => Plans {
-            public,
-            hidden: Plan::Fill,
-            after: state,
-        },
+        Plan::Fill => state,
+    }
+}
+
+// ---- the round ----
+
+// What a round at a slot is to do, by the table's row.
+pub fn plan_round(disk: &[u8], g: Geometry, slot: u32, state: State, number: HiddenNumber) -> Plans
+    requires { ⌜ Drive (geometryOf g) (now disk) ⌝ }
+    requires { ⌜ slot < g .slots ⌝ }
+    ensures { λ r. ⌜ Planned (geometryOf g) (now (disk .entry)) slot state (number .0) r ⌝ }
+{
+    let offer = state.offer;
+    let waiting = is_waiting(offer);
+    let own = owner_of(disk, g, slot);
+    let owner = walk_owner(disk, g, own);
+    let row = row_at(
+        waiting,
+        is_allocated(disk, g, slot),
+        is_live(g, slot, owner),
+    );
+    let public = row.public;
+    let choice = row.hidden;
+    let hidden = plan_half(disk, g, choice, owner, number);
+    Plans {
+        public,
+        hidden,
+        after: state_after(state, hidden),
     }
 }

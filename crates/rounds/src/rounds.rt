@@ -10,7 +10,7 @@ use plans::states::State;
 use public_half::public_block::store_public;
 use table::PublicChoice;
 ghost use mathlib.Core.Path.{_≡_};
-ghost use Prim.Native.Nat.{_+_, _*_, _≤_};
+ghost use Prim.Native.Nat.{_+_, _≤_};
 ghost use lib.ListN.{length};
 ghost use Rattle.model.specs.Rounds.{goesOn};
 ghost use Rattle.layout.specs.Geometries.{geometryOf};
@@ -35,7 +35,7 @@ fn is_kept(choice: PublicChoice) -> bool
     }
 }
 
-// A round at a slot. The nodes and the block are buffers.
+// A round at a slot. The block is a buffer.
 pub fn do_round(
     disk: &mut [u8],
     list: &mut [u32],
@@ -48,11 +48,9 @@ pub fn do_round(
     state: State,
     offered: HiddenNumber,
     hidden: &[u8],
-    nodes: &mut [u8],
     block: &mut [u8],
 ) -> Step
     requires { ⌜ Ready (geometryOf g) (now disk) (number .0) slot (now content) (now random) (now hidden) ⌝ }
-    requires { ⌜ length (now nodes) ≡ geometryOf g .height * geometryOf g .blockSize ⌝ }
     requires { ⌜ length (now block) ≡ geometryOf g .blockSize ⌝ }
     requires { ⌜ next + length (roundAt (geometryOf g) (now disk) (number .0) slot (now content)
         (now random) (stateOf state (offered .0) (now hidden))) ≤ length (now list) ⌝ }
@@ -60,24 +58,12 @@ pub fn do_round(
         (now (content .entry)) (now (random .entry)) state (offered .0) (now (hidden .entry))
         (now (disk .exit)) (now (list .exit)) r ⌝ }
 {
-    let plans = plan_round(disk, g, slot, state, offered, nodes);
+    let plans = plan_round(disk, g, slot, state, offered);
     let public = plans.public;
     let plan = plans.hidden;
     let after = plans.after;
     let first = store_public(disk, list, next, g, slot, public, content, block);
-    let second = store_hidden(
-        disk,
-        list,
-        first,
-        g,
-        slot,
-        plan,
-        offered,
-        hidden,
-        random,
-        nodes,
-        block,
-    );
+    let second = store_hidden(disk, list, first, g, slot, plan, hidden, random, block);
     let last = store_ending(disk, list, second, g, number, slot, public, block);
     Step {
         next: last,

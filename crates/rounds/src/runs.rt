@@ -5,7 +5,6 @@ use layout::numbers::HiddenNumber;
 use layout::numbers::PublicNumber;
 use plans::states::State;
 ghost use mathlib.Core.Path.{_≡_};
-ghost use Prim.Native.Nat.{_*_};
 ghost use lib.ListN.{length};
 ghost use Rattle.model.specs.Rounds.{runFrom};
 ghost use Rattle.layout.specs.Geometries.{geometryOf};
@@ -32,13 +31,11 @@ pub fn do_rounds(
     state: State,
     offered: HiddenNumber,
     hidden: &[u8],
-    nodes: &mut [u8],
     block: &mut [u8],
 ) -> Ran
     requires { ⌜ Runnable (geometryOf g) (now disk) (number .0) head (now content) (now random) (now hidden)
         (runFrom (geometryOf g .slots) (geometryOf g) (number .0) (now content) head (now random) (now disk)
         (stateOf state (offered .0) (now hidden))) next (length (now list)) ⌝ }
-    requires { ⌜ length (now nodes) ≡ geometryOf g .height * geometryOf g .blockSize ⌝ }
     requires { ⌜ length (now block) ≡ geometryOf g .blockSize ⌝ }
     ensures { λ r. ⌜ RunMade (geometryOf g) (now (disk .entry)) (now (list .entry)) next (runFrom
         (geometryOf g .slots) (geometryOf g) (number .0) (now (content .entry)) head (now (random .entry))
@@ -65,7 +62,6 @@ pub fn do_rounds(
             reached,
             offered,
             hidden,
-            nodes,
             block,
         );
         at = step.next;
@@ -87,7 +83,7 @@ pub fn do_rounds(
     }
 }
 
-// The rounds of a write from the head on, with buffers of its own; the stores are entered from the front of
+// The rounds of a write from the head on, with a buffer of its own; the stores are entered from the front of
 // the list.
 pub fn run_write(
     disk: &mut [u8],
@@ -110,8 +106,6 @@ pub fn run_write(
         (now (hidden .entry)) (now (disk .exit)) (now (list .exit)) r ⌝ }
 {
     let size = g.block_size as usize;
-    let bytes = (g.height as usize) * size;
-    let mut nodes = [0u8; 16384];
     let mut block = [0u8; 4096];
     do_rounds(
         disk,
@@ -125,7 +119,6 @@ pub fn run_write(
         state,
         offered,
         hidden,
-        &mut nodes[..bytes],
         &mut block[..size],
     )
 }

@@ -1,4 +1,3 @@
 pub mod Loops
 pub mod Runs
-pub mod NodeBlocks
 pub mod Nodes

@@ -1,42 +1,37 @@
--- Laws of the hidden half's stores made one after another: what a run of addresses leaves as it was, and the
--- blocks written back, random blocks and a path, each ended by the root. Assumes nothing.
+-- Laws of the hidden half's stores made one after another: the blocks written back, random blocks and a path,
+-- each ended by the root. Assumes nothing.
 use mathlib.Core.Path.{_≡_, refl, sym, ap, _∙_, subst}
-use mathlib.Core.Logic.{_≢_, _⊎_, inl, inr}
-use mathlib.Core.List.{List, [], _∷_, _++_}
+use mathlib.Core.Logic.{_⊎_, inl, inr}
+use mathlib.Core.List.{List, [], _∷_, _++_, append-assoc}
+use mathlib.Core.Option.{Option}
 use Prim.Native.Nat.{ℕ, suc, _+_, _*_, _-_, _≤_, _<_}
-use native.Mathlib.Nat.{suc-mul}
 use native.Mathlib.Omega.{arith}
-use lib.ListN.{length, take, drop, length-drop}
+use lib.ListN.{length}
+use Rattle.laws.proofs.Members.{all-append}
 use Rattle.model.specs.Geometry.{Geometry, Fits, rootAddress, blockCount}
-use Rattle.model.specs.Blocks.{Bytes, DiskAddress, blockAt}
+use Rattle.model.specs.Blocks.{Bytes, DiskAddress, blockAt, setEntry}
 use Rattle.model.specs.Layout.{Drive, slotStart, levelAddress}
+use Rattle.model.specs.HiddenTree.{branchAt}
 use Rattle.model.specs.Stores.{Trace, store, addresses}
-use Rattle.model.specs.Paths.{linkedNode, nodeStores, pathStores, keptBlock, keptBlocks, writtenBack}
+use Rattle.model.specs.Paths.{linkedNode, pathStores, keptBlock, keptBlocks, writtenBack}
 use Rattle.model.specs.Paths.{randomBlocks, dummyStores}
 use Rattle.model.specs.Simulator.{addressesFrom}
 use Rattle.model.proofs.Laws.Geometry.{slot-block-lt}
-use Rattle.model.proofs.Laws.Stores.{All, length-addresses}
+use Rattle.model.proofs.Laws.Blocks.{length-blockAt}
+use Rattle.model.proofs.Laws.Stores.{addresses-append}
 use Rattle.model.proofs.Laws.Paths.{WholeStore, addresses-keptBlocks, addresses-randomBlocks}
-use Rattle.model.proofs.Laws.Paths.{addresses-nodeStores}
-use Rattle.model.proofs.Laws.Paths.{nodeStores-whole, randomBlocks-whole}
-use Rattle.model.proofs.Laws.RoundStores.{all-addressesFrom, stored-of-whole}
-use Rattle.model.proofs.Laws.RoundCounts.{length-addressesFrom}
+use Rattle.model.proofs.Laws.Paths.{addressesFrom-snoc, randomBlocks-whole}
 use Rattle.stores.specs.Made.{Made}
-use Rattle.stores.proofs.Laws.Made.{made-then, length-made-list, blockAt-made-outside}
-use Rattle.slot_blocks.specs.NodeBlocks.{blocksIn}
-use Rattle.slot_blocks.proofs.Laws.Runs.{apply-keptBlocks, made-same}
-use Rattle.slot_blocks.proofs.Laws.NodeBlocks.{length-blocksIn, blocksIn-whole, blocksIn-first}
+use Rattle.stores.proofs.Laws.Made.{made-then}
+use Rattle.hidden_map.specs.Nodes.{pathBlocks, Placed}
+use Rattle.hidden_map.proofs.Laws.Nodes.{length-nodeBlocks}
+use Rattle.slot_blocks.proofs.Laws.Runs.{apply-keptBlocks, made-same, Runs, length-run, blockAt-made-run}
+use Rattle.slot_blocks.proofs.Laws.Nodes.{lowestStores, lowest-run, linked-above}
+use Rattle.paths.specs.declared.Data.{Data}
+use Rattle.paths.specs.declared.Data.the-variants.{Own, Offered}
+use Rattle.paths.specs.Data.{dataOf}
 
--- ---- a run of addresses ----
-
--- so many stores of whole blocks, to an address and those after it
-record Runs (g : Geometry) (from count : ℕ) (trace : Trace) : Type 0 where
-  run : addresses trace ≡ addressesFrom from count
-  whole : All (WholeStore g) trace
-
-length-run : (from count : ℕ) (trace : Trace) → addresses trace ≡ addressesFrom from count →
-    length trace ≡ count
-length-run from count trace e = sym (length-addresses trace) ∙ ap length e ∙ length-addressesFrom from count
+-- ---- lengths ----
 
 pub length-keptBlocks :
     (g : Geometry) (disk : Bytes) (address count : ℕ) → length (keptBlocks g disk address count) ≡ count
@@ -48,25 +43,6 @@ pub length-randomBlocks :
 length-randomBlocks g address count random =
     length-run address count (randomBlocks g address count random)
     (addresses-randomBlocks g address count random)
-
--- a block before or after the run is as it was
-blockAt-made-run :
-    (g : Geometry) (from count : ℕ) {trace : Trace} {disk after : Bytes} {list entered : List DiskAddress}
-    {next last : ℕ} → Made (g .blockSize) trace disk list next after entered last → Drive g disk →
-    Runs g from count trace → from + count ≤ blockCount g → (address : DiskAddress) →
-    (address < from) ⊎ (from + count ≤ address) →
-    blockAt (g .blockSize) after address ≡ blockAt (g .blockSize) disk address
-blockAt-made-run g from count {trace = trace} made drive runs inside address outside =
-    blockAt-made-outside made (blockCount g) address (drive .whole)
-    (stored-of-whole g trace
-    (subst (All (λ (other : ℕ). other < blockCount g)) (sym (runs .run))
-    (all-addressesFrom (λ (other : ℕ). other < blockCount g) from count (λ i h. omega arith))) (runs .whole))
-    (subst (All (λ (other : ℕ). address ≢ other)) (sym (runs .run))
-    (all-addressesFrom (λ (other : ℕ). address ≢ other) from count (λ i h. apart outside i h)))
-  where
-    apart : (address < from) ⊎ (from + count ≤ address) → (i : ℕ) → i < count → address ≢ from + i
-    apart (inl l) i h e = omega arith
-    apart (inr l) i h e = omega arith
 
 -- ---- written back, and random bytes ----
 
@@ -131,102 +107,114 @@ module _ (g : Geometry) (slot start root : ℕ) {disk middle after : Bytes}
 
 -- ---- a path ----
 
--- all nodes below the root
-abbrev pub belowRoot : Geometry → (bytes : Bytes) → List Bytes
-belowRoot g bytes = blocksIn (g .blockSize) (g .height - 1) (drop (g .blockSize) bytes)
+-- the root, which is no leaf, takes one entry
+pub root-linked :
+    (g : Geometry) → Fits g → (number slot branch below : ℕ) (node : Bytes) →
+    branch ≡ branchAt g number (g .height - 1) → below ≡ levelAddress g slot (g .height - 1) →
+    setEntry branch below node ≡ linkedNode g number slot (g .height - 1) node
+root-linked g f number slot branch below node b e =
+    linked-above g number slot (g .height - 1) branch below node (setEntry branch below node) b e refl
+    (λ z. omega (arith, f .height-low))
 
-below-run :
-    (g : Geometry) (number slot : ℕ) (bytes : Bytes) →
-    addresses (nodeStores g number slot (belowRoot g bytes)) ≡
-    addressesFrom (slotStart g slot + 1) (g .height - 1)
-below-run g number slot bytes =
-    addresses-nodeStores g number slot (belowRoot g bytes)
-    ∙ ap (addressesFrom (slotStart g slot + 1))
-    (length-blocksIn (g .blockSize) (g .height - 1) (drop (g .blockSize) bytes))
+module _ (g : Geometry) (number slot : ℕ) (at : ℕ → Option DiskAddress) {disk low : Bytes}
+    {list listed : List DiskAddress} {next place : ℕ} (drive : Drive g disk) (inside : slot < g .slots)
+    (placed : Placed g at) (room : next + g .height + 1 ≤ length list)
+    (nodes : Made (g .blockSize) (lowestStores g number slot disk at (g .height - 1)) disk list next low
+    listed place) where
+  low-run : Runs g (slotStart g slot + 1) (g .height - 1) (lowestStores g number slot disk at (g .height - 1))
+  low-run = lowest-run g number slot disk at drive inside placed (g .height - 1)
 
-length-below :
-    (g : Geometry) (number slot : ℕ) (bytes : Bytes) →
-    length (nodeStores g number slot (belowRoot g bytes)) ≡ g .height - 1
-length-below g number slot bytes =
-    length-run (slotStart g slot + 1) (g .height - 1) (nodeStores g number slot (belowRoot g bytes))
-    (below-run g number slot bytes)
+  long-nodes : length (lowestStores g number slot disk at (g .height - 1)) ≡ g .height - 1
+  long-nodes =
+      length-run (slotStart g slot + 1) (g .height - 1)
+      (lowestStores g number slot disk at (g .height - 1)) (low-run .run)
 
--- after the nodes the list has places for the data and the root
-pub room-below :
-    (g : Geometry) (number slot : ℕ) (bytes : Bytes) {disk low : Bytes} {list listed : List DiskAddress}
-    {next place : ℕ} → Fits g → next + g .height + 1 ≤ length list →
-    Made (g .blockSize) (nodeStores g number slot (belowRoot g bytes)) disk list next low listed place →
-    length listed ≡ length list → place + 2 ≤ length listed
-room-below g number slot bytes fits room made kept =
-    omega (arith, made .counted, length-below g number slot bytes, fits .height-low)
+  -- after the nodes the list has places for the data and the root
+  pub room-below : length listed ≡ length list → place + 2 ≤ length listed
+  room-below kept = omega (arith, nodes .counted, long-nodes, drive .fits .height-low)
 
-pathStores-blocks :
-    (g : Geometry) → Fits g → (number slot : ℕ) (content bytes : Bytes) →
-    pathStores g number slot content (blocksIn (g .blockSize) (g .height) bytes) ≡
-    nodeStores g number slot (belowRoot g bytes) ++
-    (store (levelAddress g slot 0) content ∷
-    store (rootAddress g) (linkedNode g number slot (g .height - 1) (take (g .blockSize) bytes)) ∷ [])
-unfolding pathStores
-pathStores-blocks g f number slot content bytes =
-    rw (blocksIn-first g f bytes, length-blocksIn (g .blockSize) (g .height - 1) (drop (g .blockSize) bytes))
+  -- the nodes leave a block before or after them as it was
+  low-kept :
+      (address : DiskAddress) → (address < slotStart g slot + 1) ⊎
+      (slotStart g slot + 1 + (g .height - 1) ≤ address) →
+      blockAt (g .blockSize) low address ≡ blockAt (g .blockSize) disk address
+  low-kept address outside =
+      blockAt-made-run g (slotStart g slot + 1) (g .height - 1) nodes drive low-run
+      (omega (arith, slot-block-lt g slot (g .height) inside (omega arith))) address outside
 
-module _ (g : Geometry) (number slot own root : ℕ) (bytes : Bytes) {disk low high after : Bytes}
-    {list listed entered filed : List DiskAddress} {next place then last : ℕ} (drive : Drive g disk)
-    (inside : slot < g .slots) (sized : length bytes ≡ g .height * g .blockSize)
-    (room : next + g .height + 1 ≤ length list) (to : own ≡ levelAddress g slot 0)
-    (top : root ≡ rootAddress g)
-    (nodes : Made (g .blockSize) (nodeStores g number slot
-    (belowRoot g bytes)) disk list next low listed place)
-    (rooted : Made (g .blockSize)
-    (store root (linkedNode g number slot (g .height - 1) (take (g .blockSize) bytes)) ∷
-    []) high entered then after
-    filed last) where
-  below-long : (g .height - 1) * g .blockSize ≤ length (drop (g .blockSize) bytes)
-  below-long =
-      let e : g .height ≡ suc (g .height - 1) = omega (arith, drive .fits .height-low) in
-      let p : g .height * g .blockSize ≡ suc (g .height - 1) * g .blockSize =
-      ap (λ (n : ℕ). n * g .blockSize) e in
-      simp length-drop (omega (arith, suc-mul (g .height - 1) (g .blockSize)))
+  data-kept :
+      (which : Data) (content : Bytes) → dataOf which g low slot content ≡ dataOf which g disk slot content
+  data-kept Own content =
+      low-kept (levelAddress g slot 0) (inr (omega (arith, drive .fits .height-low)))
+  data-kept Offered content = refl
 
-  pub path-stored :
-      (content : Bytes) → Made (g .blockSize) (store own content ∷ []) low listed place high entered then →
-      Made (g .blockSize) (pathStores g number slot content
-      (blocksIn (g .blockSize) (g .height) bytes)) disk list next
-      after filed last
-  path-stored content m =
-      let long : length (nodeStores g number slot (belowRoot g bytes)) ≡ g .height - 1 =
-      length-below g number slot bytes in
-      let low-height = drive .fits .height-low in
-      let kept : length listed ≡ length list = length-made-list nodes (omega arith) in
-      let e : place ≡ next + (g .height - 1) = nodes .counted ∙ ap (λ (n : ℕ). next + n) long in
-      let ending =
-      made-then (store (levelAddress g slot 0) content ∷ [])
-      (store (rootAddress g) (linkedNode g number slot (g .height - 1) (take (g .blockSize) bytes)) ∷ [])
-      (omega arith)
-      (made-same to refl m) (made-same top refl rooted) in
-      subst (λ (xs : Trace). Made (g .blockSize) xs disk list next after filed last)
-      (sym (pathStores-blocks g (drive .fits) number slot content bytes))
-      (made-then (nodeStores g number slot (belowRoot g bytes)) _ (omega arith) nodes ending)
+  module _ (which : Data) (content : Bytes) (whole : length content ≡ g .blockSize) {high : Bytes}
+      {entered : List DiskAddress} {then : ℕ}
+      (stored : Made (g .blockSize) (store (levelAddress g slot 0) (dataOf which g low slot content) ∷ []) low
+      listed place high entered then) where
+    length-data : (which : Data) → length (dataOf which g disk slot content) ≡ g .blockSize
+    length-data Own =
+        length-blockAt (g .blockSize) disk (blockCount g) (drive .whole) (levelAddress g slot 0)
+        (slot-block-lt g slot (g .height) inside (omega arith))
+    length-data Offered = whole
 
-  pub path-kept :
-      Made (g .blockSize) (store own (blockAt (g .blockSize) low own) ∷
-      []) low listed place high entered then →
-      Made (g .blockSize)
-      (pathStores g number slot (blockAt (g .blockSize) disk (levelAddress g slot 0))
-      (blocksIn (g .blockSize) (g .height) bytes))
-      disk list next after filed last
-  path-kept m =
-      let low-height = drive .fits .height-low in
-      path-stored (blockAt (g .blockSize) disk (levelAddress g slot 0))
-      (made-same refl
-      (ap (blockAt (g .blockSize) low) to
-      ∙ blockAt-made-run g (slotStart g slot + 1) (g .height - 1) nodes drive
-      (record {
-        run = below-run g number slot bytes;
-        whole =
-            nodeStores-whole g (drive .fits) number slot (belowRoot g bytes)
-            (blocksIn-whole (g .blockSize) (g .height - 1) (drop (g .blockSize) bytes) below-long);
-      })
-      (omega (arith, slot-block-lt g slot (g .height) inside (omega arith))) (levelAddress g slot 0)
-      (inr (omega arith)))
-      m)
+    -- nodes and data
+    body : Trace
+    body =
+        lowestStores g number slot disk at (g .height - 1) ++
+        (store (levelAddress g slot 0) (dataOf which g disk slot content) ∷ [])
+
+    body-made : Made (g .blockSize) body disk list next high entered then
+    unfolding body
+    body-made =
+        made-then (lowestStores g number slot disk at (g .height - 1)) _
+        (omega (arith, long-nodes, drive .fits .height-low)) nodes
+        (made-same refl (data-kept which content) stored)
+
+    body-run : Runs g (slotStart g slot + 1) (g .height) body
+    unfolding body addresses
+    body-run =
+        let up : g .height ≡ suc (g .height - 1) = omega (arith, drive .fits .height-low) in
+        let last : slotStart g slot + g .height ≡ slotStart g slot + 1 + (g .height - 1) =
+        omega (arith, drive .fits .height-low) in
+        record {
+          run =
+              addresses-append (lowestStores g number slot disk at (g .height - 1)) _
+              ∙ rw (low-run .run, last)
+              (sym (ap (addressesFrom (slotStart g slot + 1)) up
+              ∙ addressesFrom-snoc (slotStart g slot + 1) (g .height - 1)));
+          whole =
+              all-append (WholeStore g) (lowestStores g number slot disk at (g .height - 1)) _
+              (low-run .whole) (length-data which, tt);
+        }
+
+    -- they leave the root as it was
+    root-kept : blockAt (g .blockSize) high (rootAddress g) ≡ blockAt (g .blockSize) disk (rootAddress g)
+    root-kept =
+        blockAt-made-run g (slotStart g slot + 1) (g .height) body-made drive body-run
+        (omega (arith, slot-block-lt g slot (g .height) inside (omega arith))) (rootAddress g)
+        (inl (omega arith))
+
+    path-is :
+        pathStores g number slot (dataOf which g disk slot content) (pathBlocks g disk at) ≡
+        body ++
+        (store (rootAddress g) (linkedNode g number slot (g .height - 1)
+        (blockAt (g .blockSize) disk (rootAddress g))) ∷ [])
+    unfolding pathStores body
+    path-is =
+        rw (length-nodeBlocks g disk at (g .height - 1))
+        (sym (append-assoc (lowestStores g number slot disk at (g .height - 1)) _ _))
+
+    pub path-stored :
+        {after : Bytes} {filed : List DiskAddress} {last : ℕ} →
+        Made (g .blockSize)
+        (store (rootAddress g) (linkedNode g number slot (g .height - 1)
+        (blockAt (g .blockSize) high (rootAddress g))) ∷ []) high entered then after filed last →
+        Made (g .blockSize) (pathStores g number slot (dataOf which g disk slot content)
+        (pathBlocks g disk at)) disk list next after filed last
+    path-stored {after} {filed} {last} rooted =
+        let long : length body ≡ g .height =
+        length-run (slotStart g slot + 1) (g .height) body (body-run .run) in
+        subst (λ (xs : Trace). Made (g .blockSize) xs disk list next after filed last) (sym path-is)
+        (made-then body _ (omega arith) body-made
+        (made-same refl (ap (linkedNode g number slot (g .height - 1)) root-kept) rooted))

@@ -1,134 +1,98 @@
--- Laws of a round's plan: which damage stops it, and that each way to a plan is the hidden half of the model.
--- Assumes nothing.
-use mathlib.Core.Path.{_≡_, refl, sym, ap, ap₂, _∙_}
-use mathlib.Core.Bool.{Bool, true, false, cond, _&&_}
+-- Laws of a round's plan: each way to a plan is the hidden half of the model. Assumes nothing.
+use mathlib.Core.Path.{_≡_, refl, sym, ap, ap₂, subst, _∙_}
+use mathlib.Core.Logic.{_⊎_, inl, inr}
+use mathlib.Core.Bool.{Bool, true, false, cond, not, _&&_, _||_}
 use mathlib.Core.List.{List, []}
 use Prim.Native.Nat.{ℕ}
 use native.Mathlib.Omega.{arith}
-use Rattle.laws.proofs.Cases.{true-is-not-false, cond-true, cond-false}
+use Rattle.laws.proofs.Cases.{bool-cases, true-is-not-false, cond-true, cond-false}
 use Rattle.model.specs.Geometry.{Geometry}
 use Rattle.model.specs.Blocks.{Bytes, blockAt}
-use Rattle.model.specs.Layout.{Drive, isAllocated, levelAddress}
+use Rattle.model.specs.Layout.{isAllocated, levelAddress}
 use Rattle.model.specs.HiddenTree.{walk, isDamaged}
 use Rattle.model.specs.Paths.{pathStores}
 use Rattle.model.specs.Table as model
-use Rattle.model.specs.HiddenHalf.{HiddenState, isWaiting, ownerOf, isLive}
+use Rattle.model.specs.HiddenHalf.{HiddenWrite, HiddenState, isWaiting, ownerOf, isLive}
 use Rattle.model.specs.HiddenHalf.{isNextDamaged, isBlocked, half, hiddenBy, rowOf, hiddenHalf}
 use Rattle.model.proofs.Laws.HiddenHalf.{rowOf-hidden}
-use Rattle.hidden_map.specs.Paths.{joined}
 use Rattle.layout.specs.declared.numbers.HiddenNumber.{HiddenNumber}
+use Rattle.hidden_map.specs.declared.walks.Trail.{Trail}
+use Rattle.hidden_map.specs.Ends.{endOf}
+use Rattle.hidden_map.specs.Walks.{Walked}
+use Rattle.hidden_map.proofs.Laws.Walks.{blocks-walked, placed-walked}
+use Rattle.table.specs.declared.HiddenChoice.{HiddenChoice}
+use Rattle.table.specs.declared.HiddenChoice.the-variants.{Keep, Place, Fill}
 use Rattle.table.specs.declared.Row.{Row}
 use Rattle.table.specs.Rows as rows
-use Rattle.slots.specs.declared.statuses.Status.{Status}
-use Rattle.slots.specs.declared.statuses.Status.the-variants.{Live, Damaged, Stale}
-use Rattle.hidden_half.specs.declared.halves.Plan.the-variants.{Back, Keep, Place, Fill}
-use Rattle.slots.specs.Statuses.{isLiveStatus, isDamagedStatus, OwnerRead, Judged, NextRead}
-use Rattle.slot_blocks.specs.NodeBlocks.{blocksIn}
-use Rattle.slot_blocks.proofs.Laws.NodeBlocks.{blocksIn-walk}
+use Rattle.slots.specs.declared.owners.Owner.{Owner}
+use Rattle.slots.specs.declared.owners.Owner.the-variants.{Nobody, Number}
+use Rattle.slots.specs.Owners.{Owned, isLiveFor, isDamagedFor}
+use Rattle.slots.proofs.Laws.Owners.{isLive-owned, isOwnerDamaged-owned}
+use Rattle.paths.specs.declared.Data.the-variants.{Offered}
+use Rattle.hidden_half.specs.declared.halves.Plan.{Plan}
+use Rattle.hidden_half.specs.declared.halves.Plan.the-variants as plan
 use Rattle.plans.specs.declared.states.Offer.{Offer}
-use Rattle.plans.specs.declared.states.Offer.the-variants.{Absent, Waiting, Placed}
+use Rattle.plans.specs.declared.states.Offer.the-variants as offers
 use Rattle.plans.specs.declared.states.State.{State}
+use Rattle.plans.specs.declared.plans.Plans.{Plans}
 use Rattle.plans.specs.States.{isWaitingOffer, waitingOf, stateOf}
-use Rattle.plans.specs.Plans.{Hindered, Planned}
-
--- ---- what damage stops ----
-
-module _ (g : Geometry) (disk : Bytes) (waiting : Bool) (number : ℕ) (nodes : Bytes) (status : Status) where
-  pub hindered-live : isLiveStatus status ≡ true → isDamagedStatus status ≡ false →
-      Hindered status g disk waiting number false nodes nodes
-  hindered-live e d =
-      record {
-        decided = rw (e, d);
-        live-kept = λ p. refl;
-        next-read = λ p q r. true-is-not-false e p;
-      }
-
-  pub hindered-damaged : isDamagedStatus status ≡ true → isLiveStatus status ≡ false →
-      Hindered status g disk waiting number true nodes nodes
-  hindered-damaged e l =
-      record {
-        decided = rw e;
-        live-kept = λ p. refl;
-        next-read = λ p q r. true-is-not-false refl q;
-      }
-
-  module _ (stale : isLiveStatus status ≡ false) (sound : isDamagedStatus status ≡ false) where
-    pub hindered-alone : waiting ≡ false → Hindered status g disk waiting number false nodes nodes
-    hindered-alone e =
-        record {
-          decided = rw (stale, sound, e);
-          live-kept = λ p. refl;
-          next-read = λ p q r. true-is-not-false r e;
-        }
-
-    pub hindered-next :
-        waiting ≡ true → (answer : Bool) (after : Bytes) → NextRead (walk g disk number) answer after →
-        Hindered status g disk waiting number answer nodes after
-    hindered-next e answer after read =
-        record {
-          decided = rw (stale, sound, e) (read .damaged);
-          live-kept = λ p. true-is-not-false p stale;
-          next-read = λ p q r. read .nodes-are;
-        }
+use Rattle.plans.specs.Plans.{keptPlan, PlannedBy, HalfPlanned, stateAfter}
+use Rattle.plans.specs.Plans.{Planned}
 
 -- ---- what is known when a round is planned ----
 
--- the row, whether damage stops the round, and whose nodes are read
+-- the table's row, and whose slot it is
 pub record Settled (g : Geometry) (disk : Bytes) (slot : ℕ) (offer : Offer) (number : ℕ) (row : Row)
-    (blocked : Bool)
-    (nodes : Bytes) : Type 0 where
+    (owner : Owner) : Type 0 where
   pub row-is : (content : Bytes) → rows.rowOf row ≡ rowOf g disk slot (waitingOf offer number content)
-  pub blocked-is : (content : Bytes) → blocked ≡ isBlocked g disk slot (waitingOf offer number content)
-  pub owner-read : isLive g disk slot ≡ true → nodes ≡ joined (walk g disk (ownerOf g disk slot) .nodes)
-  pub next-read :
-      isLive g disk slot ≡ false → blocked ≡ false → isWaitingOffer offer ≡ true →
-      nodes ≡ joined (walk g disk number .nodes)
+  pub owned : Owned g disk (ownerOf g disk slot) owner
 
 isWaiting-is : (offer : Offer) (number : ℕ) (content : Bytes) → isWaiting (waitingOf offer number content) ≡
     isWaitingOffer offer
-isWaiting-is Absent number content = refl
-isWaiting-is Waiting number content = refl
-isWaiting-is Placed number content = refl
+isWaiting-is offers.Absent number content = refl
+isWaiting-is offers.Waiting number content = refl
+isWaiting-is offers.Placed number content = refl
 
 isNextDamaged-is :
     (g : Geometry) (disk : Bytes) (offer : Offer) (number : ℕ) (content : Bytes) →
     isNextDamaged g disk (waitingOf offer number content) ≡
     (isWaitingOffer offer && isDamaged (walk g disk number .end))
 unfolding isNextDamaged
-isNextDamaged-is g disk Absent number content = refl
-isNextDamaged-is g disk Waiting number content = refl
-isNextDamaged-is g disk Placed number content = refl
-
--- a status that is live has its owner's path read
-owner-of-live :
-    (g : Geometry) (disk : Bytes) (slot : ℕ) (nodes : Bytes) (status : Status) →
-    OwnerRead status g disk slot nodes →
-    isLiveStatus status ≡ true → nodes ≡ joined (walk g disk (ownerOf g disk slot) .nodes)
-owner-of-live g disk slot nodes (Live owner) read e = read .1
-owner-of-live g disk slot nodes Damaged read e = true-is-not-false e refl
-owner-of-live g disk slot nodes Stale read e = true-is-not-false e refl
+isNextDamaged-is g disk offers.Absent number content = refl
+isNextDamaged-is g disk offers.Waiting number content = refl
+isNextDamaged-is g disk offers.Placed number content = refl
 
 pub settled :
-    (g : Geometry) (disk : Bytes) (slot : ℕ) (offer : Offer) (number : ℕ) (status : Status) (row : Row)
-    (waiting allocated live blocked : Bool) (read nodes : Bytes) → waiting ≡ isWaitingOffer offer →
-    allocated ≡ isAllocated g disk slot → live ≡ isLiveStatus status → Judged status g disk slot read →
-    rows.rowOf row ≡ model.rowAt waiting allocated live →
-    Hindered status g disk waiting number blocked read nodes →
-    Settled g disk slot offer number row blocked nodes
-settled g disk slot offer number status row waiting allocated live blocked read nodes w a l judged r hindered
-    =
+    (g : Geometry) (disk : Bytes) (slot own : ℕ) (offer : Offer) (number : ℕ) (row : Row) (owner : Owner)
+    (waiting allocated live : Bool) → own ≡ ownerOf g disk slot → Owned g disk own owner →
+    waiting ≡ isWaitingOffer offer → allocated ≡ isAllocated g disk slot → live ≡ isLiveFor g slot owner →
+    rows.rowOf row ≡ model.rowAt waiting allocated live → Settled g disk slot offer number row owner
+settled g disk slot own offer number row owner waiting allocated live e owned w a l r =
     record {
-      row-is = λ content. let z = isWaiting-is offer number content in let j = judged .live in cc;
-      blocked-is = λ content.
-          hindered .decided
-          ∙ rw (judged .live, judged .damaged, w, isNextDamaged-is g disk offer number content);
-      owner-read = λ e.
-          let s : isLiveStatus status ≡ true = judged .live ∙ e in
-          hindered .live-kept s ∙ owner-of-live g disk slot read status (judged .owner) s;
-      next-read = λ e b o. hindered .next-read (judged .live ∙ e) b (w ∙ o);
+      row-is = λ content.
+          let z = isWaiting-is offer number content in
+          let j = isLive-owned g disk slot own e owner owned in cc;
+      owned = subst (λ (n : ℕ). Owned g disk n owner) e owned;
     }
 
--- ---- the plans ----
+-- ---- the hidden half, by the table's choice or stopped ----
+
+module _ (g : Geometry) (disk : Bytes) (choice : HiddenChoice) (owner : Owner) (number : HiddenNumber)
+    (damaged : Bool) (d : damaged ≡ isDamagedFor owner) where
+  pub half-stopped : damaged ≡ true → HalfPlanned g disk choice owner number plan.Back
+  half-stopped e =
+      record { stopped = λ h. refl; chosen = λ h. true-is-not-false (sym d ∙ e) h }
+
+  pub half-chosen :
+      damaged ≡ false → (told : HiddenChoice) → choice ≡ told → (hidden : Plan) →
+      PlannedBy told g disk owner number hidden → HalfPlanned g disk choice owner number hidden
+  half-chosen e told c hidden h =
+      record {
+        stopped = λ z. true-is-not-false z (sym d ∙ e);
+        chosen = λ z. subst (λ (which : HiddenChoice). PlannedBy which g disk owner number hidden) (sym c) h;
+      }
+
+-- ---- the table's choice ----
 
 live-of-keep :
     (live waiting : Bool) →
@@ -146,121 +110,184 @@ stale-of-place true waiting e = absurd (let z : _≡_ {A = ℕ} 0 1 = cc in omeg
 stale-of-place false true e = (refl, refl)
 stale-of-place false false e = absurd (let z : _≡_ {A = ℕ} 0 1 = cc in omega arith)
 
-module _ (g : Geometry) (disk : Bytes) (drive : Drive g disk) (slot : ℕ) (state : State) (number : ℕ)
-    (row : Row)
-    (blocked : Bool) (nodes : Bytes) (known : Settled g disk slot (state .offer) number row blocked nodes)
-  where
-    -- the public choice, whatever the plan
-    chosen : (content : Bytes) → rows.publicOf (row .public) ≡
-        rowOf g disk slot (stateOf state number content .waiting) .public
-    chosen content = ap (λ (r : model.Row). r .public) (known .row-is content)
+stale-of-fill :
+    (live waiting : Bool) →
+    model.fillHidden ≡ cond live model.keepHidden (cond waiting model.placeHidden model.fillHidden) →
+    (live ≡ false) × (waiting ≡ false)
+stale-of-fill true waiting e = absurd (let z : _≡_ {A = ℕ} 0 1 = cc in omega arith)
+stale-of-fill false true e = absurd (let z : _≡_ {A = ℕ} 0 1 = cc in omega arith)
+stale-of-fill false false e = (refl, refl)
 
-    -- the table's hidden choice
-    hidden-is :
-        (content : Bytes) → rows.hiddenOf (row .hidden) ≡ rowOf g disk slot
-        (waitingOf (state .offer) number content) .hidden
-    hidden-is content = ap (λ (r : model.Row). r .hidden) (known .row-is content)
+-- ---- the plans ----
 
-    pub planned-back :
-        blocked ≡ true →
-        Planned g disk slot state number
-        (record {
-          public = row .public;
-          hidden = Back;
-          after = record { offer = state .offer; «met_damage» = true };
-        }) nodes
-    unfolding hiddenHalf
-    planned-back e =
+module _ (g : Geometry) (disk : Bytes) (slot : ℕ) (state : State) (number : HiddenNumber) (row : Row)
+    (owner : Owner) (known : Settled g disk slot (state .offer) (number .0) row owner) where
+  abbrev plansBy : Plan → Plans
+  plansBy hidden = record { public = row .public; hidden = hidden; after = stateAfter state hidden }
+
+  abbrev waitingBy : Bytes → List HiddenWrite
+  waitingBy content = waitingOf (state .offer) (number .0) content
+
+  -- the public choice, whatever the plan
+  chosen : (content : Bytes) → rows.publicOf (row .public) ≡ rowOf g disk slot (waitingBy content) .public
+  chosen content = ap (λ (r : model.Row). r .public) (known .row-is content)
+
+  live-is : isLiveFor g slot owner ≡ isLive g disk slot
+  live-is = isLive-owned g disk slot (ownerOf g disk slot) refl owner (known .owned)
+
+  blocked-is :
+      (content : Bytes) → isBlocked g disk slot (waitingBy content) ≡
+      (isDamagedFor owner || not (isLive g disk slot) &&
+      (isWaitingOffer (state .offer) && isDamaged (walk g disk (number .0) .end)))
+  blocked-is content =
+      rw (
+        isOwnerDamaged-owned g disk slot (ownerOf g disk slot) refl owner (known .owned),
+        isNextDamaged-is g disk (state .offer) (number .0) content,
+      )
+
+  planned-back : ((content : Bytes) → isBlocked g disk slot (waitingBy content) ≡ true) →
+      Planned g disk slot state (number .0) (plansBy plan.Back)
+  unfolding hiddenHalf
+  planned-back blocked =
+      record {
+        chosen = chosen;
+        half-is = λ content random. cond-true _ _ (blocked content);
+        placed = tt;
+      }
+
+  -- the half by the table's choice
+  half-by :
+      (choice : model.HiddenChoice) → rows.hiddenOf (row .hidden) ≡ choice → (content random : Bytes) →
+      isBlocked g disk slot (waitingBy content) ≡ false →
+      hiddenHalf g disk slot random (stateOf state (number .0) content) ≡
+      hiddenBy choice g disk slot random (stateOf state (number .0) content) (waitingBy content)
+  unfolding hiddenHalf
+  half-by choice e content random free =
+      cond-false _ _ free
+      ∙ ap (λ (c : model.HiddenChoice).
+      hiddenBy c g disk slot random (stateOf state (number .0) content) (waitingBy content))
+      (sym (ap (λ (r : model.Row). r .hidden) (known .row-is content)) ∙ e)
+
+  rule :
+      (choice : model.HiddenChoice) → rows.hiddenOf (row .hidden) ≡ choice →
+      choice ≡ cond (isLive g disk slot) model.keepHidden
+      (cond (isWaitingOffer (state .offer)) model.placeHidden model.fillHidden)
+  rule choice e =
+      sym e ∙ ap (λ (r : model.Row). r .hidden) (known .row-is [])
+      ∙ rowOf-hidden g disk slot (waitingBy [])
+      ∙ ap (λ (w : Bool). cond (isLive g disk slot) model.keepHidden
+      (cond w model.placeHidden model.fillHidden))
+      (isWaiting-is (state .offer) (number .0) [])
+
+  module _ (sound : isDamagedFor owner ≡ false) where
+    planned-kept :
+        rows.hiddenOf (row .hidden) ≡ model.keepHidden → (told : Owner) → owner ≡ told →
+        Planned g disk slot state (number .0) (plansBy (keptPlan told))
+    unfolding hiddenBy
+    planned-kept e Nobody o =
+        true-is-not-false
+        (live-of-keep (isLive g disk slot) (isWaitingOffer (state .offer)) (rule model.keepHidden e))
+        (sym live-is ∙ ap (isLiveFor g slot) o)
+    planned-kept e (Number own trail) o =
+        let live = live-of-keep (isLive g disk slot) (isWaitingOffer (state .offer))
+        (rule model.keepHidden e) in
+        let owned = subst (Owned g disk (ownerOf g disk slot)) o (known .owned) in
+        let walked = owned .1 .1 in
         record {
           chosen = chosen;
-          half-is = λ content random. cond-true _ _ (sym (known .blocked-is content) ∙ e);
+          half-is = λ content random.
+              half-by model.keepHidden e content random (blocked-is content ∙ rw (sound, live))
+              ∙ ap₂ (λ (n : ℕ) (xs : List Bytes).
+              half (pathStores g n slot (blockAt (g .blockSize) disk (levelAddress g slot 0)) xs)
+              (stateOf state (number .0) content)) (sym (owned .0))
+              (sym (blocks-walked g disk (ownerOf g disk slot) trail walked));
+          placed = placed-walked g disk (ownerOf g disk slot) trail walked;
         }
 
-    module _ (free : blocked ≡ false) where
-      -- the half by the table's choice
-      half-by :
-          (choice : model.HiddenChoice) → rows.hiddenOf (row .hidden) ≡ choice → (content random : Bytes) →
-          hiddenHalf g disk slot random (stateOf state number content) ≡
-          hiddenBy choice g disk slot random (stateOf state number content)
-          (waitingOf (state .offer) number content)
-      unfolding hiddenHalf
-      half-by choice e content random =
-          cond-false _ _ (sym (known .blocked-is content) ∙ free)
-          ∙ ap (λ (c : model.HiddenChoice).
-          hiddenBy c g disk slot random (stateOf state number content)
-          (waitingOf (state .offer) number content))
-          (sym (hidden-is content) ∙ e)
+    module _ (e : rows.hiddenOf (row .hidden) ≡ model.placeHidden) (trail : Trail)
+        (walked : Walked g disk (number .0) trail) where
+      stale : (isLive g disk slot ≡ false) × (isWaitingOffer (state .offer) ≡ true)
+      stale = stale-of-place (isLive g disk slot) (isWaitingOffer (state .offer)) (rule model.placeHidden e)
 
-      rule :
-          (choice : model.HiddenChoice) → rows.hiddenOf (row .hidden) ≡ choice →
-          choice ≡ cond (isLive g disk slot) model.keepHidden
-          (cond (isWaitingOffer (state .offer)) model.placeHidden model.fillHidden)
-      rule choice e =
-          sym e ∙ hidden-is [] ∙ rowOf-hidden g disk slot (waitingOf (state .offer) number [])
-          ∙ ap (λ (w : Bool). cond (isLive g disk slot) model.keepHidden
-          (cond w model.placeHidden model.fillHidden))
-          (isWaiting-is (state .offer) number [])
+      -- the number's walk decides
+      blocked-next : (content : Bytes) → isBlocked g disk slot (waitingBy content) ≡
+          isDamaged (endOf (trail .end))
+      blocked-next content =
+          blocked-is content ∙ rw (sound, stale .0, stale .1) (ap isDamaged (sym (walked .end-is)))
 
-      pub planned-keep :
-          rows.hiddenOf (row .hidden) ≡ model.keepHidden → (owner : HiddenNumber) →
-          owner .0 ≡ ownerOf g disk slot →
-          Planned g disk slot state number
-          (record { public = row .public; hidden = Keep owner; after = state }) nodes
-      unfolding hiddenBy
-      planned-keep e owner o =
-          let live = live-of-keep (isLive g disk slot) (isWaitingOffer (state .offer))
-          (rule model.keepHidden e) in
-          let read : blocksIn (g .blockSize) (g .height) nodes ≡ walk g disk (ownerOf g disk slot) .nodes =
-          ap (blocksIn (g .blockSize) (g .height)) (known .owner-read live)
-          ∙ blocksIn-walk g disk (ownerOf g disk slot) drive in
+      after : Bytes → HiddenState
+      after content = record { waiting = []; placed = 1; metDamage = state .«met_damage» }
+
+      placed-by :
+          (content random : Bytes) (offer : Offer) → isWaitingOffer offer ≡ true →
+          hiddenBy model.placeHidden g disk slot random
+          (stateOf (record { offer = offer; «met_damage» = state .«met_damage» }) (number .0) content)
+          (waitingOf offer (number .0) content) ≡
+          half (pathStores g (number .0) slot content (walk g disk (number .0) .nodes)) (after content)
+      unfolding hiddenBy after
+      placed-by content random offers.Absent w = true-is-not-false w refl
+      placed-by content random offers.Waiting w = refl
+      placed-by content random offers.Placed w = true-is-not-false w refl
+
+      planned-placed :
+          (damaged : Bool) → isDamaged (endOf (trail .end)) ≡ damaged →
+          Planned g disk slot state (number .0)
+          (plansBy (cond damaged plan.Back (plan.Path number (trail .nodes) Offered)))
+      unfolding after
+      planned-placed true d = planned-back (λ content. blocked-next content ∙ d)
+      planned-placed false d =
           record {
             chosen = chosen;
             half-is = λ content random.
-                half-by model.keepHidden e content random
-                ∙ ap₂ (λ (n : ℕ) (xs : List Bytes).
-                half (pathStores g n slot (blockAt (g .blockSize) disk (levelAddress g slot 0)) xs)
-                (stateOf state number content)) (sym o) (sym read);
+                half-by model.placeHidden e content random (blocked-next content ∙ d)
+                ∙ placed-by content random (state .offer) (stale .1)
+                ∙ ap (λ (xs : List Bytes). half (pathStores g (number .0) slot content xs) (after content))
+                (sym (blocks-walked g disk (number .0) trail walked));
+            placed = placed-walked g disk (number .0) trail walked;
           }
 
-      pub planned-place :
-          rows.hiddenOf (row .hidden) ≡ model.placeHidden →
-          Planned g disk slot state number
-          (record {
-            public = row .public;
-            hidden = Place;
-            after = record { offer = Placed; «met_damage» = state .«met_damage» };
-          }) nodes
-      unfolding hiddenBy
-      planned-place e =
-          let stale = stale-of-place (isLive g disk slot) (isWaitingOffer (state .offer))
-          (rule model.placeHidden e) in
-          let read : blocksIn (g .blockSize) (g .height) nodes ≡ walk g disk number .nodes =
-          ap (blocksIn (g .blockSize) (g .height)) (known .next-read (stale .0) free (stale .1))
-          ∙ blocksIn-walk g disk number drive in
-          record {
-            chosen = chosen;
-            half-is = λ content random.
-                half-by model.placeHidden e content random ∙ by content random (state .offer) (stale .1)
-                ∙ ap (λ (xs : List Bytes). half (pathStores g number slot content xs) (after content))
-                (sym read);
-          }
-        where
-          after : Bytes → HiddenState
-          after content = record { waiting = []; placed = 1; metDamage = state .«met_damage» }
+    planned-filled :
+        rows.hiddenOf (row .hidden) ≡ model.fillHidden →
+        Planned g disk slot state (number .0) (plansBy plan.Fill)
+    unfolding hiddenBy
+    planned-filled e =
+        let stale = stale-of-fill (isLive g disk slot) (isWaitingOffer (state .offer))
+        (rule model.fillHidden e) in
+        record {
+          chosen = chosen;
+          half-is = λ content random.
+              half-by model.fillHidden e content random (blocked-is content ∙ rw (sound, stale .0, stale .1));
+          placed = tt;
+        }
 
-          by : (content random : Bytes) (offer : Offer) → isWaitingOffer offer ≡ true →
-              hiddenBy model.placeHidden g disk slot random
-              (stateOf (record { offer = offer; «met_damage» = state .«met_damage» }) number content)
-              (waitingOf offer number content) ≡
-              half (pathStores g number slot content (walk g disk number .nodes)) (after content)
-          by content random Absent w = true-is-not-false w refl
-          by content random Waiting w = refl
-          by content random Placed w = true-is-not-false w refl
+    planned-by :
+        (choice : HiddenChoice) → row .hidden ≡ choice → (hidden : Plan) →
+        PlannedBy choice g disk owner number hidden →
+        Planned g disk slot state (number .0) (plansBy hidden)
+    planned-by Keep e hidden h =
+        subst (λ (p : Plan). Planned g disk slot state (number .0) (plansBy p)) (sym h)
+        (planned-kept (ap rows.hiddenOf e) owner refl)
+    planned-by Place e hidden (trail, (walked, h)) =
+        subst (λ (p : Plan). Planned g disk slot state (number .0) (plansBy p)) (sym h)
+        (planned-placed (ap rows.hiddenOf e) trail walked (isDamaged (endOf (trail .end))) refl)
+    planned-by Fill e hidden h =
+        subst (λ (p : Plan). Planned g disk slot state (number .0) (plansBy p)) (sym h)
+        (planned-filled (ap rows.hiddenOf e))
 
-      pub planned-fill :
-          rows.hiddenOf (row .hidden) ≡ model.fillHidden →
-          Planned g disk slot state number
-          (record { public = row .public; hidden = Fill; after = state }) nodes
-      unfolding hiddenBy
-      planned-fill e =
-          record { chosen = chosen; half-is = λ content random. half-by model.fillHidden e content random }
+  pub planned :
+      (hidden : Plan) → HalfPlanned g disk (row .hidden) owner number hidden → (after : State) →
+      after ≡ stateAfter state hidden →
+      Planned g disk slot state (number .0)
+      (record { public = row .public; hidden = hidden; after = after })
+  planned hidden h after a =
+      subst
+      (λ (later : State). Planned g disk slot state (number .0)
+      (record { public = row .public; hidden = hidden; after = later }))
+      (sym a) (by (bool-cases (isDamagedFor owner)))
+    where
+      by : (isDamagedFor owner ≡ true) ⊎ (isDamagedFor owner ≡ false) →
+          Planned g disk slot state (number .0) (plansBy hidden)
+      by (inl d) =
+          subst (λ (p : Plan). Planned g disk slot state (number .0) (plansBy p)) (sym (h .stopped d))
+          (planned-back (λ content. blocked-is content ∙ rw d))
+      by (inr d) = planned-by d (row .hidden) refl hidden (h .chosen d)

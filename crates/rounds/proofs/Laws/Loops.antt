@@ -270,13 +270,12 @@ module _ {g : Geometry} {number head : ℕ} {content random hidden : Bytes} {off
                 ∙ ap (runFrom (g .slots - (done + 1)) g number content (nextSlot g slot)
                 (drop ((done + 1) * (g .height * g .blockSize)) random) diskAfter) (sym (stepped .state-is))
 
--- the loop's invariant: that, and buffers as long as they were
+-- the loop's invariant: that, and a buffer as long as it was
 pub record Looping (g : Geometry) (number : ℕ) (content random hidden : Bytes) (offered : ℕ) (run : Run)
     (disk : Bytes)
-    (list : List DiskAddress) (next : ℕ) (nodes block diskNow : Bytes) (listNow : List DiskAddress)
-    (nodesNow blockNow : Bytes) (slot at : ℕ) (state : State) (done : ℕ) : Type 0 where
+    (list : List DiskAddress) (next : ℕ) (block diskNow : Bytes) (listNow : List DiskAddress)
+    (blockNow : Bytes) (slot at : ℕ) (state : State) (done : ℕ) : Type 0 where
   pub going : Going g number content random hidden offered run disk list next diskNow listNow slot at state
       done
   pub disk-kept : length diskNow ≡ length disk
-  pub nodes-kept : length nodesNow ≡ length nodes
   pub block-kept : length blockNow ≡ length block

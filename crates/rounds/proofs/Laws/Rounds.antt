@@ -8,7 +8,7 @@ use Prim.Native.Nat.{ℕ, _+_, _≤_, _<_}
 use native.Mathlib.Omega.{arith}
 use lib.ListN.{length, length-append}
 use Rattle.model.specs.Geometry.{Geometry, rootAddress, blockCount}
-use Rattle.model.specs.Blocks.{Bytes, DiskAddress, blockAt}
+use Rattle.model.specs.Blocks.{Bytes, DiskAddress}
 use Rattle.model.specs.Layout.{Drive, slotStart, mapEntry}
 use Rattle.model.specs.Stores.{Trace, addresses}
 use Rattle.model.specs.Simulator.{addressesFrom}
@@ -25,7 +25,7 @@ use Rattle.layout.specs.PublicMap.{OldEntry}
 use Rattle.layout.proofs.Laws.PublicMap.{old-of-entry}
 use Rattle.stores.specs.Made.{Made}
 use Rattle.stores.proofs.Laws.Made.{made-then, drive-made, blockAt-made-outside, length-made-list}
-use Rattle.hidden_half.proofs.Laws.Plans.{SameHidden}
+use Rattle.hidden_half.proofs.Laws.Plans.{SameElsewhere}
 use Rattle.rounds.proofs.Laws.Fronts.{SameFront, headerStore-same, mapEntry-same, mapStores-same}
 
 -- ---- how many stores ----
@@ -103,19 +103,13 @@ module _ (g : Geometry) (disk : Bytes) (drive : Drive g disk) (number : ℕ) (co
     room-hidden = omega (arith, roomy, length-listed, first .counted)
 
     -- only the slot's public block has changed
-    elsewhere :
-        (address : DiskAddress) → address ≢ slotStart g slot →
-        blockAt (g .blockSize) middle address ≡ blockAt (g .blockSize) disk address
+    pub same-elsewhere : SameElsewhere g slot middle disk
     unfolding addresses
-    elsewhere address f =
-        blockAt-made-outside first (blockCount g) address (drive .whole) public-stored
-        ((λ e. f (e ∙ publicStore-address choice g disk slot content)), tt)
-
-    pub same-hidden : SameHidden g slot middle disk
-    same-hidden =
+    same-elsewhere =
         record {
-          places = λ at low high. elsewhere (slotStart g slot + at) (λ e. omega arith);
-          root = elsewhere (rootAddress g) (λ e. omega arith);
+          elsewhere = λ address f.
+              blockAt-made-outside first (blockCount g) address (drive .whole) public-stored
+              ((λ e. f (e ∙ publicStore-address choice g disk slot content)), tt);
         }
 
     module _ {later : Bytes} {entered : List DiskAddress} {at : ℕ}
@@ -133,7 +127,7 @@ module _ (g : Geometry) (disk : Bytes) (drive : Drive g disk) (number : ℕ) (co
           blockAt-made-outside second (blockCount g) address (drive-public .whole) hidden-stored
           (all-map (HiddenAddress g slot) (λ (a : ℕ). address ≢ a) (addresses hidden) apart
           (hides-addresses g slot hidden hides))
-          ∙ elsewhere address (λ e. omega arith)
+          ∙ same-elsewhere .elsewhere address (λ e. omega arith)
         where
           apart : (a : ℕ) → HiddenAddress g slot a → address ≢ a
           apart a (inl e) p = omega arith

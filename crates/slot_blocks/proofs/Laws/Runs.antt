@@ -1,5 +1,6 @@
 -- Laws of blocks stored one after another: one more at the end, and what stays. Assumes nothing.
 use mathlib.Core.Path.{_≡_, refl, sym, ap, ap₂, subst, _∙_}
+use mathlib.Core.Logic.{_≢_, _⊎_, inl, inr}
 use mathlib.Core.List.{List, [], _∷_, _++_}
 use Prim.Native.Nat.{ℕ, zero, suc, _+_, _*_, _-_, _≤_, _<_}
 use native.Mathlib.Nat.{suc-mul, mul-le-mul-right}
@@ -10,12 +11,17 @@ use Rattle.laws.specs.Lists.{part, over}
 use Rattle.laws.proofs.Lists.{length-part}
 use Rattle.model.specs.Geometry.{Geometry, blockCount}
 use Rattle.model.specs.Blocks.{Bytes, DiskAddress, blockAt, setBlock}
-use Rattle.model.specs.Stores.{Store, Trace, store, apply}
+use Rattle.model.specs.Stores.{Store, Trace, store, apply, addresses}
 use Rattle.model.specs.Layout.{Drive}
 use Rattle.model.specs.Paths.{keptBlock, keptBlocks, randomBlocks}
+use Rattle.model.specs.Simulator.{addressesFrom}
 use Rattle.model.proofs.Laws.Blocks.{block-inside}
-use Rattle.model.proofs.Laws.Stores.{apply-one}
+use Rattle.model.proofs.Laws.Stores.{All, apply-one, length-addresses}
+use Rattle.model.proofs.Laws.Paths.{WholeStore}
+use Rattle.model.proofs.Laws.RoundStores.{all-addressesFrom, stored-of-whole}
+use Rattle.model.proofs.Laws.RoundCounts.{length-addressesFrom}
 use Rattle.stores.specs.Made.{Made}
+use Rattle.stores.proofs.Laws.Made.{blockAt-made-outside}
 use Rattle.slot_blocks.proofs.Laws.Loops.{SoFar, none-so-far, one-more, all-made}
 
 -- ---- one more at the end ----
@@ -97,6 +103,36 @@ pub made-same :
 made-same {width} {disk = disk} {after = after} {list = list} {entered = entered} {next = next}
     {last = last} e k m =
     subst (λ (x : Store). Made width (x ∷ []) disk list next after entered last) (ap₂ store e k) m
+
+-- ---- a run of addresses ----
+
+-- so many stores of whole blocks, to an address and those after it
+pub record Runs (g : Geometry) (from count : ℕ) (trace : Trace) : Type 0 where
+  pub run : addresses trace ≡ addressesFrom from count
+  pub whole : All (WholeStore g) trace
+
+pub length-run : (from count : ℕ) (trace : Trace) → addresses trace ≡ addressesFrom from count →
+    length trace ≡ count
+length-run from count trace e = sym (length-addresses trace) ∙ ap length e ∙ length-addressesFrom from count
+
+-- a block before or after the run is as it was
+pub blockAt-made-run :
+    (g : Geometry) (from count : ℕ) {trace : Trace} {disk after : Bytes} {list entered : List DiskAddress}
+    {next last : ℕ} → Made (g .blockSize) trace disk list next after entered last → Drive g disk →
+    Runs g from count trace → from + count ≤ blockCount g → (address : DiskAddress) →
+    (address < from) ⊎ (from + count ≤ address) →
+    blockAt (g .blockSize) after address ≡ blockAt (g .blockSize) disk address
+blockAt-made-run g from count {trace = trace} made drive runs inside address outside =
+    blockAt-made-outside made (blockCount g) address (drive .whole)
+    (stored-of-whole g trace
+    (subst (All (λ (other : ℕ). other < blockCount g)) (sym (runs .run))
+    (all-addressesFrom (λ (other : ℕ). other < blockCount g) from count (λ i h. omega arith))) (runs .whole))
+    (subst (All (λ (other : ℕ). address ≢ other)) (sym (runs .run))
+    (all-addressesFrom (λ (other : ℕ). address ≢ other) from count (λ i h. apart outside i h)))
+  where
+    apart : (address < from) ⊎ (from + count ≤ address) → (i : ℕ) → i < count → address ≢ from + i
+    apart (inl l) i h e = omega arith
+    apart (inr l) i h e = omega arith
 
 -- ---- loops ----
 

@@ -11,13 +11,13 @@ use Rattle.rounds.proofs.rounds.do_round.Statement.{statement}
 use Rattle.rounds.proofs.rounds.do_round.Tie as tie
 
 abbrev startOf : tie.After-plan-round → tie.Start
-startOf c = c .before .before .before .before .before .before .before .before .before .before
+startOf c = c .before .before .before .before .before .before .before .before
 
 abbrev after-plan : tie.After-store-public-arg3 → tie.After-plan-round
-after-plan c = c .before .before .before .before .before .before
+after-plan c = c .before .before .before .before
 
-abbrev after-public : tie.After-store-hidden-arg4 → tie.After-store-public
-after-public c = c .before .before .before .before .before .before .before .before .before .before
+abbrev after-public : tie.After-store-hidden-arg3 → tie.After-store-public
+after-public c = c .before .before .before .before .before .before .before .before .before
 
 abbrev after-hidden : tie.After-store-ending-arg3 → tie.After-store-hidden
 after-hidden c = c .before .before .before .before .before .before .before .before .before
@@ -34,10 +34,10 @@ begun :
     let args = startOf c .args in
     Begun (geometryOf (args .g)) (args .disk .now) (args .number .0) (args .slot) (args .content .now)
     (args .random .now) (args .hidden .now) (args .state) (args .offered .0) (c .plan-round .result)
-    (c .plan-round .last .1 .1 .1 .1 .1 .0) (args .list .now) (args .next)
+    (args .list .now) (args .next)
 begun c =
     let pre = startOf c .pre in
-    record { ready = pre .0; planned = c .plan-round .ensures; room = pre .1 .1 .1 }
+    record { ready = pre .0; planned = c .plan-round .ensures; room = pre .1 .1 }
 
 store-public-requires : tie.Need-store-public-requires
 store-public-requires c κs =
@@ -45,7 +45,7 @@ store-public-requires c κs =
     let pre = startOf planned .pre in
     let ready = pre .0 in (
       ready .drive,
-      (ready .slot-inside, (ready .content-whole, (pre .1 .1 .0, step-room-public (begun planned)))),
+      (ready .slot-inside, (ready .content-whole, (pre .1 .0, step-room-public (begun planned)))),
     )
 
 -- the buffer keeps its length when the public block is stored
@@ -54,7 +54,7 @@ long-public :
     length (c .store-public .last .1 .1 .1 .1 .1 .1 .1 .0) ≡
     startOf (after-plan (c .before)) .args .g .«block_size»
 long-public c =
-    c .store-public .kept .1 .1 .1 .1 .1 .1 .1 .0 ∙ startOf (after-plan (c .before)) .pre .1 .1 .0
+    c .store-public .kept .1 .1 .1 .1 .1 .1 .1 .0 ∙ startOf (after-plan (c .before)) .pre .1 .0
 
 store-hidden-requires : tie.Need-store-hidden-requires
 store-hidden-requires c κs =
@@ -62,22 +62,22 @@ store-hidden-requires c κs =
     let planned = after-plan (stored .before) in
     let ready = startOf planned .pre .0 in
     let first = stored .store-public .ensures in
-    let nodes = planned .plan-round .kept .1 .1 .1 .1 .1 .0 ∙ startOf planned .pre .1 .0 in
+    let placed = planned .plan-round .ensures .placed in
     let room = step-room-hidden (begun planned) first in (
       step-drive-public (begun planned) first,
       (
         ready .slot-inside,
-        (ready .hidden-whole, (ready .random-enough, (nodes, (long-public stored, room)))),
+        (placed, (ready .hidden-whole, (ready .random-enough, (long-public stored, room)))),
       ),
     )
 
 -- and when the hidden half is
 long-hidden :
     (c : tie.After-store-hidden) →
-    length (c .store-hidden .last .1 .1 .1 .1 .1 .1 .1 .1 .1 .1 .0) ≡
+    length (c .store-hidden .last .1 .1 .1 .1 .1 .1 .1 .1 .0) ≡
     startOf (after-plan (after-public (c .before) .before)) .args .g .«block_size»
 long-hidden c =
-    c .store-hidden .kept .1 .1 .1 .1 .1 .1 .1 .1 .1 .1 .0 ∙ long-public (after-public (c .before))
+    c .store-hidden .kept .1 .1 .1 .1 .1 .1 .1 .1 .0 ∙ long-public (after-public (c .before))
 
 store-ending-requires : tie.Need-store-ending-requires
 store-ending-requires c κs =
@@ -103,12 +103,7 @@ same-length-2 : tie.Need-same-length-2
 same-length-2 c = search needs
 
 same-length-3 : tie.Need-same-length-3
-same-length-3 c =
-    let stored = after-public (after-hidden (after-ending c .before) .before) in
-    after-plan (stored .before) .plan-round .kept .1 .1 .1 .1 .1 .0
-
-same-length-4 : tie.Need-same-length-4
-same-length-4 c = search needs
+same-length-3 c = search needs
 
 returns : tie.Need-returns
 returns c =
@@ -127,4 +122,4 @@ pub do-round-spec : {M : Type 1} → statement M
 do-round-spec =
     tie.close
     (tie.spec plan-round-requires store-public-requires store-hidden-requires store-ending-requires
-    is-kept-requires same-length same-length-2 same-length-3 same-length-4 returns)
+    is-kept-requires same-length same-length-2 same-length-3 returns)

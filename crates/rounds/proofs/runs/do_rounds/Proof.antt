@@ -1,5 +1,5 @@
 -- `do_rounds` meets its contract. Invariant: the rounds done and the rest of the run from here are the whole
--- run, and the buffers are as long as they were. The measure is the slots left. Assumes nothing.
+-- run, and the buffer is as long as it was. The measure is the slots left. Assumes nothing.
 use mathlib.Core.Path.{refl, sym, ap, subst, _∙_}
 use Prim.Native.Nat.{ℕ, _+_, _*_, _-_, _^_, _≤_}
 use native.Mathlib.Nat.{mul-le-mul}
@@ -20,21 +20,21 @@ use Rattle.rounds.proofs.runs.do_rounds.Statement.{statement}
 use Rattle.rounds.proofs.runs.do_rounds.Tie as tie
 
 abbrev Inv-loop : tie.InvT-loop
-Inv-loop disk₀ list₀ next g number head content random offered hidden nodes₀ block₀ slots width slot₀ at₀
-    reached₀ done₀ disk list nodes block slot at reached done =
+Inv-loop disk₀ list₀ next g number head content random offered hidden block₀ slots width slot₀ at₀
+    reached₀ done₀ disk list block slot at reached done =
     Looping (geometryOf g) (number .0) content random hidden (offered .0)
     (theRun (geometryOf g) (number .0) content random hidden (offered .0) disk₀ head list₀ next reached₀)
     disk₀
-    list₀ next nodes₀ block₀ disk list nodes block slot at reached done
+    list₀ next block₀ disk list block slot at reached done
 
 abbrev μ-loop : tie.MeasureT-loop
-μ-loop disk₀ list₀ next g number head content random offered hidden nodes₀ block₀ slots width slot₀ at₀
-    reached₀ done₀ disk list nodes block slot at reached done = slots - done
+μ-loop disk₀ list₀ next g number head content random offered hidden block₀ slots width slot₀ at₀
+    reached₀ done₀ disk list block slot at reached done = slots - done
 
 -- ---- places ----
 
 abbrev at-lent : tie.After-struct-known2 Inv-loop μ-loop → tie.After-shared-slice-known3 Inv-loop μ-loop
-at-lent c = c .before .before .before .before
+at-lent c = c .before .before .before
 
 abbrev at-list : tie.After-struct-known2 Inv-loop μ-loop → tie.After-slice-known2 Inv-loop μ-loop
 at-list c = at-lent c .before .before .before
@@ -46,10 +46,10 @@ at-start c = at-list c .before .before
 abbrev start-of : tie.At-loop Inv-loop μ-loop → tie.Start Inv-loop μ-loop
 start-of c = at-start (c .before)
 
-abbrev at-random : tie.After-do-round-arg5 Inv-loop μ-loop → tie.After-do-round-arg2 Inv-loop μ-loop
-at-random c = c .before .before .before
+abbrev at-random : tie.After-do-round-arg4 Inv-loop μ-loop → tie.After-do-round-arg2 Inv-loop μ-loop
+at-random c = c .before .before
 
-abbrev test-of : tie.After-do-round-arg5 Inv-loop μ-loop → tie.In-loop Inv-loop μ-loop
+abbrev test-of : tie.After-do-round-arg4 Inv-loop μ-loop → tie.In-loop Inv-loop μ-loop
 test-of c = at-random c .before .before
 
 abbrev at-test : tie.After-do-round Inv-loop μ-loop → tie.In-loop Inv-loop μ-loop
@@ -62,7 +62,7 @@ abbrev at-block : tie.After-struct-known3 Inv-loop μ-loop → tie.After-block I
 at-block c = c .before .before .before
 
 abbrev at-entries : tie.After-struct-known3 Inv-loop μ-loop → tie.After-list Inv-loop μ-loop
-at-entries c = at-block c .before .before .before .before
+at-entries c = at-block c .before .before
 
 -- the round of this turn
 abbrev at-round : tie.After-struct-known3 Inv-loop μ-loop → tie.After-do-round Inv-loop μ-loop
@@ -123,7 +123,6 @@ loop-holds c =
           going-none (geometryOf (s .g)) (s .number .0) (s .content .now) (s .random .now) (s .hidden .now)
           (s .offered .0) (s .disk .now) (s .head) (s .list .now) (s .next) (s .state) (at-start c .pre .0);
       disk-kept = refl;
-      nodes-kept = refl;
       block-kept = refl;
     }
 
@@ -162,16 +161,13 @@ do-round-requires c κs =
           (s .args .hidden .now)) e
           (round-ready (s .pre .0) (l .inv .going) (test .loop-test .taken)),
       (
-        l .inv .nodes-kept ∙ s .pre .1 .0,
-        (
-          l .inv .block-kept ∙ s .pre .1 .1,
-          subst (λ (bytes : Bytes).
-              l .at + length (roundAt (shape-of turn) (l .disk) (s .args .number .0) (l .slot)
-              (s .args .content .now) bytes (stateOf (l .reached) (s .args .offered .0)
-              (s .args .hidden .now))) ≤
-              length (l .list)) e
-              (round-room (s .pre .0) (l .inv .going) (test .loop-test .taken)),
-        ),
+        l .inv .block-kept ∙ s .pre .1,
+        subst (λ (bytes : Bytes).
+            l .at + length (roundAt (shape-of turn) (l .disk) (s .args .number .0) (l .slot)
+            (s .args .content .now) bytes (stateOf (l .reached) (s .args .offered .0)
+            (s .args .hidden .now))) ≤
+            length (l .list)) e
+            (round-room (s .pre .0) (l .inv .going) (test .loop-test .taken)),
       ),
     )
 
@@ -196,15 +192,6 @@ same-length-3 c =
     omega (
       arith,
       round .do-round .kept .1 .1 .1 .1 .1 .1 .1 .1 .1 .1 .1 .0,
-      at-turn round .loop .inv .nodes-kept,
-    )
-
-same-length-4 : tie.Need-same-length-4 Inv-loop μ-loop
-same-length-4 c =
-    let round = at-round (c .before) in
-    omega (
-      arith,
-      round .do-round .kept .1 .1 .1 .1 .1 .1 .1 .1 .1 .1 .1 .1 .0,
       at-turn round .loop .inv .block-kept,
     )
 
@@ -243,23 +230,19 @@ loop-again c =
           going-next (start-of (at-turn round) .pre .0) (inv .going) (at-test round .loop-test .taken)
           (stepped round) (not-false (round .do-round .result .«goes_on») (c .if1 .left));
       disk-kept = kept .0 ∙ inv .disk-kept;
-      nodes-kept = kept .1 .1 .1 .1 .1 .1 .1 .1 .1 .1 .1 .0 ∙ inv .nodes-kept;
-      block-kept = kept .1 .1 .1 .1 .1 .1 .1 .1 .1 .1 .1 .1 .0 ∙ inv .block-kept;
+      block-kept = kept .1 .1 .1 .1 .1 .1 .1 .1 .1 .1 .1 .0 ∙ inv .block-kept;
     }
 
 -- ---- every slot passed ----
 
+same-length-4 : tie.Need-same-length-4 Inv-loop μ-loop
+same-length-4 c = omega (arith, c .before .loop .inv .disk-kept)
+
 same-length-5 : tie.Need-same-length-5 Inv-loop μ-loop
-same-length-5 c = omega (arith, c .before .loop .inv .disk-kept)
+same-length-5 c = omega (arith, c .before .loop .inv .going .list-kept)
 
 same-length-6 : tie.Need-same-length-6 Inv-loop μ-loop
-same-length-6 c = omega (arith, c .before .loop .inv .going .list-kept)
-
-same-length-7 : tie.Need-same-length-7 Inv-loop μ-loop
-same-length-7 c = omega (arith, c .before .loop .inv .nodes-kept)
-
-same-length-8 : tie.Need-same-length-8 Inv-loop μ-loop
-same-length-8 c = omega (arith, c .before .loop .inv .block-kept)
+same-length-6 c = omega (arith, c .before .loop .inv .block-kept)
 
 returns-2 : tie.Need-returns-2 Inv-loop μ-loop
 returns-2 c =
@@ -292,14 +275,12 @@ do-rounds-spec =
     same-length
     same-length-2
     same-length-3
-    same-length-4
     returns
     add-slot
     rem-slot
     loop-less
     loop-again
+    same-length-4
     same-length-5
     same-length-6
-    same-length-7
-    same-length-8
     returns-2)

@@ -8,9 +8,9 @@ use Rattle.model.proofs.Laws.Geometry.{fanout-low}
 use Rattle.model.proofs.Laws.Blocks.{length-blockAt}
 use Rattle.layout.specs.Geometries.{geometryOf}
 use Rattle.slots.proofs.Laws.Levels.{levelAddress-lt}
-use Rattle.slots.proofs.Laws.Statuses.{owner-read}
-use Rattle.slots.proofs.statuses.owner_of.Statement.{statement}
-use Rattle.slots.proofs.statuses.owner_of.Tie as tie
+use Rattle.slots.proofs.Laws.Owners.{owner-read}
+use Rattle.slots.proofs.owners.owner_of.Statement.{statement}
+use Rattle.slots.proofs.owners.owner_of.Tie as tie
 
 cast-last : tie.Need-cast-last
 cast-last c = search needs

@@ -113,5 +113,7 @@ pub extern "C" fn pddm_hidden_find(disk: &[u8], number: u32, blank: &[u8]) -> Fo
     if bad != 0 {
         return refused_find(bad);
     }
-    found_end(walk(disk, g, HiddenNumber(number)))
+    let trail = walk(disk, g, HiddenNumber(number));
+    let end = trail.end;
+    found_end(end)
 }

@@ -23,7 +23,9 @@ pub fn hidden_fault(disk: &[u8], number: HiddenNumber, blank: &[u8]) -> u8
     if bad != 0 {
         return bad;
     }
-    match walk(disk, g, number) {
+    let trail = walk(disk, g, number);
+    let end = trail.end;
+    match end {
         Reached::Damaged => 12,
         _ => 0,
     }
@@ -41,7 +43,9 @@ pub fn hidden_read<'a>(disk: &'a [u8], number: HiddenNumber, blank: &'a [u8]) ->
     if number_fault(g, number, blank.len()) != 0 {
         return &blank[..0];
     }
-    match walk(disk, g, number) {
+    let trail = walk(disk, g, number);
+    let end = trail.end;
+    match end {
         Reached::Found(address) => block_at(disk, g, address),
         Reached::Unmapped => blank,
         Reached::Damaged => &blank[..0],

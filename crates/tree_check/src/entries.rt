@@ -1,26 +1,30 @@
-// The three tests of an entry that is met and is not 0.
+// The three tests of an entry that is met and is not 0; one that passes them is handed back with the nodes of
+// the walk of its slot's owner.
 use crate::spans::is_below;
 use hidden_map::branches::is_well_formed;
-use hidden_map::walks::Reached;
+use hidden_map::nodes::Nodes;
 use hidden_map::walks::walk;
 use layout::geometry::Geometry;
 use layout::geometry::area_start;
 use layout::geometry::slot_of;
 use layout::numbers::DiskAddress;
-use layout::numbers::HiddenNumber;
-use slots::levels::level_address;
-use slots::statuses::owner_of;
+use slots::owners::ends_in;
+use slots::owners::owner_of;
 ghost use mathlib.Core.Path.{_≡_};
 ghost use mathlib.Core.Bool.{true};
 ghost use Prim.Native.Nat.{_<_};
-ghost use lib.Dec.{eqb};
-ghost use Rattle.laws.specs.Checks.{firstOf};
 ghost use Rattle.model.specs.Geometry.{Fits};
-ghost use Rattle.model.specs.Layout.{Drive, levelAddress, isWellFormed};
-ghost use Rattle.model.specs.HiddenTree as tree;
-ghost use Rattle.model.specs.HiddenTree.{isFoundAt};
-ghost use Rattle.model.specs.TreeCheck.{metEntry, isOwned, entryChecks};
+ghost use Rattle.model.specs.Layout.{Drive, isWellFormed};
+ghost use Rattle.model.specs.TreeCheck.{metEntry};
 ghost use Rattle.layout.specs.Geometries.{geometryOf};
+ghost use Rattle.tree_check.specs.Entries.{TestedAs};
+
+// What the tests of an entry tell: its fault, or, of one that passed, the nodes of the walk of the owner of
+// the slot that it leads to.
+pub enum Tested {
+    Fault(u8),
+    Passed(Nodes),
+}
 
 // Whether an address is that of a block of a level in some slot.
 fn is_formed(g: Geometry, level: u32, address: DiskAddress) -> bool
@@ -33,60 +37,41 @@ fn is_formed(g: Geometry, level: u32, address: DiskAddress) -> bool
     is_well_formed(height, start, count, level, address)
 }
 
-// Whether two addresses are the same.
-fn is_same(one: DiskAddress, other: DiskAddress) -> bool
-    ensures { λ r. ⌜ r ≡ eqb (one .0) (other .0) ⌝ }
-{
-    one.0 == other.0
-}
-
-// Whether the walk for a number ends at a slot's last block.
-fn ends_in(disk: &[u8], g: Geometry, number: HiddenNumber, slot: u32) -> bool
-    requires { ⌜ Drive (geometryOf g) (now disk) ⌝ }
-    requires { ⌜ slot < g .slots ⌝ }
-    ensures { λ r. ⌜ r ≡ isFoundAt (levelAddress (geometryOf g) slot 0)
-        (tree.walk (geometryOf g) (now (disk .entry)) (number .0) .end) ⌝ }
-{
-    let data = level_address(g, slot, 0);
-    match walk(disk, g, number) {
-        Reached::Found(address) => is_same(address, data),
-        Reached::Unmapped => false,
-        Reached::Damaged => false,
-    }
-}
-
-// Whether the slot that a well-formed entry leads to is that of its owner: the owner is below the entry, and
-// its walk ends at the slot's last block.
-fn is_owned(disk: &[u8], g: Geometry, level: u32, first: u64, entry: DiskAddress) -> bool
+// 15 of an entry that 13 and 14 do not meet: the owner of the slot that it leads to is not below it, or the
+// owner's walk does not end at the slot's last block.
+fn test_owner(disk: &[u8], g: Geometry, level: u32, first: u64, entry: DiskAddress) -> Tested
     requires { ⌜ Drive (geometryOf g) (now disk) ⌝ }
     requires { ⌜ level < g .height ⌝ }
     requires { ⌜ isWellFormed (geometryOf g) level (entry .0) ≡ true ⌝ }
-    ensures { λ r. ⌜ r ≡ isOwned (geometryOf g) (now (disk .entry)) (metEntry level first (entry .0)) ⌝ }
+    requires { ⌜ first < g .hidden ⌝ }
+    ensures { λ r. ⌜ TestedAs (geometryOf g) (now (disk .entry)) (metEntry level first (entry .0)) r ⌝ }
 {
     let slot = slot_of(g, entry);
     let owner = owner_of(disk, g, slot);
     if !is_below(g, level, first, owner) {
-        return false;
+        return Tested::Fault(15);
     }
-    ends_in(disk, g, owner, slot)
+    let trail = walk(disk, g, owner);
+    let end = trail.end;
+    if !ends_in(g, end, slot) {
+        return Tested::Fault(15);
+    }
+    let nodes = trail.nodes;
+    Tested::Passed(nodes)
 }
 
-// 13, 14 or 15 of an entry of a level whose numbers begin with this one, the first that holds, else 0. The
-// first number may lie past every hidden number, and past 32 bits.
-pub fn entry_fault(disk: &[u8], g: Geometry, level: u32, first: u64, entry: DiskAddress) -> u8
+// 13, 14 or 15 of an entry of a level whose numbers begin with this one, the first that holds. The first
+// number may lie past every hidden number, and past 32 bits.
+pub fn test_entry(disk: &[u8], g: Geometry, level: u32, first: u64, entry: DiskAddress) -> Tested
     requires { ⌜ Drive (geometryOf g) (now disk) ⌝ }
     requires { ⌜ level < g .height ⌝ }
-    ensures { λ r. ⌜ r ≡
-        firstOf (entryChecks (geometryOf g) (now (disk .entry)) (metEntry level first (entry .0))) ⌝ }
+    ensures { λ r. ⌜ TestedAs (geometryOf g) (now (disk .entry)) (metEntry level first (entry .0)) r ⌝ }
 {
     if !is_formed(g, level, entry) {
-        return 13;
+        return Tested::Fault(13);
     }
     if g.hidden as u64 <= first {
-        return 14;
+        return Tested::Fault(14);
     }
-    if !is_owned(disk, g, level, first, entry) {
-        return 15;
-    }
-    0
+    test_owner(disk, g, level, first, entry)
 }

@@ -1,14 +1,21 @@
-// Nodes and entries: a node goes through its entries, and each entry goes on to its node, one level lower.
-use crate::entries::entry_fault;
+// Nodes and entries: a node goes through its entries, and each entry goes on to its node, one level lower,
+// which the walk of its slot's owner has read.
+use crate::entries::Tested;
+use crate::entries::test_entry;
 use crate::spans::entries_in;
 use crate::spans::span_of;
+use hidden_map::nodes::Node;
+use hidden_map::nodes::Nodes;
+use hidden_map::nodes::node_at;
 use layout::blocks::block_at;
 use layout::entries::entry_at;
 use layout::geometry::Geometry;
 use layout::numbers::DiskAddress;
 use layout::numbers::HiddenNumber;
 ghost use mathlib.Core.Path.{_≡_};
-ghost use Prim.Native.Nat.{suc, _+_, _*_, _<_};
+ghost use mathlib.Core.Logic.{_≢_};
+ghost use mathlib.Core.Option.{none, some};
+ghost use Prim.Native.Nat.{suc, _+_, _*_, _≤_, _<_};
 ghost use Rattle.model.specs.Geometry.{Fits, fanout, blockCount};
 ghost use Rattle.model.specs.Blocks.{blockAt, entryAt};
 ghost use Rattle.model.specs.Layout.{Drive};
@@ -16,6 +23,7 @@ ghost use Rattle.model.specs.HiddenTree.{span};
 ghost use Rattle.model.specs.Invariants.{entriesIn};
 ghost use Rattle.model.specs.TreeCheck.{metBelow, metAt, firstFault};
 ghost use Rattle.layout.specs.Geometries.{geometryOf};
+ghost use Rattle.hidden_map.specs.Nodes.{addressAt};
 ghost use Rattle.tree_check.specs.Nodes.{NodeOf};
 
 // The entry at a place of the node at an address.
@@ -39,6 +47,18 @@ fn first_below(g: Geometry, level: u32, first: HiddenNumber, place: u32) -> u64
     first.0 as u64 + (place as u64) * span_of(g, level)
 }
 
+// Where the node of a level stands that has been read; the 0 is never answered.
+fn node_read(nodes: Nodes, level: u32) -> DiskAddress
+    requires { ⌜ (1 ≤ level) × (level ≤ 3) ⌝ }
+    requires { ⌜ addressAt nodes level ≢ none ⌝ }
+    ensures { λ r. ⌜ addressAt nodes level ≡ some (r .0) ⌝ }
+{
+    match node_at(nodes, level) {
+        Node::Read(address) => address,
+        Node::NotReached => DiskAddress(0),
+    }
+}
+
 // The first fault at a place of a node or below it, else 0: the entry's own fault, then its node's.
 fn check_entry(
     disk: &[u8],
@@ -48,7 +68,7 @@ fn check_entry(
     node: DiskAddress,
     place: u32,
 ) -> u8
-    requires { ⌜ NodeOf (geometryOf g) (now disk) level (node .0) ⌝ }
+    requires { ⌜ NodeOf (geometryOf g) (now disk) level (first .0) (node .0) ⌝ }
     requires { ⌜ place < entriesIn (geometryOf g) level ⌝ }
     ensures { λ r. ⌜ r ≡ firstFault (geometryOf g) (now (disk .entry))
         (metAt (geometryOf g) (now (disk .entry)) level (first .0)
@@ -59,14 +79,16 @@ fn check_entry(
         return 0;
     }
     let start = first_below(g, level, first, place);
-    let own = entry_fault(disk, g, level, start, entry);
-    if own != 0 {
-        return own;
+    match test_entry(disk, g, level, start, entry) {
+        Tested::Fault(fault) => fault,
+        Tested::Passed(nodes) => {
+            if level == 0 {
+                return 0;
+            }
+            let below = node_read(nodes, level);
+            check_node(disk, g, level - 1, HiddenNumber(start as u32), below)
+        }
     }
-    if level == 0 {
-        return 0;
-    }
-    check_node(disk, g, level - 1, HiddenNumber(start as u32), entry)
 }
 
 // The first fault of a node's entries, each with what is below it, else 0.
@@ -77,7 +99,7 @@ pub fn check_node(
     first: HiddenNumber,
     node: DiskAddress,
 ) -> u8
-    requires { ⌜ NodeOf (geometryOf g) (now disk) level (node .0) ⌝ }
+    requires { ⌜ NodeOf (geometryOf g) (now disk) level (first .0) (node .0) ⌝ }
     ensures { λ r. ⌜ r ≡ firstFault (geometryOf g) (now (disk .entry))
         (metBelow (geometryOf g) (now (disk .entry)) (suc level) (first .0)
         (blockAt (geometryOf g .blockSize) (now (disk .entry)) (node .0))) ⌝ }

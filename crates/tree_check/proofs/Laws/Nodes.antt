@@ -1,14 +1,18 @@
--- Laws of nodes and entries: one for each way through the check of an entry, what an entry without fault
--- leads to, and a node gone through place by place. Assumes nothing.
-use mathlib.Core.Path.{_≡_, sym, ap, ap₂, _∙_}
+-- Laws of nodes and entries: one for each way through the check of an entry, the node that an entry without
+-- fault leads to and its owner's walk read, and a node gone through place by place. Assumes nothing.
+use mathlib.Core.Path.{_≡_, sym, ap, ap₂, _∙_, subst}
 use mathlib.Core.Logic.{_≢_}
+use mathlib.Core.Bool.{true}
 use mathlib.Core.List.{List}
-use Prim.Native.Nat.{ℕ, suc, _+_, _*_, _-_, _≤_, _<_}
+use mathlib.Core.Option.{none, some}
+use Prim.Native.Nat.{ℕ, suc, _+_, _*_, _-_, _/_, _≤_, _<_}
 use native.Mathlib.Nat.{sub-zero}
 use native.Mathlib.Omega.{arith}
 use Rattle.laws.specs.Checks.{firstOf}
+use Rattle.laws.proofs.Cases.{none-is-not-some, some-inj}
 use Rattle.model.specs.Geometry.{Geometry}
 use Rattle.model.specs.Blocks.{Bytes, DiskAddress, blockAt, entryAt}
+use Rattle.model.specs.Layout.{isWellFormed}
 use Rattle.model.specs.HiddenTree.{span}
 use Rattle.model.specs.Invariants.{entriesIn}
 use Rattle.model.specs.TreeCheck.{MetEntry, metEntry, metInTurn, metWith, metBelow, metAt}
@@ -17,8 +21,15 @@ use Rattle.model.proofs.Laws.TreeCheck.{belowEntry, metBelow-zero, metBelow-suc
 use Rattle.model.proofs.Laws.TreeCheck.{firstFault-own, firstFault-below, firstFault-nil}
 use Rattle.model.proofs.Laws.TreeCheck.{formed-of-faultless, first-of-faultless, firstFault-end}
 use Rattle.model.proofs.Laws.TreeCheck.{firstFault-place, firstFault-next}
+use Rattle.hidden_map.specs.declared.nodes.Nodes.{Nodes}
+use Rattle.hidden_map.specs.Nodes.{addressAt}
+use Rattle.tree_check.specs.declared.entries.Tested.{Tested}
+use Rattle.tree_check.specs.declared.entries.Tested.the-variants.{Fault, Passed}
+use Rattle.tree_check.specs.Entries.{faultOf, ownerAt, TestedAs}
 use Rattle.tree_check.specs.Nodes.{NodeOf}
 use Rattle.tree_check.proofs.Laws.Entries.{formed-inside}
+use Rattle.tree_check.proofs.Laws.Ways.{first-of-index, index-of-below, indexAt, read-entry}
+use Rattle.tree_check.proofs.Laws.Ways.{read-below}
 
 -- ---- an entry and what is below it ----
 
@@ -45,38 +56,46 @@ module _ (g : Geometry) (disk : Bytes) {level first place : ℕ} {node : Bytes} 
       let met = metEntry level start entry in
       sym (firstFault-zero g disk met (belowEntry g disk met) z) ∙ ap (firstFault g disk) metAt-read
 
--- it is not 0, and this is its own fault
-pub record Judged (g : Geometry) (disk : Bytes) (level first place : ℕ) (node : Bytes) (entry : DiskAddress)
-    (start own : ℕ) : Type 0 where
-  pub read : ReadAt g level first place node entry start
-  pub some : entry ≢ 0
-  pub own-is : own ≡ firstOf (entryChecks g disk (metEntry level start entry))
+-- at a place of a node it is not 0, and this is what its tests tell
+pub record Judged (g : Geometry) (disk : Bytes) (level first place : ℕ) (node entry : DiskAddress)
+    (start : ℕ) (tested : Tested) : Type 0 where
+  pub node-of : NodeOf g disk level first node
+  pub place-lt : place < entriesIn g level
+  pub read : ReadAt g level first place (blockAt (g .blockSize) disk node) entry start
+  pub not-zero : entry ≢ 0
+  pub told : TestedAs g disk (metEntry level start entry) tested
 
-module _ {g : Geometry} {disk : Bytes} {level first place : ℕ} {node : Bytes} {entry : DiskAddress}
-    {start own : ℕ} (j : Judged g disk level first place node entry start own) where
+module _ {g : Geometry} {disk : Bytes} {level first place : ℕ} {node entry : DiskAddress} {start : ℕ}
+    {tested : Tested} (j : Judged g disk level first place node entry start tested) where
   abbrev met : MetEntry
   met = metEntry level start entry
 
   -- the first fault there
-  abbrev fault : ℕ
-  fault = firstFault g disk (metAt g disk level first node place)
+  abbrev faultThere : ℕ
+  faultThere = firstFault g disk (metAt g disk level first (blockAt (g .blockSize) disk node) place)
 
-  pub fault-own : own ≢ 0 → own ≡ fault
-  fault-own ne =
-      j .own-is ∙ sym (firstFault-own g disk met (belowEntry g disk met) (j .some) (λ z. ne (j .own-is ∙ z)))
+  pub fault-own : (fault : ℕ) → tested ≡ Fault fault → fault ≡ faultThere
+  fault-own fault e =
+      let own : fault ≡ firstOf (entryChecks g disk met) = ap faultOf (sym e) ∙ j .told .fault-is in
+      own
+      ∙ sym (firstFault-own g disk met (belowEntry g disk met) (j .not-zero)
+      (λ z. j .told .fault-some fault e (own ∙ z)))
       ∙ ap (firstFault g disk) (metAt-read g disk (j .read))
 
-  module _ (z : own ≡ 0) where
+  module _ (nodes : Nodes) (p : tested ≡ Passed nodes) where
     faultless : firstOf (entryChecks g disk met) ≡ 0
-    faultless = sym (j .own-is) ∙ z
+    faultless = sym (j .told .fault-is) ∙ ap faultOf p
 
     -- the answer is that of what is below
-    left-below : firstFault g disk (belowEntry g disk met) ≡ fault
+    left-below : firstFault g disk (belowEntry g disk met) ≡ faultThere
     left-below =
-        sym (firstFault-below g disk met (belowEntry g disk met) (j .some) faultless)
+        sym (firstFault-below g disk met (belowEntry g disk met) (j .not-zero) faultless)
         ∙ ap (firstFault g disk) (metAt-read g disk (j .read))
 
-    pub fault-data : level ≡ 0 → 0 ≡ fault
+    pub start-lt : start < g .hidden
+    start-lt = first-of-faultless g disk met faultless
+
+    pub fault-data : level ≡ 0 → 0 ≡ faultThere
     fault-data l =
         sym (firstFault-nil g disk)
         ∙ ap (firstFault g disk)
@@ -84,28 +103,63 @@ module _ {g : Geometry} {disk : Bytes} {level first place : ℕ} {node : Bytes} 
         ∙ ap (λ (n : ℕ). belowEntry g disk (metEntry n start entry)) (sym l))
         ∙ left-below
 
-    pub fault-below : (answer : ℕ) → level ≢ 0 →
-        answer ≡
-        firstFault g disk (metBelow g disk (suc (level - 1)) start (blockAt (g .blockSize) disk entry)) →
-        answer ≡ fault
-    fault-below answer l a =
-        let up : suc (level - 1) ≡ level = omega arith in
-        a
-        ∙ ap (λ (n : ℕ). firstFault g disk (metBelow g disk n start (blockAt (g .blockSize) disk entry))) up
-        ∙ left-below
+    -- how many entries of the level the tree has before it
+    abbrev index : ℕ
+    index = indexAt (j .node-of) place
 
-    -- the block that the entry leads to is a node, one level lower
-    pub node-below : (address : DiskAddress) → NodeOf g disk level address → level ≢ 0 →
-        NodeOf g disk (level - 1) entry
-    node-below address n l =
-        record {
-          drive = n .drive;
-          level-lt = omega (arith, n .level-lt);
-          node-lt = formed-inside g level entry (formed-of-faultless g disk met faultless);
-        }
+    start-is : start ≡ index * span g level
+    start-is =
+        j .read .start-is ∙ ap (λ (n : ℕ). n + place * span g level) (j .node-of .first-is)
+        ∙ first-of-index g level (j .node-of .index) place
 
-    pub start-lt : start < g .hidden
-    start-lt = first-of-faultless g disk met faultless
+    formed : isWellFormed g level entry ≡ true
+    formed = formed-of-faultless g disk met faultless
+
+    module _ (l : level ≢ 0) where
+      -- the walk of the owner read the node that the entry leads to
+      read-there : addressAt nodes level ≡ some entry
+      read-there =
+          let owned = j .told .nodes-of nodes p in
+          let owner = ownerAt g disk met in
+          owned .nodes-are level
+          ∙ read-entry (j .node-of) place (j .place-lt) owner
+          (index-of-below g level start index owner start-is (owned .owner-below)) entry (j .read .entry-is)
+          (j .not-zero) formed l
+
+      pub is-read : addressAt nodes level ≢ none
+      is-read z = none-is-not-some entry (sym z ∙ read-there)
+
+      module _ (below : DiskAddress) (r : addressAt nodes level ≡ some below) where
+        below-is : entry ≡ below
+        below-is = some-inj entry below (sym read-there ∙ r)
+
+        pub fault-below : (answer : ℕ) →
+            answer ≡
+            firstFault g disk (metBelow g disk (suc (level - 1)) start (blockAt (g .blockSize) disk below)) →
+            answer ≡ faultThere
+        fault-below answer a =
+            let up : suc (level - 1) ≡ level = omega arith in
+            a
+            ∙ ap₂ (λ (m at : ℕ). firstFault g disk (metBelow g disk m start (blockAt (g .blockSize) disk at)))
+            up (sym below-is)
+            ∙ left-below
+
+        -- the block that was read there is a node, one level lower
+        pub node-below : NodeOf g disk (level - 1) start below
+        node-below =
+            let up : suc (level - 1) ≡ level = omega arith in
+            subst (NodeOf g disk (level - 1) start) below-is
+            (record {
+              drive = j .node-of .drive;
+              level-lt = omega (arith, j .node-of .level-lt);
+              node-lt = formed-inside g level entry formed;
+              index = index;
+              first-is = start-is ∙ ap (λ (n : ℕ). index * span g n) (sym up);
+              walks-pass = λ number k wanted w.
+                  read-below (j .node-of) place (j .place-lt) number
+                  (ap (λ (n : ℕ). number / span g n) (sym up) ∙ k) entry (j .read .entry-is) (j .not-zero)
+                  formed l wanted w;
+            })
 
 -- ---- a node, place by place ----
 

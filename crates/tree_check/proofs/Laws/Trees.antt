@@ -3,14 +3,17 @@
 use mathlib.Core.Path.{_≡_, sym, ap, _∙_}
 use mathlib.Core.Logic.{_≢_}
 use Prim.Native.Nat.{ℕ, suc, _-_}
+use native.Mathlib.Nat.{zero-mul}
 use native.Mathlib.Omega.{arith}
 use Rattle.model.specs.Geometry.{Geometry, rootAddress}
 use Rattle.model.specs.Blocks.{Bytes, DiskAddress, blockAt}
 use Rattle.model.specs.Layout.{Drive, geometryIn}
+use Rattle.model.specs.HiddenTree.{span}
 use Rattle.model.specs.Refusals.{driveRefusal}
 use Rattle.model.specs.TreeCheck.{metBelow, metEntries, firstFault, treeChecks, treeRefusal}
 use Rattle.model.proofs.Laws.Geometry.{rootAddress-lt}
 use Rattle.model.proofs.Laws.Refusals.{after-drive-stop, after-drive-pass}
+use Rattle.hidden_map.specs.Nodes.{readFrom}
 use Rattle.tree_check.specs.Nodes.{NodeOf}
 
 module _ (disk : Bytes) where
@@ -21,12 +24,17 @@ module _ (disk : Bytes) where
 
   module _ (accepted : driveRefusal disk ≡ 0) (g : Geometry) (e : g ≡ geometryIn disk) (d : Drive g disk)
       (root : DiskAddress) (r : root ≡ rootAddress g) where
-    pub root-node : NodeOf g disk (g .height - 1) root
+    pub root-node : NodeOf g disk (g .height - 1) 0 root
     root-node =
         record {
           drive = d;
           level-lt = omega (arith, d .fits .height-low);
           node-lt = omega (arith, rootAddress-lt g);
+          index = 0;
+          first-is = sym (zero-mul (span g (suc (g .height - 1))));
+          walks-pass = λ number k wanted w.
+              ap (λ (at : ℕ). readFrom g disk number (g .height - 1) (blockAt (g .blockSize) disk at) wanted)
+              (sym r);
         }
 
     pub tree-answered : (answer : ℕ) →

@@ -81,7 +81,7 @@ returns-3 c =
     (c .found-end .ensures
     ∙ hidden-ended (a .disk .now) (a .number) (a .blank .now) (accepted (read .before)) (shapeOf read)
     (read .geometry-in .ensures) (bad .result) (bad .ensures) (passed .if2 .left)
-    (endOf (reached .result)) (reached .ensures))
+    (endOf (reached .result .end)) (reached .ensures .end-is))
 
 pub pddm-hidden-find-spec : {M : Type 1} → statement M
 pddm-hidden-find-spec =

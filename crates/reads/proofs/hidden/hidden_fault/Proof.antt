@@ -66,7 +66,7 @@ returns-3 c =
     hidden-damaged (a .disk .now) (a .number .0) (a .blank .now) (accepted (geometry .before))
     (geometryOf (geometry .geometry-in .result)) (geometry .geometry-in .ensures) (number .result)
     (number .ensures)
-    (s .before .if2 .left) (endOf (s .walk .result)) (s .walk .ensures)
+    (s .before .if2 .left) (endOf (s .walk .result .end)) (s .walk .ensures .end-is)
     (ap (λ (answer : Reached). isDamaged (endOf answer)) (c .enum-told .given .1))
 
 returns-4 : tie.Need-returns-4
@@ -78,8 +78,8 @@ returns-4 c =
     hidden-passes (a .disk .now) (a .number .0) (a .blank .now) (accepted (geometry .before))
     (geometryOf (geometry .geometry-in .result)) (geometry .geometry-in .ensures) (number .result)
     (number .ensures)
-    (s .before .if2 .left) (endOf (s .walk .result)) (s .walk .ensures)
-    (isDamaged-endOf (s .walk .result) (c .match .keys2))
+    (s .before .if2 .left) (endOf (s .walk .result .end)) (s .walk .ensures .end-is)
+    (isDamaged-endOf (s .walk .result .end) (c .match .keys2))
 
 pub hidden-fault-spec : {M : Type 1} → statement M
 hidden-fault-spec =

@@ -46,7 +46,7 @@ accepted s = sym (s .before .drive-fault .ensures) ∙ s .if1 .left
 
 -- an undamaged end of the walk is shown
 shown :
-    (s : tie.After-walk) (end : End) → endOf (s .walk .result) ≡ end → isDamaged end ≡ false →
+    (s : tie.After-walk) (end : End) → endOf (s .walk .result .end) ≡ end → isDamaged end ≡ false →
     shownAt (geometryAt s) (diskAt s) (blankAt s) end ≡
     hiddenRead (diskAt s) (startOf (at-geometry s .before) .args .number .0) (blankAt s)
 shown s end e =
@@ -54,11 +54,11 @@ shown s end e =
     let number = s .before .before .number-fault in
     end-shown (a .disk .now) (a .number .0) (a .blank .now) (accepted (at-geometry s .before)) (geometryAt s)
     (at-geometry s .geometry-in .ensures) (number .result) (number .ensures) (s .before .if2 .left) end
-    (sym e ∙ s .walk .ensures)
+    (sym e ∙ s .walk .ensures .end-is)
 
 -- a damaged walk is refused
 refused :
-    (s : tie.After-walk) → endOf (s .walk .result) ≡ damaged →
+    (s : tie.After-walk) → endOf (s .walk .result .end) ≡ damaged →
     12 ≡ hiddenReadRefusal (diskAt s) (startOf (at-geometry s .before) .args .number .0) (blankAt s)
 refused s e =
     let a = startOf (at-geometry s .before) .args in
@@ -66,7 +66,7 @@ refused s e =
     hidden-damaged (a .disk .now) (a .number .0) (a .blank .now) (accepted (at-geometry s .before))
     (geometryAt s)
     (at-geometry s .geometry-in .ensures) (number .result) (number .ensures) (s .before .if2 .left) damaged
-    (sym e ∙ s .walk .ensures) refl
+    (sym e ∙ s .walk .ensures .end-is) refl
 
 -- ---- answers ----
 
@@ -110,15 +110,15 @@ walk-requires c κs =
     drive-read (startOf (geometry .before) .args .disk .now) (accepted (geometry .before))
     (geometryOf (geometry .geometry-in .result)) (geometry .geometry-in .ensures)
 
-enum-known-address : tie.Need-enum-known-address
-enum-known-address c = search needs
+enum-known-end : tie.Need-enum-known-end
+enum-known-end c = search needs
 
 block-at-requires : tie.Need-block-at-requires
 block-at-requires c κs =
     let s = c .before .before .before in
     let g = geometryAt s in
-    let address = c .before .address .given in
-    let e = sym (ap endOf (address .1)) ∙ s .walk .ensures in
+    let address = c .before .end .given in
+    let e = sym (ap endOf (address .1)) ∙ s .walk .ensures .end-is in
     let inside : address .0 .0 .0 < blockCount g =
     found-inside g (diskAt s) (startOf (at-geometry s .before) .args .number .0) (g .height - 1)
     (blockAt (g .blockSize) (diskAt s) (rootAddress g)) (address .0 .0 .0) e in
@@ -135,7 +135,7 @@ slice-aggregate-result-3 c = search needs
 
 returns-3 : tie.Need-returns-3
 returns-3 c =
-    let address = c .before .before .address .given in
+    let address = c .before .before .end .given in
     c .block-at .ensures ∙ shown (c .before .before .before .before) (found (address .0 .0 .0))
     (ap endOf (address .1)) refl
 
@@ -160,7 +160,7 @@ hidden-read-spec =
     slice-aggregate-result-2
     returns-2
     walk-requires
-    enum-known-address
+    enum-known-end
     block-at-requires
     enum-told
     enum-told-2

@@ -1,7 +1,7 @@
 -- `tree_check::nodes::check_entry` and `check_node` meet their contracts: each way through an entry is a law
--- of what is met there; the invariant of a node's loop says that no fault is met before the place. The level
--- falls from an entry to its node, and the entries left fall in the loop; a node's measure is one more than
--- that of its entries. Assumes nothing.
+-- of what is met there, the node below taken from the walk of the owner; the invariant of a node's loop says
+-- that no fault is met before the place. The level falls from an entry to its node, and the entries left fall
+-- in the loop; a node's measure is one more than that of its entries. Assumes nothing.
 use mathlib.Core.Path.{refl}
 use Prim.Native.Nat.{ℕ, _+_, _*_, _-_, _<_}
 use native.Mathlib.Omega.{arith}
@@ -14,7 +14,7 @@ use Rattle.model.specs.Invariants.{entriesIn}
 use Rattle.layout.specs.Geometries.{geometryOf}
 use Rattle.tree_check.proofs.Laws.Spans.{entriesIn-le}
 use Rattle.tree_check.proofs.Laws.Nodes.{ReadAt, Judged, fault-unmapped, fault-own, fault-data}
-use Rattle.tree_check.proofs.Laws.Nodes.{fault-below, node-below, start-lt, FaultlessTo}
+use Rattle.tree_check.proofs.Laws.Nodes.{is-read, fault-below, node-below, start-lt, FaultlessTo}
 use Rattle.tree_check.proofs.Laws.Nodes.{faultless-zero, fault-at-end, fault-at-place, faultless-next}
 use Rattle.tree_check.proofs.nodes.check_entry.Reads as check-entry
 use Rattle.tree_check.proofs.nodes.check_entry.Kinds as check-entry-kinds
@@ -22,7 +22,8 @@ use Rattle.tree_check.proofs.nodes.+check_entry+check_node.Lts-check_en
 use Rattle.tree_check.proofs.nodes.check_node.Reads as check-node
 use Rattle.tree_check.proofs.nodes.check_node.Kinds as check-node-kinds
 use Rattle.tree_check.proofs.nodes.+check_entry+check_node.Lts-check_node as check-node-lts
-use Rattle.tree_check.proofs.entries.entry_fault.Reads as entry-fault-reads
+use Rattle.tree_check.proofs.entries.test_entry.Reads as test-entry-reads
+use Rattle.tree_check.proofs.nodes.node_read.Reads as node-read-reads
 use Rattle.tree_check.proofs.nodes.read_entry.Reads as read-entry-reads
 use Rattle.tree_check.proofs.nodes.first_below.Reads as first-below-reads
 use Rattle.tree_check.proofs.spans.entries_in.Reads as entries-in-reads
@@ -59,8 +60,10 @@ entry-reads t = (
   read-entry-reads.Learnt,
   first-below-reads.Asked,
   first-below-reads.Learnt,
-  entry-fault-reads.Asked,
-  entry-fault-reads.Learnt,
+  test-entry-reads.Asked,
+  test-entry-reads.Learnt,
+  node-read-reads.Asked,
+  node-read-reads.Learnt,
   check-node-below t,
   check-node.Post,
 )
@@ -90,15 +93,33 @@ AfterRead t = check-entry-lts.After-read-entry (entry-reads t) (check-entry-at t
 abbrev AfterFirst : ℕ → Type 0
 AfterFirst t = check-entry-lts.After-first-below (entry-reads t) (check-entry-at t) check-entry.Post
 
--- its own fault is known
-abbrev AfterFault : ℕ → Type 0
-AfterFault t = check-entry-lts.After-entry-fault (entry-reads t) (check-entry-at t) check-entry.Post
+-- its tests are made
+abbrev AfterTests : ℕ → Type 0
+AfterTests t = check-entry-lts.After-test-entry (entry-reads t) (check-entry-at t) check-entry.Post
+
+-- it passed them, and the nodes of the owner's walk are known
+abbrev AfterNodes : ℕ → Type 0
+AfterNodes t = check-entry-lts.After-nodes (entry-reads t) (check-entry-at t) check-entry.Post
+
+-- it is no data: it leads to a node
+abbrev AtNode : ℕ → Type 0
+AtNode t = check-entry-lts.Else2 (entry-reads t) (check-entry-at t) check-entry.Post
 
 abbrev entryStart : (t : ℕ) → AfterRead t → EntryStart t
 entryStart t s = s .before .before
 
 abbrev readOf : (t : ℕ) → AfterFirst t → AfterRead t
 readOf t s = s .before .before .before
+
+abbrev testsOf : (t : ℕ) → AfterNodes t → AfterTests t
+testsOf t s = s .before .before
+
+abbrev nodesOf : (t : ℕ) → AtNode t → AfterNodes t
+nodesOf t s = s .before .before
+
+-- the start, from the tests on
+abbrev startOf : (t : ℕ) → AfterTests t → EntryStart t
+startOf t s = entryStart t (readOf t (s .before))
 
 abbrev shapeOf : (t : ℕ) → EntryStart t → Geometry
 shapeOf t s = geometryOf (s .args .g)
@@ -122,18 +143,21 @@ readAt t known =
 
 -- and judged
 judgedOf :
-    (t : ℕ) (judged : AfterFault t) →
-    let known = judged .before in
+    (t : ℕ) (tests : AfterTests t) →
+    let known = tests .before in
     let read = readOf t known in
     let s = entryStart t read in
     let a = s .args in
-    Judged (shapeOf t s) (a .disk .now) (a .level) (a .first .0) (a .place) (blockOf t s)
-    (read .read-entry .result .0) (known .first-below .result) (judged .entry-fault .result)
-judgedOf t judged =
+    Judged (shapeOf t s) (a .disk .now) (a .level) (a .first .0) (a .place) (a .node .0)
+    (read .read-entry .result .0) (known .first-below .result) (tests .test-entry .result)
+judgedOf t tests =
+    let s = startOf t tests in
     record {
-      read = readAt t (judged .before);
-      some = judged .before .before .if1 .left;
-      own-is = judged .entry-fault .ensures;
+      node-of = s .pre .1 .0;
+      place-lt = s .pre .1 .1;
+      read = readAt t (tests .before);
+      not-zero = tests .before .before .if1 .left;
+      told = tests .test-entry .ensures;
     }
 
 -- ---- an entry: answers ----
@@ -158,46 +182,70 @@ check-entry-first-below-requires t c κs =
     let s = entryStart t (c .before .before) in
     (s .pre .1 .0 .drive .fits, (s .pre .1 .0 .level-lt, place-lt t s))
 
-check-entry-entry-fault-requires : (t : ℕ) → check-entry-lts.Need-entry-fault-requires (entry-reads t)
+check-entry-test-entry-requires : (t : ℕ) → check-entry-lts.Need-test-entry-requires (entry-reads t)
     (check-entry-at t) check-entry.Post
-check-entry-entry-fault-requires t c κs =
+check-entry-test-entry-requires t c κs =
     let s = entryStart t (readOf t c) in
     (s .pre .1 .0 .drive, s .pre .1 .0 .level-lt)
 
+check-entry-enum-known-fault : (t : ℕ) → check-entry-lts.Need-enum-known-fault (entry-reads t)
+    (check-entry-at t) check-entry.Post
+check-entry-enum-known-fault t c = search needs
+
+check-entry-enum-known-nodes : (t : ℕ) → check-entry-lts.Need-enum-known-nodes (entry-reads t)
+    (check-entry-at t) check-entry.Post
+check-entry-enum-known-nodes t c = search needs
+
 check-entry-returns-2 : (t : ℕ) → check-entry-lts.Need-returns-2 (entry-reads t) (check-entry-at t)
     check-entry.Post
-check-entry-returns-2 t c = fault-own (judgedOf t (c .before)) (λ z. omega (arith, z, c .if2 .taken))
+check-entry-returns-2 t c =
+    let passed = c .before .before in
+    fault-data (judgedOf t (testsOf t passed)) _ (passed .nodes .given .1) (c .if2 .taken)
 
-check-entry-returns-3 : (t : ℕ) → check-entry-lts.Need-returns-3 (entry-reads t) (check-entry-at t)
-    check-entry.Post
-check-entry-returns-3 t c = fault-data (judgedOf t (c .before .before)) (c .before .if2 .left) (c .if3 .taken)
+check-entry-node-read-requires : (t : ℕ) → check-entry-lts.Need-node-read-requires (entry-reads t)
+    (check-entry-at t) check-entry.Post
+check-entry-node-read-requires t c κs =
+    let passed = nodesOf t c in
+    let judged = judgedOf t (testsOf t passed) in
+    let of = judged .node-of in (
+      (omega (arith, c .if2 .left), omega (arith, of .level-lt, of .drive .fits .height-high)),
+      is-read judged _ (passed .nodes .given .1) (c .if2 .left),
+    )
 
 check-entry-sub-check-node : (t : ℕ) → check-entry-lts.Need-sub-check-node (entry-reads t)
     (check-entry-at t) check-entry.Post
 check-entry-sub-check-node t c = search needs
 
-check-entry-cast-t12 : (t : ℕ) → check-entry-lts.Need-cast-t12 (entry-reads t) (check-entry-at t)
+check-entry-cast-t17 : (t : ℕ) → check-entry-lts.Need-cast-t17 (entry-reads t) (check-entry-at t)
     check-entry.Post
-check-entry-cast-t12 t c =
-    let judged = c .before .before in
-    let s = entryStart t (readOf t (judged .before)) in
-    omega (arith, start-lt (judgedOf t judged) (c .before .if2 .left), s .good)
+check-entry-cast-t17 t c =
+    let passed = nodesOf t (c .before) in
+    let tests = testsOf t passed in
+    omega (arith, start-lt (judgedOf t tests) _ (passed .nodes .given .1), startOf t tests .good)
 
 check-entry-check-node-requires : (t : ℕ) → check-entry-lts.Need-check-node-requires (entry-reads t)
     (check-entry-at t) check-entry.Post
 check-entry-check-node-requires t c κs =
-    let judged = c .before .before in
-    let s = entryStart t (readOf t (judged .before)) in (
-      omega (arith, s .pre .0, c .if3 .left),
-      node-below (judgedOf t judged) (c .before .if2 .left) (s .args .node .0) (s .pre .1 .0) (c .if3 .left),
+    let passed = nodesOf t (c .before) in
+    let tests = testsOf t passed in (
+      omega (arith, startOf t tests .pre .0, c .before .if2 .left),
+      node-below (judgedOf t tests) _ (passed .nodes .given .1) (c .before .if2 .left)
+          (c .node-read .result .0) (c .node-read .ensures),
     )
+
+check-entry-returns-3 : (t : ℕ) → check-entry-lts.Need-returns-3 (entry-reads t) (check-entry-at t)
+    check-entry.Post
+check-entry-returns-3 t c =
+    let faulty = c .before in
+    fault-own (judgedOf t (faulty .before .before)) _ (faulty .fault .given .1)
 
 check-entry-returns-4 : (t : ℕ) → check-entry-lts.Need-returns-4 (entry-reads t) (check-entry-at t)
     check-entry.Post
 check-entry-returns-4 t c =
-    let lower = c .before in
-    fault-below (judgedOf t (lower .before .before)) (lower .before .if2 .left) (c .check-node .result)
-    (lower .if3 .left) (c .check-node .ensures)
+    let read = c .before in
+    let passed = nodesOf t (read .before) in
+    fault-below (judgedOf t (testsOf t passed)) _ (passed .nodes .given .1) (read .before .if2 .left)
+    (read .node-read .result .0) (read .node-read .ensures) (c .check-node .result) (c .check-node .ensures)
 
 -- ---- a node: places ----
 
@@ -295,12 +343,15 @@ pub +check-entry+check-node-spec : {M : Type 1} → statement M
     (check-entry-read-entry-requires t)
     (check-entry-returns t)
     (check-entry-first-below-requires t)
-    (check-entry-entry-fault-requires t)
+    (check-entry-test-entry-requires t)
+    (check-entry-enum-known-fault t)
+    (check-entry-enum-known-nodes t)
     (check-entry-returns-2 t)
-    (check-entry-returns-3 t)
+    (check-entry-node-read-requires t)
     (check-entry-sub-check-node t)
-    (check-entry-cast-t12 t)
+    (check-entry-cast-t17 t)
     (check-entry-check-node-requires t)
+    (check-entry-returns-3 t)
     (check-entry-returns-4 t))
     λ t. check-node-lts.spec (node-reads t)
     (check-node-at t)

@@ -1,7 +1,7 @@
 // Prints document 01's figures ("Figures to hold against") and the examples of its refusal table: geometry,
 // formatting, both reads and the write; and document 02's largest bit place (K4), the stores of a drive with
-// two bitmap blocks (K2) and the whole-tree check (K1). A line for each, with what the document says and what
-// the code gives.
+// two bitmap blocks (K2), the whole-tree check (K1) and the walk's nodes (K7). A line for each, with what the
+// document says and what the code gives.
 use bitmap_figures::moves::print_moves;
 use layout::bitmap::bit_place;
 use layout::geometry::Geometry;
@@ -15,6 +15,7 @@ use report::figures::print_byte;
 use report::figures::print_bytes;
 use report::figures::print_figure;
 use tree_figures::checks::print_checks;
+use tree_figures::nodes::print_nodes;
 use write_figures::needs::print_all_needs;
 use write_figures::refused_writes::print_refusals;
 use write_figures::writes::print_writes;
@@ -132,4 +133,5 @@ fn main() {
     print_refusals();
     print_moves();
     print_checks();
+    print_nodes();
 }

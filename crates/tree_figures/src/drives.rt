@@ -30,7 +30,7 @@ fn write_line(disk: &mut [u8], line: u8, number: u32, offered: bool, hidden: u32
 }
 
 // Hidden 1 goes to slot 1.
-fn write_three(disk: &mut [u8])
+pub fn write_three(disk: &mut [u8])
     ensures { λ _. ⌜ now (disk .exit) ≡ threeWritten (now (disk .entry)) ⌝ }
 {
     write_line(disk, 1, 0, false, 0);

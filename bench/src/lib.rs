@@ -1,6 +1,6 @@
 //! The proved mapper beside two written in Rust: what they answer is compared, and how long they take. The
-//! programs are `differential`, `bit_places`, `benchmark`, `tree_check`, `waiting` and `longest`; `tests/`
-//! holds all three mappers to the documents' examples.
+//! programs are `differential`, `bit_places`, `walks`, `benchmark`, `tree_check`, `waiting` and `longest`;
+//! `tests/` holds all three mappers to the documents' examples.
 pub mod arguments;
 pub mod calls;
 pub mod drive;
@@ -14,6 +14,7 @@ pub mod proved;
 pub mod random;
 pub mod tree;
 pub mod tree_damage;
+pub mod watched;
 pub mod workload;
 
 /// All three mappers, the proved one first.

@@ -1,5 +1,5 @@
-//! A mapper written from documents 01 and 02 (K2) in plain Rust: one store function, whole blocks, document
-//! 01's checks and no others. The proved mapper is measured and held against it.
+//! A mapper written from documents 01 and 02 (K2, K7) in plain Rust: one store function, whole blocks,
+//! document 01's checks and no others. The proved mapper is measured and held against it.
 use crate::drive::{Drive, Nodes, check, entry, put_entry};
 use crate::engine::{Engine, Geometry, NONE, Needs, PLACED, Shown, WAITING, Write, Written};
 use crate::tree::check_tree;
@@ -66,17 +66,23 @@ impl<'a> Allowed<'a> {
         Ok(Allowed { v, head, needs, old, bad_offer, waiting, placed: false, damaged: false })
     }
 
-    /// The hidden half at A, or refusal 12 for a damaged walk.
+    /// The hidden half at A, or refusal 12 for a damaged walk. A number that owns the slot and is offered has
+    /// one walk.
     fn choice(&self, disk: &[u8], a: usize) -> Result<Half<'a>, u32> {
         let owner = entry(self.v.block(disk, a + 1), self.v.f - 1);
+        let mut read = None;
         if owner < self.v.h {
             let (end, nodes) = self.v.walk(disk, owner)?;
             if end == Some(a + self.v.k) {
                 return Ok(Half::Path(owner, nodes, None));
             }
+            read = Some(nodes);
         }
         let Some((number, data)) = self.waiting else { return Ok(Half::Fill) };
-        let (_, nodes) = self.v.walk(disk, number)?;
+        let nodes = match read {
+            Some(nodes) if number == owner => nodes,
+            _ => self.v.walk(disk, number)?.1,
+        };
         Ok(Half::Path(number, nodes, Some(data)))
     }
 

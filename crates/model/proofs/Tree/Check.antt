@@ -34,6 +34,16 @@ use Rattle.model.proofs.Tree.Keys.{span-suc, span-positive}
 abbrev indexed : Geometry → (level index : ℕ) → (entry : DiskAddress) → MetEntry
 indexed g level index entry = metEntry level (index * span g level) entry
 
+-- the numbers below an entry are those that its index counts
+pub key-of-below :
+    (g : Geometry) (level index number : ℕ) → isBelow g level (index * span g level) number ≡ true →
+    number / span g level ≡ index
+key-of-below g level index number e =
+    let below = decides-below g level (index * span g level) number .holds e in
+    let rest : number - index * span g level < span g level = omega (arith, below .0, below .1) in
+    let whole : index * span g level + (number - index * span g level) ≡ number = omega (arith, below .0) in
+    ap (λ (n : ℕ). n / span g level) (sym whole) ∙ digits-div index rest
+
 module _ (g : Geometry) (f : Fits g) (disk : Bytes) (level index : ℕ) (entry : DiskAddress) where
   abbrev slot : ℕ
   slot = slotOf g entry
@@ -43,14 +53,6 @@ module _ (g : Geometry) (f : Fits g) (disk : Bytes) (level index : ℕ) (entry :
 
   abbrev met : MetEntry
   met = indexed g level index entry
-
-  -- the numbers below an entry are those that its index counts
-  key-of-below : isBelow g level (index * span g level) owner ≡ true → owner / span g level ≡ index
-  key-of-below e =
-      let below = decides-below g level (index * span g level) owner .holds e in
-      let rest : owner - index * span g level < span g level = omega (arith, below .0, below .1) in
-      let whole : index * span g level + (owner - index * span g level) ≡ owner = omega (arith, below .0) in
-      ap (λ (n : ℕ). n / span g level) (sym whole) ∙ digits-div index rest
 
   below-of-key : owner / span g level ≡ index → isBelow g level (index * span g level) owner ≡ true
   below-of-key e =
@@ -66,7 +68,9 @@ module _ (g : Geometry) (f : Fits g) (disk : Bytes) (level index : ℕ) (entry :
       record {
         well-formed = not-false _ (p .0);
         within = leb-false (g .hidden) (index * span g level) (p .1 .0);
-        owner-below = key-of-below (and-left (isBelow g level (index * span g level) owner) _ owned);
+        owner-below =
+            key-of-below g level index owner
+            (and-left (isBelow g level (index * span g level) owner) _ owned);
         owner-found =
             decides-found (levelAddress g slot 0) (walk g disk owner .end) .holds
             (and-right (isBelow g level (index * span g level) owner) _ owned);
@@ -89,7 +93,7 @@ module _ (g : Geometry) (f : Fits g) (disk : Bytes) (level index : ℕ) (entry :
 -- ---- the check and the invariant ----
 
 -- the first number below an entry, by its node's
-index-first :
+pub index-first :
     (g : Geometry) (level above place : ℕ) →
     (above * entriesIn g level + place) * span g level ≡ above * span g (suc level) + place * span g level
 index-first g level above place =

@@ -36,8 +36,7 @@ use Rattle.plans.specs.declared.states.Offer.the-variants as offers
 use Rattle.plans.specs.declared.states.State.{State}
 use Rattle.plans.specs.declared.plans.Plans.{Plans}
 use Rattle.plans.specs.States.{isWaitingOffer, waitingOf, stateOf}
-use Rattle.plans.specs.Plans.{keptPlan, PlannedBy, HalfPlanned, stateAfter}
-use Rattle.plans.specs.Plans.{Planned}
+use Rattle.plans.specs.Plans.{keptPlan, PlannedBy, HalfPlanned, stateAfter, Planned}
 
 -- ---- what is known when a round is planned ----
 
@@ -128,6 +127,12 @@ module _ (g : Geometry) (disk : Bytes) (slot : ℕ) (state : State) (number : Hi
   abbrev waitingBy : Bytes → List HiddenWrite
   waitingBy content = waitingOf (state .offer) (number .0) content
 
+  -- a plan said in another way
+  planned-as : {hidden other : Plan} → hidden ≡ other →
+      Planned g disk slot state (number .0) (plansBy other) →
+      Planned g disk slot state (number .0) (plansBy hidden)
+  planned-as e p = subst (λ (x : Plan). Planned g disk slot state (number .0) (plansBy x)) (sym e) p
+
   -- the public choice, whatever the plan
   chosen : (content : Bytes) → rows.publicOf (row .public) ≡ rowOf g disk slot (waitingBy content) .public
   chosen content = ap (λ (r : model.Row). r .public) (known .row-is content)
@@ -215,15 +220,15 @@ module _ (g : Geometry) (disk : Bytes) (slot : ℕ) (state : State) (number : Hi
       blocked-next content =
           blocked-is content ∙ rw (sound, stale .0, stale .1) (ap isDamaged (sym (walked .end-is)))
 
-      after : Bytes → HiddenState
-      after content = record { waiting = []; placed = 1; metDamage = state .«met_damage» }
+      after : HiddenState
+      after = record { waiting = []; placed = 1; metDamage = state .«met_damage» }
 
       placed-by :
           (content random : Bytes) (offer : Offer) → isWaitingOffer offer ≡ true →
           hiddenBy model.placeHidden g disk slot random
           (stateOf (record { offer = offer; «met_damage» = state .«met_damage» }) (number .0) content)
           (waitingOf offer (number .0) content) ≡
-          half (pathStores g (number .0) slot content (walk g disk (number .0) .nodes)) (after content)
+          half (pathStores g (number .0) slot content (walk g disk (number .0) .nodes)) after
       unfolding hiddenBy after
       placed-by content random offers.Absent w = true-is-not-false w refl
       placed-by content random offers.Waiting w = refl
@@ -241,7 +246,7 @@ module _ (g : Geometry) (disk : Bytes) (slot : ℕ) (state : State) (number : Hi
             half-is = λ content random.
                 half-by model.placeHidden e content random (blocked-next content ∙ d)
                 ∙ placed-by content random (state .offer) (stale .1)
-                ∙ ap (λ (xs : List Bytes). half (pathStores g (number .0) slot content xs) (after content))
+                ∙ ap (λ (xs : List Bytes). half (pathStores g (number .0) slot content xs) after)
                 (sym (blocks-walked g disk (number .0) trail walked));
             placed = placed-walked g disk (number .0) trail walked;
           }
@@ -264,15 +269,11 @@ module _ (g : Geometry) (disk : Bytes) (slot : ℕ) (state : State) (number : Hi
         (choice : HiddenChoice) → row .hidden ≡ choice → (hidden : Plan) →
         PlannedBy choice g disk owner number hidden →
         Planned g disk slot state (number .0) (plansBy hidden)
-    planned-by Keep e hidden h =
-        subst (λ (p : Plan). Planned g disk slot state (number .0) (plansBy p)) (sym h)
-        (planned-kept (ap rows.hiddenOf e) owner refl)
+    planned-by Keep e hidden h = planned-as h (planned-kept (ap rows.hiddenOf e) owner refl)
     planned-by Place e hidden (trail, (walked, h)) =
-        subst (λ (p : Plan). Planned g disk slot state (number .0) (plansBy p)) (sym h)
+        planned-as h
         (planned-placed (ap rows.hiddenOf e) trail walked (isDamaged (endOf (trail .end))) refl)
-    planned-by Fill e hidden h =
-        subst (λ (p : Plan). Planned g disk slot state (number .0) (plansBy p)) (sym h)
-        (planned-filled (ap rows.hiddenOf e))
+    planned-by Fill e hidden h = planned-as h (planned-filled (ap rows.hiddenOf e))
 
   pub planned :
       (hidden : Plan) → HalfPlanned g disk (row .hidden) owner number hidden → (after : State) →
@@ -287,7 +288,5 @@ module _ (g : Geometry) (disk : Bytes) (slot : ℕ) (state : State) (number : Hi
     where
       by : (isDamagedFor owner ≡ true) ⊎ (isDamagedFor owner ≡ false) →
           Planned g disk slot state (number .0) (plansBy hidden)
-      by (inl d) =
-          subst (λ (p : Plan). Planned g disk slot state (number .0) (plansBy p)) (sym (h .stopped d))
-          (planned-back (λ content. blocked-is content ∙ rw d))
+      by (inl d) = planned-as (h .stopped d) (planned-back (λ content. blocked-is content ∙ rw d))
       by (inr d) = planned-by d (row .hidden) refl hidden (h .chosen d)

@@ -16,11 +16,12 @@ use Rattle.model.specs.Layout.{isWellFormed}
 use Rattle.model.specs.HiddenTree.{span}
 use Rattle.model.specs.Invariants.{entriesIn}
 use Rattle.model.specs.TreeCheck.{MetEntry, metEntry, metInTurn, metWith, metBelow, metAt}
-use Rattle.model.specs.TreeCheck.{entryChecks, firstFault}
+use Rattle.model.specs.TreeCheck.{isBelow, entryChecks, firstFault}
 use Rattle.model.proofs.Laws.TreeCheck.{belowEntry, metBelow-zero, metBelow-suc, firstFault-zero}
 use Rattle.model.proofs.Laws.TreeCheck.{firstFault-own, firstFault-below, firstFault-nil}
 use Rattle.model.proofs.Laws.TreeCheck.{formed-of-faultless, first-of-faultless, firstFault-end}
 use Rattle.model.proofs.Laws.TreeCheck.{firstFault-place, firstFault-next}
+use Rattle.model.proofs.Tree.Check.{key-of-below, index-first}
 use Rattle.hidden_map.specs.declared.nodes.Nodes.{Nodes}
 use Rattle.hidden_map.specs.Nodes.{addressAt}
 use Rattle.tree_check.specs.declared.entries.Tested.{Tested}
@@ -28,8 +29,7 @@ use Rattle.tree_check.specs.declared.entries.Tested.the-variants.{Fault,
 use Rattle.tree_check.specs.Entries.{faultOf, ownerAt, TestedAs}
 use Rattle.tree_check.specs.Nodes.{NodeOf}
 use Rattle.tree_check.proofs.Laws.Entries.{formed-inside}
-use Rattle.tree_check.proofs.Laws.Ways.{first-of-index, index-of-below, indexAt, read-entry}
-use Rattle.tree_check.proofs.Laws.Ways.{read-below}
+use Rattle.tree_check.proofs.Laws.Ways.{indexAt, read-entry, read-below}
 
 -- ---- an entry and what is below it ----
 
@@ -56,7 +56,7 @@ module _ (g : Geometry) (disk : Bytes) {level first place : ℕ} {node : Bytes} 
       let met = metEntry level start entry in
       sym (firstFault-zero g disk met (belowEntry g disk met) z) ∙ ap (firstFault g disk) metAt-read
 
--- at a place of a node it is not 0, and this is what its tests tell
+-- the entry at a place of a node is not 0, and this is what its tests tell
 pub record Judged (g : Geometry) (disk : Bytes) (level first place : ℕ) (node entry : DiskAddress)
     (start : ℕ) (tested : Tested) : Type 0 where
   pub node-of : NodeOf g disk level first node
@@ -110,7 +110,7 @@ module _ {g : Geometry} {disk : Bytes} {level first place : ℕ} {node entry : D
     start-is : start ≡ index * span g level
     start-is =
         j .read .start-is ∙ ap (λ (n : ℕ). n + place * span g level) (j .node-of .first-is)
-        ∙ first-of-index g level (j .node-of .index) place
+        ∙ sym (index-first g level (j .node-of .index) place)
 
     formed : isWellFormed g level entry ≡ true
     formed = formed-of-faultless g disk met faultless
@@ -123,8 +123,9 @@ module _ {g : Geometry} {disk : Bytes} {level first place : ℕ} {node entry : D
           let owner = ownerAt g disk met in
           owned .nodes-are level
           ∙ read-entry (j .node-of) place (j .place-lt) owner
-          (index-of-below g level start index owner start-is (owned .owner-below)) entry (j .read .entry-is)
-          (j .not-zero) formed l
+          (key-of-below g level index owner
+          (ap (λ (n : ℕ). isBelow g level n owner) (sym start-is) ∙ owned .owner-below))
+          entry (j .read .entry-is) (j .not-zero) formed l
 
       pub is-read : addressAt nodes level ≢ none
       is-read z = none-is-not-some entry (sym z ∙ read-there)

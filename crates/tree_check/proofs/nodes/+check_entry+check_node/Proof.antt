@@ -76,10 +76,6 @@ node-reads t = (
   check-entry.Post,
 )
 
--- the node
-abbrev nodeBlock : Geometry → (disk : Bytes) → (node : ℕ) → Bytes
-nodeBlock g disk node = blockAt (g .blockSize) disk node
-
 -- ---- an entry: places ----
 
 abbrev EntryStart : ℕ → Type 0
@@ -125,7 +121,7 @@ abbrev shapeOf : (t : ℕ) → EntryStart t → Geometry
 shapeOf t s = geometryOf (s .args .g)
 
 abbrev blockOf : (t : ℕ) → EntryStart t → Bytes
-blockOf t s = nodeBlock (shapeOf t s) (s .args .disk .now) (s .args .node .0)
+blockOf t s = blockAt (shapeOf t s .blockSize) (s .args .disk .now) (s .args .node .0)
 
 place-lt : (t : ℕ) (s : EntryStart t) → s .args .place < fanout (shapeOf t s)
 place-lt t s = omega (arith, s .pre .1 .1, entriesIn-le (shapeOf t s) (s .args .level))
@@ -251,7 +247,7 @@ check-entry-returns-4 t c =
 
 abbrev check-node-Inv-loop : check-node-lts.InvT-loop
 check-node-Inv-loop disk g level first node count place₀ place =
-    FaultlessTo (geometryOf g) disk level (first .0) (nodeBlock (geometryOf g) disk (node .0)) place
+    FaultlessTo (geometryOf g) disk level (first .0) (blockAt (g .«block_size») disk (node .0)) place
 
 abbrev check-node-μ-loop : check-node-lts.MeasureT-loop
 check-node-μ-loop disk g level first node count place₀ place = count - place
@@ -294,7 +290,8 @@ check-node-loop-holds : (t : ℕ) → check-node-lts.Need-loop-holds (node-reads
 check-node-loop-holds t c =
     let a = c .before .before .args in
     let g = geometryOf (a .g) in
-    faultless-zero g (a .disk .now) (a .level) (a .first .0) (nodeBlock g (a .disk .now) (a .node .0))
+    faultless-zero g (a .disk .now) (a .level) (a .first .0)
+    (blockAt (g .blockSize) (a .disk .now) (a .node .0))
 
 check-node-check-entry-requires : (t : ℕ) → check-node-lts.Need-check-entry-requires (node-reads t)
     (check-node-at t) check-node.Post check-node-Inv-loop check-node-μ-loop

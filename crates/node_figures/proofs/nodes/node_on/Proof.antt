@@ -1,4 +1,4 @@
--- `tree_figures::nodes::node_on` meets its contract: a drive that is not refused has the walk's node. Assumes
+-- `node_figures::nodes::node_on` meets its contract: a drive that is not refused has the walk's node. Assumes
 -- nothing.
 use mathlib.Core.Path.{_≡_, refl, sym, ap, _∙_}
 use borrow.Author.Needs.{needs}
@@ -7,8 +7,8 @@ use Rattle.model.specs.Refusals.{driveRefusal}
 use Rattle.layout.specs.Geometries.{geometryOf}
 use Rattle.layout.proofs.Laws.Drives.{long-enough, drive-read}
 use Rattle.hidden_map.specs.Nodes.{readAt}
-use Rattle.tree_figures.proofs.nodes.node_on.Statement.{statement}
-use Rattle.tree_figures.proofs.nodes.node_on.Tie as tie
+use Rattle.node_figures.proofs.nodes.node_on.Statement.{statement}
+use Rattle.node_figures.proofs.nodes.node_on.Tie as tie
 
 abbrev startOf : tie.Else1 → tie.Start
 startOf s = s .before .before .before

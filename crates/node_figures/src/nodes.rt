@@ -1,8 +1,6 @@
 // The nodes below the root that the walk hands back (document 02, K7): on a fresh drive, with hidden 1 alone,
 // and with two hidden numbers. The leaves of slots 0 and 1 are blocks 5 and 8; a tree of height 2 has nodes
 // of level 1 only.
-use crate::drives::make_two_hidden;
-use crate::drives::write_three;
 use hidden_map::nodes::Node;
 use hidden_map::nodes::node_at;
 use hidden_map::walks::walk;
@@ -13,9 +11,11 @@ use layout::refusals::drive_fault;
 use libc::STDOUT_FILENO;
 use mapper::format_drive;
 use report::drives::two_high;
+use tree_figures::drives::make_two_hidden;
+use tree_figures::drives::write_three;
 ghost use mathlib.Core.Path.{_≡_};
 ghost use Prim.Native.Nat.{_≤_};
-ghost use Rattle.tree_figures.specs.Nodes.{NodeOn};
+ghost use Rattle.node_figures.specs.Nodes.{NodeOn};
 
 // ---- one figure ----
 

@@ -1,9 +1,9 @@
--- `tree_figures::nodes::print_address` meets its contract: the node that is printed is answered. Assumes
+-- `node_figures::nodes::print_address` meets its contract: the node that is printed is answered. Assumes
 -- nothing.
 use mathlib.Core.Path.{sym}
 use borrow.Author.Needs.{needs}
-use Rattle.tree_figures.proofs.nodes.print_address.Statement.{statement}
-use Rattle.tree_figures.proofs.nodes.print_address.Tie as tie
+use Rattle.node_figures.proofs.nodes.print_address.Statement.{statement}
+use Rattle.node_figures.proofs.nodes.print_address.Tie as tie
 
 enum-known-node : tie.Need-enum-known-node
 enum-known-node c = search needs

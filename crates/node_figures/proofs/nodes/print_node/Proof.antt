@@ -1,10 +1,10 @@
--- `tree_figures::nodes::print_node` meets its contract: the node that is printed is the walk's. Assumes
+-- `node_figures::nodes::print_node` meets its contract: the node that is printed is the walk's. Assumes
 -- nothing.
 use mathlib.Core.Path.{ap, _∙_}
 use borrow.Author.Needs.{needs}
 use Rattle.hidden_map.specs.Nodes.{nodeOf}
-use Rattle.tree_figures.proofs.nodes.print_node.Statement.{statement}
-use Rattle.tree_figures.proofs.nodes.print_node.Tie as tie
+use Rattle.node_figures.proofs.nodes.print_node.Statement.{statement}
+use Rattle.node_figures.proofs.nodes.print_node.Tie as tie
 
 write-all-requires : tie.Need-write-all-requires
 write-all-requires c κs = search needs

@@ -15,7 +15,11 @@ ghost use Rattle.layout.specs.Geometries.{geometryOf};
 ghost use Rattle.stores.specs.Made.{Made};
 ghost use Rattle.stores.specs.Changes.{changed, Inside};
 
-// Copies one whole block to its address and enters the address next in the list; answers the place after it.
+// Enters the address next in the list and copies one whole block to the address; answers the place after it.
+// The order makes the store a real one: for all that the compiler knows, list and disk may overlap and the
+// entry may change the disk, so it cannot leave out the copy that follows, not even where no byte changes.
+// The contract speaks of bytes and list alone, and the optimiser is not in the proof: that every store is
+// made, whole and in order, is tested on the archive (bench, program `touched`).
 pub fn store_block(
     disk: &mut [u8],
     list: &mut [u32],
@@ -32,8 +36,8 @@ pub fn store_block(
         (now (disk .entry)) (now (list .entry)) next (now (disk .exit)) (now (list .exit)) r ⌝ }
 {
     let at = (address.0 as usize) * (g.block_size as usize);
-    copies::copy_at(disk, at, block);
     list[next] = address.0;
+    copies::copy_at(disk, at, block);
     next + 1
 }
 

@@ -28,6 +28,12 @@ mul-at c =
           (start .args .address .0) (start .pre .1 .0),
     )
 
+mul-list : tie.Need-mul-list
+mul-list c = search needs
+
+slice-write-list : tie.Need-slice-write-list
+slice-write-list c = search needs
+
 copy-at-requires : tie.Need-copy-at-requires
 copy-at-requires c κs =
     let start = at-start (c .before .before) in
@@ -38,12 +44,6 @@ copy-at-requires c κs =
       block-inside (g .blockSize) (start .args .disk .now) (blockCount g) (start .pre .0 .whole)
           (start .args .address .0) (start .pre .1 .0),
     )
-
-mul-list : tie.Need-mul-list
-mul-list c = search needs
-
-slice-write-list : tie.Need-slice-write-list
-slice-write-list c = search needs
 
 add-result : tie.Need-add-result
 add-result c = search needs
@@ -66,5 +66,5 @@ returns c =
 pub store-block-spec : {M : Type 1} → statement M
 store-block-spec =
     tie.close
-    (tie.spec cast-at cast-at-2 mul-at copy-at-requires mul-list slice-write-list add-result same-length
+    (tie.spec cast-at cast-at-2 mul-at mul-list slice-write-list copy-at-requires add-result same-length
     same-length-2 returns)

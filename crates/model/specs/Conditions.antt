@@ -87,6 +87,6 @@ roundConditions g disk number random room =
 abbrev pub hiddenConditions : Geometry → (number size : ℕ) → List Condition
 hiddenConditions g number size = condition 10 (g .hidden ≤ number) ∷ condition 11 (size ≢ g .blockSize) ∷ []
 
--- 12
+-- 12: by the very walk that the check makes, of which there is no second account; figures pin the walk
 abbrev pub walkConditions : Geometry → (disk : Bytes) → (number : ℕ) → List Condition
 walkConditions g disk number = condition 12 (walk g disk number .end ≡ damaged) ∷ []

@@ -37,7 +37,7 @@ pub record Drive (g : Geometry) (disk : Bytes) : Type 0 where
 abbrev pub slotStart : Geometry → (slot : ℕ) → DiskAddress
 slotStart g slot = areaStart g + slot * (g .height + 1)
 
--- the slot that a block of the data area belongs to
+-- the slot that a block of the data area belongs to; 0 below the data area, which every use has ruled out
 abbrev pub slotOf : Geometry → DiskAddress → ℕ
 slotOf g address = (address - areaStart g) / (g .height + 1)
 

@@ -21,15 +21,15 @@ use Rattle.model.proofs.Refusals.Bounds.{never-eight-of-rounds, never-n
 -- no write takes more rounds than the head finds
 atMost-of-rounds :
     (disk : Bytes) (most : ℕ) → roundCount (geometryIn disk) disk ≤ most → AtMost most (geometryIn disk) disk
-atMost-of-rounds disk most few =
+atMost-of-rounds disk most few number content random room offer =
     record {
-      rounds = λ number content random room offer.
+      rounds =
           written-cases disk number content random room offer (λ (w : Written). w .rounds ≤ most)
           (λ e. rw (rounds-done disk number content random room offer e) few) (λ f. omega arith);
-      never-eight = λ number content random room offer h.
+      never-eight = λ h.
           rw (answer-written disk number content random room offer)
           (never-eight-of-rounds disk most few number content (length random) room h);
-      never-nine = λ number content random room offer h.
+      never-nine = λ h.
           rw (answer-written disk number content random room offer)
           (never-nine-of-rounds disk most few number content (length random) room h);
     }

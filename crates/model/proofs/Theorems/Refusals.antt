@@ -29,6 +29,9 @@ module _ (disk : Bytes) (number : ℕ) (content random : Bytes) (list : List Dis
   abbrev result : Written
   result = written disk number content random (length list) offer
 
+  abbrev bare : Written
+  bare = written disk number content random (length list) none
+
   -- nothing of a refused write is left open
   result-refused :
       result .answer ≢ 0 →
@@ -46,7 +49,7 @@ module _ (disk : Bytes) (number : ℕ) (content random : Bytes) (list : List Dis
         stores-written-le disk number content random (length list) offer,
       )
 
-  write-refusals : WriteRefusals disk number content random list offer
+  write-refusals : WriteRefusals disk number content random list offer result bare
   unfolding addresses
   write-refusals =
       record {
@@ -68,6 +71,7 @@ module _ (disk : Bytes) (number : ℕ) (content random : Bytes) (list : List Dis
             (λ e. ap (λ (run : Run). apply (geometryIn disk .blockSize) (run .trace) disk)
             (writeRun-bad (geometryIn disk) disk number content random offer f));
         refused-rounds = λ f. ap (λ (w : Written). w .rounds) (result-refused f);
+        refused-stores = λ f. ap (λ (w : Written). w .trace) (result-refused f);
         refused-outcome = λ f. ap (λ (w : Written). outcomeNumber (w .outcome)) (result-refused f);
         refused-disk = λ f.
             ap (λ (w : Written). writtenDisk w disk) (result-refused f)

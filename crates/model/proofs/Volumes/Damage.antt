@@ -142,6 +142,9 @@ module _ (disk : Bytes) (sound : HiddenSound (geometryIn disk) disk) where
       record {
         public-answer = public-undamaged;
         hidden-answer = hidden-undamaged;
-        write-answer = answer-undamaged;
-        write-outcome = outcome-sound;
+        writes = λ number content random room offer.
+            record {
+              answer = answer-undamaged number content random room offer;
+              outcome = outcome-sound number content random room offer;
+            };
       }

@@ -1,7 +1,7 @@
 -- Demand 2 (document 03: ReadsBack): a good read in either volume shows the block last placed under its
 -- number, or the caller's blank; and what every call keeps. Assumes nothing.
 use mathlib.Core.Path.{_≡_}
-use mathlib.Core.Bool.{Bool, true, false, cond, _&&_}
+use mathlib.Core.Bool.{Bool, cond, _&&_}
 use mathlib.Core.Logic.{_≢_}
 use mathlib.Core.List.{List, [], _∷_}
 use mathlib.Core.Option.{Option, none, some}
@@ -9,7 +9,7 @@ use Prim.Native.Nat.{ℕ, _<_}
 use lib.Dec.{eqb}
 use lib.ListN.{length}
 use Rattle.model.specs.Geometry.{Geometry, treeCapacity}
-use Rattle.model.specs.Blocks.{Bytes, DiskAddress}
+use Rattle.model.specs.Blocks.{Bytes}
 use Rattle.model.specs.Layout.{geometryIn}
 use Rattle.model.specs.HiddenTree.{walk, damaged}
 use Rattle.model.specs.HiddenHalf.{HiddenWrite}
@@ -113,3 +113,17 @@ pub record ReadAfterWrite : Type 0 where
       length blank ≡ g .blockSize → hiddenRead (formatted disk g) number blank ≡ blank
   -- from any sound drive on, a fresh one among them
   pub reads-back : (g : Geometry) (disk : Bytes) (calls : List Call) → Sound g disk → ReadsBack g disk calls
+  -- demand 2 in its own words (document 03: ReadsBack): after any calls on a freshly formatted drive a good
+  -- number of either volume is read, and shows the block last placed under it, or the caller's blank
+  pub public-from-fresh :
+      (disk : Bytes) (g : Geometry) (calls : List Call) (number : ℕ) (blank : Bytes) →
+      formatRefusal disk g ≡ 0 → number < g .publics → length blank ≡ g .blockSize →
+      (publicReadRefusal (diskAfterAll (formatted disk g) calls) number blank ≡ 0) ×
+      (publicRead (diskAfterAll (formatted disk g) calls) number blank ≡
+      orElse (lastPublic number none (formatted disk g) calls) blank)
+  pub hidden-from-fresh :
+      (disk : Bytes) (g : Geometry) (calls : List Call) (number : ℕ) (blank : Bytes) →
+      formatRefusal disk g ≡ 0 → number < g .hidden → length blank ≡ g .blockSize →
+      (hiddenReadRefusal (diskAfterAll (formatted disk g) calls) number blank ≡ 0) ×
+      (hiddenRead (diskAfterAll (formatted disk g) calls) number blank ≡
+      orElse (lastHidden number none (formatted disk g) calls) blank)

@@ -10,7 +10,7 @@ use Rattle.model.specs.Blocks.{Bytes}
 use Rattle.model.specs.Layout.{geometryIn}
 use Rattle.model.specs.HiddenHalf.{HiddenWrite}
 use Rattle.model.specs.Refusals.{formatRefusal, driveRefusal, publicReadRefusal, hiddenReadRefusal}
-use Rattle.model.specs.Calls.{formatted, written, outcomeNumber}
+use Rattle.model.specs.Calls.{formatted, Written, written, outcomeNumber}
 use Rattle.model.specs.Invariants.{HiddenInvariant}
 use Rattle.model.specs.Conditions.{Answers, driveConditions}
 use Rattle.model.specs.Runs.{Call, diskAfterAll}
@@ -18,17 +18,19 @@ use Rattle.model.specs.TreeCheck.{treeRefusal}
 use Rattle.model.specs.TreeConditions.{treeConditions}
 use Rattle.model.specs.Promises.TreeFigures.{TreeFigures}
 
--- neither read and no write, whatever it is given, gives 12, as an answer or as an outcome; the other calls
--- have no 12 among their refusals
+-- a write does not give 12, as an answer or as an outcome; the answer on no drive, as its chain has no 12
+pub record Undamaged (result : Written) : Type 0 where
+  pub answer : result .answer ≢ 12
+  pub outcome : outcomeNumber (result .outcome) ≢ 12
+
+-- neither read and no write, whatever it is given, gives 12; a public read on no drive, as its chain has no
+-- 12, and nor have the refusals of the other calls
 pub record NeverDamaged (disk : Bytes) : Type 0 where
   pub public-answer : (number : ℕ) (blank : Bytes) → publicReadRefusal disk number blank ≢ 12
   pub hidden-answer : (number : ℕ) (blank : Bytes) → hiddenReadRefusal disk number blank ≢ 12
-  pub write-answer :
+  pub writes :
       (number : ℕ) (content random : Bytes) (room : ℕ) (offer : Option HiddenWrite) →
-      written disk number content random room offer .answer ≢ 12
-  pub write-outcome :
-      (number : ℕ) (content random : Bytes) (room : ℕ) (offer : Option HiddenWrite) →
-      outcomeNumber (written disk number content random room offer .outcome) ≢ 12
+      Undamaged (written disk number content random room offer)
 
 pub record TreeCheck : Type 0 where
   -- drives worked out by hand

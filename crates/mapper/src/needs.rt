@@ -10,7 +10,8 @@ use layout::refusals::drive_fault;
 ghost use mathlib.Core.Path.{_≡_};
 ghost use lib.ListN.{length};
 ghost use Rattle.model.specs.Refusals.{writeRefusal};
-ghost use Rattle.mapper.specs.Needs.{neededOf, refusedNeeds, needsOf, Suffices};
+ghost use Rattle.model.specs.Needs.{refusedNeeds, needsOf, Suffices};
+ghost use Rattle.mapper.specs.Needs.{neededOf};
 
 // 1 to 9 of a write, else 0.
 pub fn write_fault(

@@ -1,7 +1,7 @@
 -- What a write takes now, as the mapper counts it. Assumes nothing.
 use Prim.Native.Nat.{ℕ}
 use Rattle.model.specs.Blocks.{Bytes}
-use Rattle.mapper.specs.Needs.{Needed, needsOf}
+use Rattle.model.specs.Needs.{Needed, needsOf}
 use Rattle.mapper_c.specs.declared.needs.Needs.{Needs}
 
 -- the mapper's count in the fields of the C struct

@@ -24,5 +24,6 @@ pub mod Runs
 pub mod WriteRuns
 pub mod Formatting
 pub mod Calls
+pub mod Needs
 pub mod TreeCheck
 pub mod TreePasses

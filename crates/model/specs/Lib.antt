@@ -9,6 +9,7 @@ pub mod HiddenHalf
 pub mod Rounds
 pub mod Refusals
 pub mod Calls
+pub mod Needs
 pub mod View
 pub mod Runs
 pub mod Simulator

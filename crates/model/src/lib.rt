@@ -5,9 +5,10 @@ ghost use Rattle.model.specs.Promises.Refusals.{Refusals};
 ghost use Rattle.model.specs.Promises.Noninterference.{Noninterference};
 ghost use Rattle.model.specs.Promises.ReadAfterWrite.{ReadAfterWrite};
 ghost use Rattle.model.specs.Promises.BufferBounds.{BufferBounds};
+ghost use Rattle.model.specs.Promises.Questions.{Questions};
 ghost use Rattle.model.specs.Promises.TreeCheck.{TreeCheck};
 
-// Holds the promises in its contract, so that none can be dropped or weakened unseen.
+// Holds the promises in its contract, so that none can be dropped unseen; what each says is its own file's.
 pub fn promises()
     ensures figures { λ _. ⌜ Figures ⌝ }
     ensures limits { λ _. ⌜ Limits ⌝ }
@@ -15,5 +16,6 @@ pub fn promises()
     ensures noninterference { λ _. ⌜ Noninterference ⌝ }
     ensures read_after_write { λ _. ⌜ ReadAfterWrite ⌝ }
     ensures buffer_bounds { λ _. ⌜ BufferBounds ⌝ }
+    ensures questions { λ _. ⌜ Questions ⌝ }
     ensures tree_check { λ _. ⌜ TreeCheck ⌝ }
 {}

@@ -2,7 +2,7 @@
 use mathlib.Core.Bool.{Bool, _&&_}
 use Prim.Native.Nat.{ℕ}
 use lib.Dec.{eqb}
-use Rattle.mapper.specs.Needs.{Needed}
+use Rattle.model.specs.Needs.{Needed}
 
 -- four figures of what a write takes
 abbrev pub neededBy : (answer rounds stores randomBlocks : ℕ) → Needed

@@ -15,7 +15,8 @@ ghost use Prim.Native.Nat.{_≤_};
 ghost use lib.Dec.{eqb};
 ghost use Rattle.model.specs.Refusals.{writeRefusal};
 ghost use Rattle.model.specs.Promises.Figures.{filled};
-ghost use Rattle.mapper.specs.Needs.{neededOf, needsOf};
+ghost use Rattle.model.specs.Needs.{needsOf};
+ghost use Rattle.mapper.specs.Needs.{neededOf};
 ghost use Rattle.report.specs.Needs.{agreesNeeded};
 
 // Prints what a write takes; answers whether all four figures agree.

@@ -1,30 +1,26 @@
 -- What a write takes: the ways to its answer, and that a write lent so much is not refused. Assumes nothing.
 use mathlib.Core.Path.{_≡_, refl, sym, ap, _∙_}
 use mathlib.Core.Logic.{_≢_, ⊎-elim}
-use mathlib.Core.List.{List, [], _∷_}
+use mathlib.Core.List.{List, []}
 use Prim.Native.Nat.{ℕ, _*_, _≤_}
 use native.Mathlib.Omega.{arith}
-use lib.Dec.{eqb}
 use lib.ListN.{length}
 use borrow.Author.Tests.{eq-eqb, ne-eqb}
-use Rattle.laws.specs.Checks.{Check, check, firstOf}
-use Rattle.laws.proofs.Cases.{eq-cases, cond-true, cond-false}
+use Rattle.laws.specs.Checks.{Check, firstOf}
+use Rattle.laws.proofs.Cases.{eq-cases}
 use Rattle.laws.proofs.Checks.{firstOf-stop, firstOf-pass, firstOf-nil}
 use Rattle.model.specs.Geometry.{Geometry}
 use Rattle.model.specs.Blocks.{Bytes}
 use Rattle.model.specs.Layout.{geometryIn}
 use Rattle.model.specs.Refusals.{driveRefusal, placeChecks, roundCount, writeStoreCount, roundChecks}
 use Rattle.model.specs.Refusals.{writeRefusal}
-use Rattle.mapper.specs.Needs.{Needed, needsRefusal, refusedNeeds, neededFor, needsOf, Suffices}
+use Rattle.model.specs.Needs.{Needed, needsRefusal, refusedNeeds, neededFor, needsOf, Suffices}
+use Rattle.model.proofs.Laws.Needs.{lastCheck, needsOf-refused, needsOf-good}
 use Rattle.checks.proofs.Laws.RoundRefusals.{rounds-good}
 use Rattle.mapper.proofs.Laws.WriteRefusals.{chain, chain-drive, chain-place, chain-rest}
 use Rattle.mapper.proofs.Laws.WriteRefusals.{writeRefusal-is}
 
 -- ---- the answer ----
-
--- 7 alone
-abbrev pub lastCheck : (disk : Bytes) → List Check
-lastCheck disk = check (eqb (roundCount (geometryIn disk) disk) 0) 7 ∷ []
 
 needsRefusal-is :
     (disk : Bytes) (number : ℕ) →
@@ -33,19 +29,9 @@ unfolding needsRefusal
 needsRefusal-is disk number = refl
 
 module _ (disk : Bytes) (number : ℕ) where
-  needsOf-refused : (answer : ℕ) → answer ≡ needsRefusal disk number → answer ≢ 0 → refusedNeeds answer ≡
-      needsOf disk number
-  unfolding needsOf
-  needsOf-refused answer e f =
-      ap refusedNeeds e ∙ sym (cond-false _ _ (ne-eqb (needsRefusal disk number) 0 (λ z. f (e ∙ z))))
-
-  needsOf-good : needsRefusal disk number ≡ 0 → neededFor (geometryIn disk) disk number ≡ needsOf disk number
-  unfolding needsOf
-  needsOf-good e = sym (cond-true _ _ (eq-eqb (needsRefusal disk number) 0 e))
-
   pub needs-drive : driveRefusal disk ≢ 0 → refusedNeeds (driveRefusal disk) ≡ needsOf disk number
   needs-drive f =
-      needsOf-refused (driveRefusal disk)
+      needsOf-refused disk number (driveRefusal disk)
       (chain-drive disk number (geometryIn disk .blockSize) (lastCheck disk) f ∙ needsRefusal-is disk number)
       f
 
@@ -59,14 +45,14 @@ module _ (disk : Bytes) (number : ℕ) where
 
     pub needs-place : places ≢ 0 → refusedNeeds places ≡ needsOf disk number
     needs-place f =
-        needsOf-refused places
+        needsOf-refused disk number places
         (sized ∙ chain-place disk number (geometryIn disk .blockSize) (lastCheck disk) accepted g same
         (λ z. f (sized ∙ z))
         ∙ needsRefusal-is disk number) f
 
     pub needs-none : places ≡ 0 → roundCount g disk ≡ 0 → refusedNeeds 7 ≡ needsOf disk number
     needs-none z e =
-        needsOf-refused 7
+        needsOf-refused disk number 7
         (sym (firstOf-stop 7 [] (eq-eqb (roundCount (geometryIn disk) disk) 0
         (ap (λ (h : Geometry). roundCount h disk) (sym same) ∙ e)))
         ∙ chain-rest disk number (geometryIn disk .blockSize) (lastCheck disk) accepted g same (sym sized ∙ z)
@@ -88,7 +74,7 @@ module _ (disk : Bytes) (number : ℕ) where
         (record { answer = 0; rounds = rounds; stores = stores; randomBlocks = rounds * g .height })
         (neededFor g disk number) = cc in
         e ∙ ap (λ (h : Geometry). neededFor h disk number) same
-        ∙ needsOf-good (sym
+        ∙ needsOf-good disk number (sym
         (sym (firstOf-pass 7 [] (ne-eqb (roundCount (geometryIn disk) disk) 0
         (λ z. f (counted ∙ ap (λ (h : Geometry). roundCount h disk) same ∙ z))) ∙ firstOf-nil)
         ∙ chain-rest disk number (geometryIn disk .blockSize) (lastCheck disk) accepted g same (sym sized ∙ z)

@@ -1,6 +1,6 @@
 -- What a call that is not refused gives as plain facts, refusals 4 to 11, and the other way round: a public
 -- number, a write, a hidden number and the hidden write that a call offers. Assumes nothing.
-use mathlib.Core.Path.{_≡_, ap, _∙_, refl}
+use mathlib.Core.Path.{_≡_, ap, _∙_, refl, subst}
 use mathlib.Core.Logic.{_≢_, inl, inr, ⊎-elim}
 use mathlib.Core.Bool.{true, false, not, _||_}
 use mathlib.Core.List.{List, [], _++_, append-nil}
@@ -12,7 +12,7 @@ use lib.ListN.{length}
 use borrow.Author.Tests.{ltb-false, leb-false, eqb-true, eqb-false, not-false, lt-leb, eq-eqb, ne-eqb}
 use Rattle.laws.specs.Checks.{Check, firstOf}
 use Rattle.laws.proofs.Cases.{cond-cases, cond-false, or-cases, or-left, or-right}
-use Rattle.laws.proofs.Checks.{Numbered, Passed, passed-front, passed-of-zero, passed-rest}
+use Rattle.laws.proofs.Checks.{Numbered, numbered-append, Passed, passed-front, passed-of-zero, passed-rest}
 use Rattle.laws.proofs.Members.{All}
 use Rattle.model.specs.Geometry.{Geometry}
 use Rattle.model.specs.Blocks.{Bytes}
@@ -24,7 +24,7 @@ use Rattle.model.specs.Refusals.{placeChecks, publicReadRefusal, roundCh
 use Rattle.model.specs.Refusals.{writeStoreCount, walkChecks, writeRefusal}
 use Rattle.model.specs.Calls.{offerRefusal, offeredWrites}
 use Rattle.model.proofs.Laws.Places.{Placed}
-use Rattle.model.proofs.Laws.Refusals.{driveRefusal-of-chain, passed-after-drive}
+use Rattle.model.proofs.Laws.Refusals.{numbered-drive, driveRefusal-of-chain, passed-after-drive}
 
 -- ---- a public number, refusals 4 to 6 ----
 
@@ -65,6 +65,16 @@ numbered-place :
     Numbered (placeChecks g disk number size ++ cs)
 unfolding placeChecks
 numbered-place g disk number size cs n = (λ e. omega arith, ((λ e. omega arith), ((λ e. omega arith), n)))
+
+-- 1 to 6 of a read
+pub numbered-read :
+    (disk : Bytes) (number size : ℕ) →
+    Numbered (driveChecks disk ++ placeChecks (geometryIn disk) disk number size)
+numbered-read disk number size =
+    let cs = placeChecks (geometryIn disk) disk number size in
+    subst (λ (ds : List Check). Numbered (driveChecks disk ++ ds)) (append-nil cs)
+    (numbered-append (driveChecks disk) (cs ++ []) (numbered-drive disk)
+    (numbered-place (geometryIn disk) disk number size [] tt))
 
 pub accepted-of-read :
     (disk : Bytes) (number : ℕ) (blank : Bytes) → publicReadRefusal disk number blank ≡ 0 →

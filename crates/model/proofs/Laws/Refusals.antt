@@ -56,7 +56,7 @@ pub record Accepted (disk : Bytes) : Type 0 where
   pub sized : Sized (length disk) (geometryIn disk)
   pub head-inside : headIn disk < geometryIn disk .slots
 
-numbered-drive : (disk : Bytes) → Numbered (driveChecks disk)
+pub numbered-drive : (disk : Bytes) → Numbered (driveChecks disk)
 unfolding driveChecks sizeChecks
 numbered-drive disk = (λ e. omega arith, ((λ e. omega arith), ((λ e. omega arith), tt)))
 

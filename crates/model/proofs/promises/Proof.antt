@@ -5,13 +5,15 @@ use Rattle.model.proofs.Theorems.Refusals.{refusals}
 use Rattle.model.proofs.Theorems.Noninterference.{noninterference}
 use Rattle.model.proofs.Theorems.ReadAfterWrite.{read-after-write}
 use Rattle.model.proofs.Theorems.BufferBounds.{buffer-bounds}
+use Rattle.model.proofs.Theorems.Questions.{questions}
 use Rattle.model.proofs.Theorems.TreeCheck.{tree-check}
 use Rattle.model.proofs.promises.Statement.{statement}
 use Rattle.model.proofs.promises.Tie as tie
 
 returns : tie.Need-returns
 returns c =
-    (figures, (limits, (refusals, (noninterference, (read-after-write, (buffer-bounds, tree-check))))))
+    (figures,
+    (limits, (refusals, (noninterference, (read-after-write, (buffer-bounds, (questions, tree-check)))))))
 
 pub promises-spec : {M : Type 1} → statement M
 promises-spec = tie.close (tie.spec returns)

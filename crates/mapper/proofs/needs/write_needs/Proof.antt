@@ -12,7 +12,7 @@ use Rattle.model.proofs.Refusals.Circle.{roundCount-le}
 use Rattle.layout.specs.Geometries.{geometryOf}
 use Rattle.layout.proofs.Laws.Drives.{long-enough, drive-read}
 use Rattle.checks.proofs.Laws.RoundCounts.{random-blocks-small}
-use Rattle.mapper.specs.Needs.{refusedNeeds}
+use Rattle.model.specs.Needs.{refusedNeeds}
 use Rattle.mapper.proofs.Laws.WriteRefusals.{head-read, inside-of-places, entry-of-places}
 use Rattle.mapper.proofs.Laws.Needs.{needs-drive, needs-place, needs-none, needs-some, told-suffice}
 use Rattle.mapper.proofs.needs.write_needs.Statement.{statement}

@@ -2,7 +2,8 @@
 -- nothing.
 use mathlib.Core.Path.{ap, _∙_}
 use borrow.Author.Needs.{needs}
-use Rattle.mapper.specs.Needs.{Needed, neededOf}
+use Rattle.model.specs.Needs.{Needed}
+use Rattle.mapper.specs.Needs.{neededOf}
 use Rattle.report.specs.Needs.{agreesNeeded}
 use Rattle.write_figures.proofs.needs.print_needs.Statement.{statement}
 use Rattle.write_figures.proofs.needs.print_needs.Tie as tie

@@ -1,6 +1,9 @@
 // Document 01 as definitions, their laws, and what is promised of them. There is no code here but `promises`.
 ghost use Rattle.model.specs.Promises.Figures.{Figures};
 ghost use Rattle.model.specs.Promises.Limits.{Limits};
+ghost use Rattle.model.specs.Promises.RoundFigures.{RoundFigures};
+ghost use Rattle.model.specs.Promises.LargerFigures.{LargerFigures};
+ghost use Rattle.model.specs.Promises.OrderFigures.{OrderFigures};
 ghost use Rattle.model.specs.Promises.Refusals.{Refusals};
 ghost use Rattle.model.specs.Promises.Noninterference.{Noninterference};
 ghost use Rattle.model.specs.Promises.ReadAfterWrite.{ReadAfterWrite};
@@ -12,6 +15,9 @@ ghost use Rattle.model.specs.Promises.TreeCheck.{TreeCheck};
 pub fn promises()
     ensures figures { λ _. ⌜ Figures ⌝ }
     ensures limits { λ _. ⌜ Limits ⌝ }
+    ensures round_figures { λ _. ⌜ RoundFigures ⌝ }
+    ensures larger_figures { λ _. ⌜ LargerFigures ⌝ }
+    ensures order_figures { λ _. ⌜ OrderFigures ⌝ }
     ensures refusals { λ _. ⌜ Refusals ⌝ }
     ensures noninterference { λ _. ⌜ Noninterference ⌝ }
     ensures read_after_write { λ _. ⌜ ReadAfterWrite ⌝ }

@@ -35,6 +35,7 @@ limits =
       refusal-five = refl;
       refusal-six = refl;
       refusal-six-free = refl;
+      refusal-six-past = refl;
       refusal-seven = refl;
       refusal-eight = refl;
       random-64 = refl;

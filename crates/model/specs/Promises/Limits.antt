@@ -158,6 +158,9 @@ pub record Limits : Type 0 where
   pub refusal-five : publicReadRefusal fresh 0 (replicate 31 0) ≡ 5
   pub refusal-six : publicReadRefusal (withFirstEntry 1 5) 0 (filled 0) ≡ 6
   pub refusal-six-free : publicReadRefusal (withFirstEntry 1 4) 0 (filled 0) ≡ 6
+  -- entry 16, where a fifth slot would start, though its bit, 12, is set
+  pub refusal-six-past :
+      publicReadRefusal (setBlock 32 (withFirstEntry 1 16) 2 (0 ∷ 16 ∷ replicate 30 0)) 0 (filled 0) ≡ 6
   -- bits 0, 3, 6 and 9: bytes 73 and 2
   pub refusal-seven : answerOf (withFirstEntry 2 585) 256 23 ≡ 7
   pub refusal-eight : answerOf fresh 63 23 ≡ 8

@@ -67,6 +67,9 @@ pub record TreeFigures : Type 0 where
   pub owner-unmapped : answerWith (node 5 0 0 0) (node 0 9 0 0) ≡ 15
   pub owner-elsewhere : answerWith (node 5 0 0 0) (node 0 9 0 1) ≡ 15
   pub owner-not-below : answerWith (node 5 0 0 0) (node 6 12 0 0) ≡ 15
+  -- slot 0, whose owner is found there, under the entry before its owner's, and under the one after
+  pub owner-just-above : answerWith (node 5 0 0 0) (node 6 6 0 1) ≡ 15
+  pub owner-just-below : answerWith (node 5 0 0 0) (node 6 6 0 0) ≡ 15
   -- slot 0's owner 2 is below the root's first entry and has its walk end there; its own entry is past H
   pub owner-at-limit : answerWith (node 5 0 0 0) (node 0 9 6 2) ≡ 14
   -- two faults at one entry: 13 before 14, 14 before 15

@@ -3,4 +3,5 @@ pub mod Spans
 pub mod Entries
 pub mod Ways
 pub mod Nodes
+pub mod Halves
 pub mod Trees

@@ -1,5 +1,5 @@
-// Nodes and entries: a node goes through its entries, and each entry goes on to its node, one level lower,
-// which the walk of its slot's owner has read.
+// Nodes and entries: a node goes through its entries by halves down to one, and each entry goes on to its
+// node, one level lower, which the walk of its slot's owner has read. Level and remaining entries fall.
 use crate::entries::Tested;
 use crate::entries::test_entry;
 use crate::spans::entries_in;
@@ -15,13 +15,13 @@ use layout::numbers::HiddenNumber;
 ghost use mathlib.Core.Path.{_≡_};
 ghost use mathlib.Core.Logic.{_≢_};
 ghost use mathlib.Core.Option.{none, some};
-ghost use Prim.Native.Nat.{suc, _+_, _*_, _≤_, _<_};
+ghost use Prim.Native.Nat.{_+_, _*_, _≤_, _<_};
 ghost use Rattle.model.specs.Geometry.{Fits, fanout, blockCount};
 ghost use Rattle.model.specs.Blocks.{blockAt, entryAt};
 ghost use Rattle.model.specs.Layout.{Drive};
 ghost use Rattle.model.specs.HiddenTree.{span};
 ghost use Rattle.model.specs.Invariants.{entriesIn};
-ghost use Rattle.model.specs.TreeCheck.{metBelow, metAt, firstFault};
+ghost use Rattle.model.specs.TreeCheck.{metAt, metInTurn, firstFault};
 ghost use Rattle.layout.specs.Geometries.{geometryOf};
 ghost use Rattle.hidden_map.specs.Nodes.{addressAt};
 ghost use Rattle.tree_check.specs.Nodes.{NodeOf};
@@ -86,32 +86,39 @@ fn check_entry(
                 return 0;
             }
             let below = node_read(nodes, level);
-            check_node(disk, g, level - 1, HiddenNumber(start as u32), below)
+            let lower = level - 1;
+            let count = entries_in(g, lower);
+            check_node(disk, g, lower, HiddenNumber(start as u32), below, 0, count)
         }
     }
 }
 
-// The first fault of a node's entries, each with what is below it, else 0.
+// The first fault of so many of a node's entries from a place on, each with what is below it, else 0.
 pub fn check_node(
     disk: &[u8],
     g: Geometry,
     level: u32,
     first: HiddenNumber,
     node: DiskAddress,
+    place: u32,
+    remaining: u32,
 ) -> u8
     requires { ⌜ NodeOf (geometryOf g) (now disk) level (first .0) (node .0) ⌝ }
+    requires { ⌜ 1 ≤ remaining ⌝ }
+    requires { ⌜ place + remaining ≤ entriesIn (geometryOf g) level ⌝ }
     ensures { λ r. ⌜ r ≡ firstFault (geometryOf g) (now (disk .entry))
-        (metBelow (geometryOf g) (now (disk .entry)) (suc level) (first .0)
-        (blockAt (geometryOf g .blockSize) (now (disk .entry)) (node .0))) ⌝ }
+        (metInTurn (metAt (geometryOf g) (now (disk .entry)) level (first .0)
+        (blockAt (geometryOf g .blockSize) (now (disk .entry)) (node .0))) remaining place) ⌝ }
 {
-    let count = entries_in(g, level);
-    let mut place: u32 = 0;
-    while place < count {
-        let fault = check_entry(disk, g, level, first, node, place);
-        if fault != 0 {
-            return fault;
-        }
-        place += 1;
+    if remaining == 1 {
+        return check_entry(disk, g, level, first, node, place);
     }
-    0
+    let half = remaining / 2;
+    let fault = check_node(disk, g, level, first, node, place, half);
+    if fault != 0 {
+        return fault;
+    }
+    let rest = remaining - half;
+    let next = place + half;
+    check_node(disk, g, level, first, node, next, rest)
 }

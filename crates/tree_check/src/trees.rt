@@ -1,5 +1,6 @@
 // The call: refusals 1 to 3, then the first fault of the tree.
 use crate::nodes::check_node;
+use crate::spans::entries_in;
 use layout::geometry::geometry_in;
 use layout::geometry::root_address;
 use layout::numbers::HiddenNumber;
@@ -17,5 +18,7 @@ pub fn check_tree(disk: &[u8]) -> u8
         return fault;
     }
     let g = geometry_in(disk);
-    check_node(disk, g, g.height - 1, HiddenNumber(0), root_address(g))
+    let top = g.height - 1;
+    let count = entries_in(g, top);
+    check_node(disk, g, top, HiddenNumber(0), root_address(g), 0, count)
 }

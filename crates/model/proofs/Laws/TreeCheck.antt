@@ -1,10 +1,10 @@
--- Laws of the whole-tree check: its tests, what is met at a place of a node and below an entry, the checks of
--- what is met, and the first fault by entries, by places and by what is below. Assumes nothing.
+-- Laws of the whole-tree check: its tests, what is met at the places of a node and below an entry, the checks
+-- of what is met, and the first fault by entries and by what is below. Assumes nothing.
 use mathlib.Core.Path.{_≡_, refl, sym, ap, _∙_}
 use mathlib.Core.Logic.{_≢_}
 use mathlib.Core.Bool.{true}
 use mathlib.Core.List.{List, [], _∷_, _++_, append-assoc}
-use Prim.Native.Nat.{ℕ, suc, _+_, _-_, _≤_, _<_}
+use Prim.Native.Nat.{ℕ, zero, suc, _+_, _<_}
 use native.Mathlib.Omega.{arith}
 use borrow.Author.Tests.{leb-false, eqb-true, eq-eqb, ne-eqb, not-false}
 use Rattle.laws.specs.Checks.{Check, firstOf}
@@ -58,6 +58,21 @@ module _ (g : Geometry) (disk : Bytes) where
   unfolding metBelow
   metBelow-suc level first node = refl
 
+pub metInTurn-add : (at : ℕ → List MetEntry) (front rest place : ℕ) →
+    metInTurn at (front + rest) place ≡ metInTurn at front place ++ metInTurn at rest (place + front)
+unfolding metInTurn
+metInTurn-add at zero rest place =
+    let n : zero + rest ≡ rest = omega arith in
+    let p : place + zero ≡ place = omega arith in
+    rw (n, p)
+metInTurn-add at (suc front) rest place =
+    let n : suc front + rest ≡ suc (front + rest) = omega arith in
+    let p : place + suc front ≡ suc place + front = omega arith in
+    rw (n, p)
+    (ap (λ (mets : List MetEntry). at place ++ mets) (metInTurn-add at front rest (suc place))
+    ∙ sym (append-assoc (at place) (metInTurn at front (suc place))
+    (metInTurn at rest (suc place + front))))
+
 module _ (g : Geometry) (met : MetEntry) (below : List MetEntry) where
   pub metWith-zero : met .entry ≡ 0 → metWith g met below ≡ []
   unfolding metWith
@@ -108,13 +123,13 @@ module _ (g : Geometry) (disk : Bytes) where
   unfolding metChecks
   firstFault-nil = firstOf-nil
 
-  firstFault-append-stop : (front rest : List MetEntry) → firstFault g disk front ≢ 0 →
+  pub firstFault-append-stop : (front rest : List MetEntry) → firstFault g disk front ≢ 0 →
       firstFault g disk (front ++ rest) ≡ firstFault g disk front
   firstFault-append-stop front rest f =
       ap firstOf (metChecks-append front rest)
       ∙ firstOf-append-stop (metChecks g disk front) (metChecks g disk rest) f
 
-  firstFault-append-zero : (front rest : List MetEntry) → firstFault g disk front ≡ 0 →
+  pub firstFault-append-zero : (front rest : List MetEntry) → firstFault g disk front ≡ 0 →
       firstFault g disk (front ++ rest) ≡ firstFault g disk rest
   firstFault-append-zero front rest z =
       ap firstOf (metChecks-append front rest)
@@ -140,33 +155,3 @@ module _ (g : Geometry) (disk : Bytes) where
       firstFault-below z =
           ap (firstFault g disk) (metWith-formed g met below some (formed-of-faultless met z))
           ∙ firstOf-append-zero (entryChecks g disk met) (metChecks g disk below) (numbered-entry met) z
-
-  -- ---- the first fault, by places ----
-
-  module _ (at : ℕ → List MetEntry) (count place : ℕ) where
-    pub firstFault-end : count ≤ place → firstFault g disk (metInTurn at (count - place) place) ≡ 0
-    unfolding metInTurn
-    firstFault-end h =
-        let e : count - place ≡ 0 = omega arith in
-        rw e firstFault-nil
-
-    module _ (h : place < count) where
-      turn : metInTurn at (count - place) place ≡ at place ++ metInTurn at (count - (place + 1)) (place + 1)
-      unfolding metInTurn
-      turn =
-          let e : count - place ≡ suc (count - (place + 1)) = omega arith in
-          let p : suc place ≡ place + 1 = omega arith in
-          rw (e, p)
-
-      pub firstFault-place : firstFault g disk (at place) ≢ 0 →
-          firstFault g disk (metInTurn at (count - place) place) ≡ firstFault g disk (at place)
-      firstFault-place f =
-          ap (firstFault g disk) turn
-          ∙ firstFault-append-stop (at place) (metInTurn at (count - (place + 1)) (place + 1)) f
-
-      pub firstFault-next : firstFault g disk (at place) ≡ 0 →
-          firstFault g disk (metInTurn at (count - place) place) ≡
-          firstFault g disk (metInTurn at (count - (place + 1)) (place + 1))
-      firstFault-next z =
-          ap (firstFault g disk) turn
-          ∙ firstFault-append-zero (at place) (metInTurn at (count - (place + 1)) (place + 1)) z

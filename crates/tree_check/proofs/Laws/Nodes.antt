@@ -1,12 +1,10 @@
--- Laws of nodes and entries: one for each way through the check of an entry, the node that an entry without
--- fault leads to and its owner's walk read, and a node gone through place by place. Assumes nothing.
+-- Laws of an entry and its node: one for each way through the check of an entry, and the node that an entry
+-- without fault leads to and its owner's walk read. Assumes nothing.
 use mathlib.Core.Path.{_≡_, sym, ap, ap₂, _∙_, subst}
 use mathlib.Core.Logic.{_≢_}
 use mathlib.Core.Bool.{true}
-use mathlib.Core.List.{List}
 use mathlib.Core.Option.{none, some}
-use Prim.Native.Nat.{ℕ, suc, _+_, _*_, _-_, _/_, _≤_, _<_}
-use native.Mathlib.Nat.{sub-zero}
+use Prim.Native.Nat.{ℕ, suc, _+_, _*_, _-_, _/_, _<_}
 use native.Mathlib.Omega.{arith}
 use Rattle.laws.specs.Checks.{firstOf}
 use Rattle.laws.proofs.Cases.{none-is-not-some, some-inj}
@@ -15,12 +13,11 @@ use Rattle.model.specs.Blocks.{Bytes, DiskAddress, blockAt, entryAt}
 use Rattle.model.specs.Layout.{isWellFormed}
 use Rattle.model.specs.HiddenTree.{span}
 use Rattle.model.specs.Invariants.{entriesIn}
-use Rattle.model.specs.TreeCheck.{MetEntry, metEntry, metInTurn, metWith, metBelow, metAt}
+use Rattle.model.specs.TreeCheck.{MetEntry, metEntry, metWith, metBelow, metAt}
 use Rattle.model.specs.TreeCheck.{isBelow, entryChecks, firstFault}
-use Rattle.model.proofs.Laws.TreeCheck.{belowEntry, metBelow-zero, metBelow-suc, firstFault-zero}
+use Rattle.model.proofs.Laws.TreeCheck.{belowEntry, metBelow-zero, firstFault-zero}
 use Rattle.model.proofs.Laws.TreeCheck.{firstFault-own, firstFault-below, firstFault-nil}
-use Rattle.model.proofs.Laws.TreeCheck.{formed-of-faultless, first-of-faultless, firstFault-end}
-use Rattle.model.proofs.Laws.TreeCheck.{firstFault-place, firstFault-next}
+use Rattle.model.proofs.Laws.TreeCheck.{formed-of-faultless, first-of-faultless}
 use Rattle.model.proofs.Tree.Check.{key-of-below, index-first}
 use Rattle.hidden_map.specs.declared.nodes.Nodes.{Nodes}
 use Rattle.hidden_map.specs.Nodes.{addressAt}
@@ -161,53 +158,3 @@ module _ {g : Geometry} {disk : Bytes} {level first place : ℕ} {node entry : D
                   (ap (λ (n : ℕ). number / span g n) (sym up) ∙ k) entry (j .read .entry-is) (j .not-zero)
                   formed l wanted w;
             })
-
--- ---- a node, place by place ----
-
--- what is met in a node from a place on
-abbrev metFrom : Geometry → (disk : Bytes) → (level first : ℕ) → (node : Bytes) → (place : ℕ) → List MetEntry
-metFrom g disk level first node place =
-    metInTurn (metAt g disk level first node) (entriesIn g level - place) place
-
--- no fault is met before a place: the node's first is the first from there on
-pub record FaultlessTo (g : Geometry) (disk : Bytes) (level first : ℕ) (node : Bytes) (place : ℕ) : Type 0
-  where
-    pub rest :
-        firstFault g disk (metBelow g disk (suc level) first node) ≡
-        firstFault g disk (metFrom g disk level first node place)
-
-pub faultless-zero : (g : Geometry) (disk : Bytes) (level first : ℕ) (node : Bytes) →
-    FaultlessTo g disk level first node 0
-faultless-zero g disk level first node =
-    record {
-      rest =
-          ap (firstFault g disk)
-          (metBelow-suc g disk level first node
-          ∙ ap (λ (n : ℕ). metInTurn (metAt g disk level first node) n 0)
-          (sym (sub-zero (entriesIn g level))));
-    }
-
-module _ {g : Geometry} {disk : Bytes} {level first place : ℕ} {node : Bytes}
-    (f : FaultlessTo g disk level first node place) where
-  pub fault-at-end :
-      entriesIn g level ≤ place → 0 ≡ firstFault g disk (metBelow g disk (suc level) first node)
-  fault-at-end h =
-      sym (f .rest ∙ firstFault-end g disk (metAt g disk level first node) (entriesIn g level) place h)
-
-  module _ (h : place < entriesIn g level) (answer : ℕ)
-      (e : answer ≡ firstFault g disk (metAt g disk level first node place)) where
-    pub fault-at-place : answer ≢ 0 → answer ≡ firstFault g disk (metBelow g disk (suc level) first node)
-    fault-at-place ne =
-        e
-        ∙ sym (f .rest
-        ∙ firstFault-place g disk (metAt g disk level first node) (entriesIn g level) place h
-        (λ z. ne (e ∙ z)))
-
-    pub faultless-next : answer ≡ 0 → FaultlessTo g disk level first node (place + 1)
-    faultless-next z =
-        record {
-          rest =
-              f .rest
-              ∙ firstFault-next g disk (metAt g disk level first node) (entriesIn g level) place h
-              (sym e ∙ z);
-        }

@@ -30,6 +30,9 @@ pub entriesIn-le : (g : Geometry) (level : ℕ) → entriesIn g level ≤ fanout
 entriesIn-le g zero = omega arith
 entriesIn-le g (suc level) = omega arith
 
+pub entriesIn-high : (g : Geometry) → Fits g → (level : ℕ) → entriesIn g level ≤ 1024
+entriesIn-high g f level = omega (arith, entriesIn-le g level, f .size-entries, f .size-high)
+
 -- ---- spans ----
 
 module _ (g : Geometry) (level : ℕ) where

@@ -1,21 +1,23 @@
 -- `tree_check::nodes::check_entry` and `check_node` meet their contracts: each way through an entry is a law
--- of what is met there, the node below taken from the walk of the owner; the invariant of a node's loop says
--- that no fault is met before the place. The level falls from an entry to its node, and the entries left fall
--- in the loop; a node's measure is one more than that of its entries. Assumes nothing.
+-- of what is met there, the node below taken from the walk of the owner; a node's one entry, its first half
+-- and the rest have a law each. One measure falls: by the level from an entry to its node, by the remaining
+-- entries from a node to its halves and to its one entry. Assumes nothing.
 use mathlib.Core.Path.{refl}
-use Prim.Native.Nat.{ℕ, _+_, _*_, _-_, _<_}
+use mathlib.Core.List.{List}
+use Prim.Native.Nat.{ℕ, _+_, _*_, _-_, _/_, _<_}
 use native.Mathlib.Omega.{arith}
 use borrow.Author.Needs.{needs}
 use borrow.Fn.Kinds.{In}
 use borrow.Fn.PlainCycle.{Measures, is, falls, and}
 use Rattle.model.specs.Geometry.{Geometry, fanout}
 use Rattle.model.specs.Blocks.{Bytes, blockAt}
-use Rattle.model.specs.Invariants.{entriesIn}
+use Rattle.model.specs.TreeCheck.{MetEntry, metAt}
+use Rattle.model.proofs.Tree.Keys.{entriesIn-positive}
 use Rattle.layout.specs.Geometries.{geometryOf}
-use Rattle.tree_check.proofs.Laws.Spans.{entriesIn-le}
+use Rattle.tree_check.proofs.Laws.Spans.{entriesIn-le, entriesIn-high}
 use Rattle.tree_check.proofs.Laws.Nodes.{ReadAt, Judged, fault-unmapped, fault-own, fault-data}
-use Rattle.tree_check.proofs.Laws.Nodes.{is-read, fault-below, node-below, start-lt, FaultlessTo}
-use Rattle.tree_check.proofs.Laws.Nodes.{faultless-zero, fault-at-end, fault-at-place, faultless-next}
+use Rattle.tree_check.proofs.Laws.Nodes.{is-read, fault-below, node-below, start-lt}
+use Rattle.tree_check.proofs.Laws.Halves.{fault-one, fault-first-half, fault-rest, fault-node}
 use Rattle.tree_check.proofs.nodes.check_entry.Reads as check-entry
 use Rattle.tree_check.proofs.nodes.check_entry.Kinds as check-entry-kinds
 use Rattle.tree_check.proofs.nodes.+check_entry+check_node.Lts-check_entry as check-entry-lts
@@ -32,11 +34,19 @@ use Rattle.tree_check.proofs.nodes.+check_entry+check_node.Tie.{close}
 
 -- ---- the measures ----
 
+-- more than any node has entries, at most 1,024
+abbrev pastEntries : ℕ
+pastEntries = 1025
+
+-- the level decides, then the remaining entries
+abbrev measureOf : (level remaining : ℕ) → ℕ
+measureOf level remaining = pastEntries * level + remaining
+
 abbrev μ-check-entry : Measures 1 check-entry-kinds.ps ℕ
-μ-check-entry κs a = 2 * a .1 .1 .0
+μ-check-entry κs a = measureOf (a .1 .1 .0) 0
 
 abbrev μ-check-node : Measures 1 check-node-kinds.ps ℕ
-μ-check-node κs a = 2 * a .1 .1 .0 + 1
+μ-check-node κs a = measureOf (a .1 .1 .0) (a .1 .1 .1 .1 .1 .1 .0)
 
 abbrev check-entry-at : ℕ → In 1 check-entry-kinds.ps
 check-entry-at t =
@@ -64,17 +74,14 @@ entry-reads t = (
   test-entry-reads.Learnt,
   node-read-reads.Asked,
   node-read-reads.Learnt,
+  entries-in-reads.Asked,
+  entries-in-reads.Learnt,
   check-node-below t,
   check-node.Post,
 )
 
 abbrev node-reads : ℕ → check-node-lts.Claims
-node-reads t = (
-  entries-in-reads.Asked,
-  entries-in-reads.Learnt,
-  check-entry-below t,
-  check-entry.Post,
-)
+node-reads t = (check-entry-below t, check-entry.Post, check-node-below t, check-node.Post)
 
 -- ---- an entry: places ----
 
@@ -208,25 +215,42 @@ check-entry-node-read-requires t c κs =
       is-read judged _ (passed .nodes .given .1) (c .if2 .left),
     )
 
-check-entry-sub-check-node : (t : ℕ) → check-entry-lts.Need-sub-check-node (entry-reads t)
-    (check-entry-at t) check-entry.Post
-check-entry-sub-check-node t c = search needs
-
-check-entry-cast-t17 : (t : ℕ) → check-entry-lts.Need-cast-t17 (entry-reads t) (check-entry-at t)
+check-entry-sub-lower : (t : ℕ) → check-entry-lts.Need-sub-lower (entry-reads t) (check-entry-at t)
     check-entry.Post
-check-entry-cast-t17 t c =
-    let passed = nodesOf t (c .before) in
+check-entry-sub-lower t c = search needs
+
+check-entry-entries-in-requires : (t : ℕ) → check-entry-lts.Need-entries-in-requires (entry-reads t)
+    (check-entry-at t) check-entry.Post
+check-entry-entries-in-requires t c κs = judgedOf t (testsOf t (nodesOf t (c .before))) .node-of .drive .fits
+
+check-entry-cast-t18 : (t : ℕ) → check-entry-lts.Need-cast-t18 (entry-reads t) (check-entry-at t)
+    check-entry.Post
+check-entry-cast-t18 t c =
+    let passed = nodesOf t (c .before .before) in
     let tests = testsOf t passed in
     omega (arith, start-lt (judgedOf t tests) _ (passed .nodes .given .1), startOf t tests .good)
 
 check-entry-check-node-requires : (t : ℕ) → check-entry-lts.Need-check-node-requires (entry-reads t)
     (check-entry-at t) check-entry.Post
 check-entry-check-node-requires t c κs =
-    let passed = nodesOf t (c .before) in
-    let tests = testsOf t passed in (
-      omega (arith, startOf t tests .pre .0, c .before .if2 .left),
-      node-below (judgedOf t tests) _ (passed .nodes .given .1) (c .before .if2 .left)
-          (c .node-read .result .0) (c .node-read .ensures),
+    let read = c .before in
+    let left = read .before .if2 .left in
+    let passed = nodesOf t (read .before) in
+    let tests = testsOf t passed in
+    let s = startOf t tests in
+    let lower = s .args .level - 1 in
+    let judged = judgedOf t tests in
+    let fits = judged .node-of .drive .fits in
+    let count = c .entries-in .ensures in (
+      omega (arith, s .pre .0, left, count, entriesIn-high (shapeOf t s) fits lower),
+      (
+        node-below judged _ (passed .nodes .given .1) left (read .node-read .result .0)
+            (read .node-read .ensures),
+        (
+          omega (arith, count, entriesIn-positive (shapeOf t s) fits lower),
+          omega (arith, count),
+        ),
+      ),
     )
 
 check-entry-returns-3 : (t : ℕ) → check-entry-lts.Need-returns-3 (entry-reads t) (check-entry-at t)
@@ -238,97 +262,118 @@ check-entry-returns-3 t c =
 check-entry-returns-4 : (t : ℕ) → check-entry-lts.Need-returns-4 (entry-reads t) (check-entry-at t)
     check-entry.Post
 check-entry-returns-4 t c =
-    let read = c .before in
+    let counted = c .before in
+    let read = counted .before in
     let passed = nodesOf t (read .before) in
-    fault-below (judgedOf t (testsOf t passed)) _ (passed .nodes .given .1) (read .before .if2 .left)
-    (read .node-read .result .0) (read .node-read .ensures) (c .check-node .result) (c .check-node .ensures)
+    let tests = testsOf t passed in
+    let s = startOf t tests in
+    let below = read .node-read in
+    fault-below (judgedOf t tests) _ (passed .nodes .given .1) (read .before .if2 .left) (below .result .0)
+    (below .ensures) (c .check-node .result)
+    (fault-node (shapeOf t s) (s .args .disk .now) (s .args .level - 1) (tests .before .first-below .result)
+    (blockAt (shapeOf t s .blockSize) (s .args .disk .now) (below .result .0))
+    (counted .entries-in .result) (counted .entries-in .ensures) (c .check-node .result)
+    (c .check-node .ensures))
 
 -- ---- a node: places ----
 
-abbrev check-node-Inv-loop : check-node-lts.InvT-loop
-check-node-Inv-loop disk g level first node count place₀ place =
-    FaultlessTo (geometryOf g) disk level (first .0) (blockAt (g .«block_size») disk (node .0)) place
-
-abbrev check-node-μ-loop : check-node-lts.MeasureT-loop
-check-node-μ-loop disk g level first node count place₀ place = count - place
-
 abbrev NodeStart : ℕ → Type 0
-NodeStart t =
-    check-node-lts.Start (node-reads t) (check-node-at t) check-node.Post check-node-Inv-loop
-    check-node-μ-loop
+NodeStart t = check-node-lts.Start (node-reads t) (check-node-at t) check-node.Post
 
--- a place is reached
-abbrev AtPlace : ℕ → Type 0
-AtPlace t =
-    check-node-lts.At-loop (node-reads t) (check-node-at t) check-node.Post check-node-Inv-loop
-    check-node-μ-loop
+-- more than one entry remains
+abbrev AtHalves : ℕ → Type 0
+AtHalves t = check-node-lts.Else1 (node-reads t) (check-node-at t) check-node.Post
 
--- its entry is checked
-abbrev AfterEntry : ℕ → Type 0
-AfterEntry t =
-    check-node-lts.After-check-entry (node-reads t) (check-node-at t) check-node.Post check-node-Inv-loop
-    check-node-μ-loop
+-- the first half is checked
+abbrev AfterHalf : ℕ → Type 0
+AfterHalf t = check-node-lts.After-check-node (node-reads t) (check-node-at t) check-node.Post
 
-abbrev nodeStart : (t : ℕ) → AtPlace t → NodeStart t
-nodeStart t s = s .before .before .before
+abbrev nodeStart : (t : ℕ) → AtHalves t → NodeStart t
+nodeStart t s = s .before .before
 
--- the place has an entry
-place-inside :
-    (t : ℕ) (s : AtPlace t) → s .loop .place < s .before .entries-in .result →
-    let a = nodeStart t s .args in
-    s .loop .place < entriesIn (geometryOf (a .g)) (a .level)
-place-inside t s h = omega (arith, s .before .entries-in .ensures, h)
+-- the start, from the first half on
+abbrev halvedStart : (t : ℕ) → AfterHalf t → NodeStart t
+halvedStart t s = nodeStart t (s .before)
+
+abbrev nodeShape : (t : ℕ) → NodeStart t → Geometry
+nodeShape t s = geometryOf (s .args .g)
+
+-- what is met in the node at a place
+abbrev metThere : (t : ℕ) → NodeStart t → (place : ℕ) → List MetEntry
+metThere t s =
+    let a = s .args in
+    metAt (nodeShape t s) (a .disk .now) (a .level) (a .first .0)
+    (blockAt (nodeShape t s .blockSize) (a .disk .now) (a .node .0))
 
 -- ---- a node: answers ----
 
-check-node-entries-in-requires : (t : ℕ) → check-node-lts.Need-entries-in-requires (node-reads t)
-    (check-node-at t) check-node.Post check-node-Inv-loop check-node-μ-loop
-check-node-entries-in-requires t c κs = c .before .pre .1 .drive .fits
-
-check-node-loop-holds : (t : ℕ) → check-node-lts.Need-loop-holds (node-reads t) (check-node-at t)
-    check-node.Post check-node-Inv-loop check-node-μ-loop
-check-node-loop-holds t c =
-    let a = c .before .before .args in
-    let g = geometryOf (a .g) in
-    faultless-zero g (a .disk .now) (a .level) (a .first .0)
-    (blockAt (g .blockSize) (a .disk .now) (a .node .0))
-
 check-node-check-entry-requires : (t : ℕ) → check-node-lts.Need-check-entry-requires (node-reads t)
-    (check-node-at t) check-node.Post check-node-Inv-loop check-node-μ-loop
+    (check-node-at t) check-node.Post
 check-node-check-entry-requires t c κs =
-    let s = nodeStart t (c .before) in
-    (omega (arith, s .pre .0), (s .pre .1, place-inside t (c .before) (c .loop-test .taken)))
+    let s = c .before .before in
+    let some = s .pre .1 .1 .0 in
+    (omega (arith, s .pre .0, some), (s .pre .1 .0, omega (arith, some, s .pre .1 .1 .1)))
 
 check-node-returns : (t : ℕ) → check-node-lts.Need-returns (node-reads t) (check-node-at t) check-node.Post
-    check-node-Inv-loop check-node-μ-loop
 check-node-returns t c =
-    let checked = c .before in
-    let reached = checked .before .before in
-    fault-at-place (reached .loop .inv) (place-inside t reached (checked .before .loop-test .taken))
-    (checked .check-entry .result) (checked .check-entry .ensures) (c .if1 .taken)
+    let one = c .before in
+    let s = one .before .before in
+    let a = s .args in
+    fault-one (nodeShape t s) (a .disk .now) (metThere t s) (c .check-entry .result) (a .remaining) (a .place)
+    (one .if1 .taken) (c .check-entry .ensures)
 
-check-node-add-place : (t : ℕ) → check-node-lts.Need-add-place (node-reads t) (check-node-at t)
-    check-node.Post check-node-Inv-loop check-node-μ-loop
-check-node-add-place t c = search needs
-
-check-node-loop-less : (t : ℕ) → check-node-lts.Need-loop-less (node-reads t) (check-node-at t)
-    check-node.Post check-node-Inv-loop check-node-μ-loop
-check-node-loop-less t c = search needs
-
-check-node-loop-again : (t : ℕ) → check-node-lts.Need-loop-again (node-reads t) (check-node-at t)
-    check-node.Post check-node-Inv-loop check-node-μ-loop
-check-node-loop-again t c =
-    let checked = c .before in
-    let reached = checked .before .before in
-    faultless-next (reached .loop .inv) (place-inside t reached (checked .before .loop-test .taken))
-    (checked .check-entry .result) (checked .check-entry .ensures) (c .if1 .left)
+check-node-check-node-requires : (t : ℕ) → check-node-lts.Need-check-node-requires (node-reads t)
+    (check-node-at t) check-node.Post
+check-node-check-node-requires t c κs =
+    let s = nodeStart t c in
+    let some = s .pre .1 .1 .0 in (
+      omega (arith, s .pre .0, some, c .if1 .left),
+      (s .pre .1 .0, (omega (arith, some, c .if1 .left), omega (arith, s .pre .1 .1 .1))),
+    )
 
 check-node-returns-2 : (t : ℕ) → check-node-lts.Need-returns-2 (node-reads t) (check-node-at t)
-    check-node.Post check-node-Inv-loop check-node-μ-loop
+    check-node.Post
 check-node-returns-2 t c =
-    let reached = c .before in
-    fault-at-end (reached .loop .inv)
-    (omega (arith, reached .before .entries-in .ensures, c .loop-test .left))
+    let halved = c .before in
+    let s = halvedStart t halved in
+    let a = s .args in
+    fault-first-half (nodeShape t s) (a .disk .now) (metThere t s) (a .remaining) (a .remaining / 2)
+    (a .place) (omega arith) (halved .check-node .result) (halved .check-node .ensures) (c .if2 .taken)
+
+check-node-sub-rest : (t : ℕ) → check-node-lts.Need-sub-rest (node-reads t) (check-node-at t)
+    check-node.Post
+check-node-sub-rest t c = omega arith
+
+check-node-add-next : (t : ℕ) → check-node-lts.Need-add-next (node-reads t) (check-node-at t)
+    check-node.Post
+check-node-add-next t c =
+    let s = halvedStart t (c .before) in
+    omega (
+      arith,
+      s .pre .1 .1 .1,
+      entriesIn-high (nodeShape t s) (s .pre .1 .0 .drive .fits) (s .args .level),
+    )
+
+check-node-check-node-requires-2 : (t : ℕ) → check-node-lts.Need-check-node-requires-2 (node-reads t)
+    (check-node-at t) check-node.Post
+check-node-check-node-requires-2 t c κs =
+    let halved = c .before in
+    let s = halvedStart t halved in
+    let some = s .pre .1 .1 .0 in
+    let more = halved .before .if1 .left in (
+      omega (arith, s .pre .0, some, more),
+      (s .pre .1 .0, (omega (arith, some, more), omega (arith, s .pre .1 .1 .1))),
+    )
+
+check-node-returns-3 : (t : ℕ) → check-node-lts.Need-returns-3 (node-reads t) (check-node-at t)
+    check-node.Post
+check-node-returns-3 t c =
+    let halved = c .before .before in
+    let s = halvedStart t halved in
+    let a = s .args in
+    fault-rest (nodeShape t s) (a .disk .now) (metThere t s) (a .remaining) (a .remaining / 2) (a .place)
+    (omega arith) (halved .check-node .result) (halved .check-node .ensures) (c .before .if2 .left)
+    (c .check-node2 .result) (c .check-node2 .ensures)
 
 -- ---- both ----
 
@@ -345,21 +390,20 @@ pub +check-entry+check-node-spec : {M : Type 1} → statement M
     (check-entry-enum-known-nodes t)
     (check-entry-returns-2 t)
     (check-entry-node-read-requires t)
-    (check-entry-sub-check-node t)
-    (check-entry-cast-t17 t)
+    (check-entry-sub-lower t)
+    (check-entry-entries-in-requires t)
+    (check-entry-cast-t18 t)
     (check-entry-check-node-requires t)
     (check-entry-returns-3 t)
     (check-entry-returns-4 t))
     λ t. check-node-lts.spec (node-reads t)
     (check-node-at t)
     check-node.Post
-    check-node-Inv-loop
-    check-node-μ-loop
-    (check-node-entries-in-requires t)
-    (check-node-loop-holds t)
     (check-node-check-entry-requires t)
     (check-node-returns t)
-    (check-node-add-place t)
-    (check-node-loop-less t)
-    (check-node-loop-again t)
+    (check-node-check-node-requires t)
     (check-node-returns-2 t)
+    (check-node-sub-rest t)
+    (check-node-add-next t)
+    (check-node-check-node-requires-2 t)
+    (check-node-returns-3 t)

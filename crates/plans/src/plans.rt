@@ -1,5 +1,5 @@
-// What a round is to do with its slot, all of it read before the slot is stored: one walk for the slot's
-// owner, and one for the waiting number where that is another.
+// What a round is to do with its slot, settled before the slot is stored: one walk for the slot's owner, and
+// one for the waiting number where that is another.
 use crate::states::Offer;
 use crate::states::State;
 use crate::states::is_waiting;

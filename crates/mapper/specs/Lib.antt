@@ -1,3 +1,4 @@
 pub mod Headers
+pub mod Questions
 pub mod Needs
 pub mod Writes

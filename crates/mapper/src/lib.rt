@@ -2,6 +2,7 @@
 // contract fixes the answer and the bytes that the call leaves, for every input. The reads stand in `reads`,
 // the check of the hidden tree (document 02, K1) in `tree_check`.
 mod formatting; // header, map, bitmap and root of a fresh drive
+mod questions; // which drive a disk is, and how large a drive is
 mod needs; // the rounds, stores and random bytes that a write takes, and its refusals
 mod write; // the write, with or without an offer
 
@@ -9,6 +10,10 @@ pub use formatting::format_drive;
 pub use needs::Needs;
 pub use needs::write_fault;
 pub use needs::write_needs;
+pub use questions::Identified;
+pub use questions::Size;
+pub use questions::drive_size;
+pub use questions::identify;
 pub use reads::hidden::hidden_fault;
 pub use reads::hidden::hidden_read;
 pub use reads::public::public_fault;

@@ -9,6 +9,15 @@
  *  - a block shown by a find is copied out before the drive is written;
  *  - nobody else writes the drive during a call.
  *
+ * A write stores every block that it lists, whole and in order, also one whose bytes do not change; to another medium
+ * the caller carries the listed blocks, all of them, in order. Bytes and list are proved; that each store is really made,
+ * where a compiler could leave out one that changes no byte, is tested on the archive (bench, program touched).
+ *
+ * The archive: x86-64, ELF, System V calls, SSE2. It wants memcpy and memset from the linker and nothing else, has no
+ * data of its own and makes no system call. list is aligned to 4 bytes, no other pointer needs to be. Stack of a call:
+ * under 12 KiB (the tree check, height 4), of a write under 6 KiB. A write can take publics + 1 rounds in one call:
+ * docs/MANUAL.md says how a caller keeps writes short, and how blocks get from memory to another medium.
+ *
  * Refusals: 1 bad geometry or under 24 bytes, 2 wrong length, 3 head outside, 4 public number outside, 5 public data or
  * blank not one block, 6 bad map entry, 7 every slot allocated, 8 too few random bytes, 9 list too short, 10 hidden number
  * outside, 11 hidden data or blank not one block, 12 damaged tree; by the tree check, 13 ill-formed entry, 14 entry past the
@@ -31,6 +40,24 @@ extern "C" {
  * publics, hidden: blocks of the two volumes; slots: more than either. */
 uint32_t pddm_format(uint8_t *disk, size_t disk_len, uint32_t block_size, uint32_t height, uint32_t publics,
                      uint32_t hidden, uint32_t slots);
+
+typedef struct {
+    uint32_t answer, blocks;
+    uint64_t bytes; /* blocks x block_size; both are 0 where answer is not 0 */
+} pddm_size;
+
+/* How large a drive of this geometry is: 0 and its size in blocks and in bytes, or refusal 1. A disk of that many bytes is
+ * what pddm_format takes for the geometry, and no other length. */
+pddm_size pddm_drive_size(uint32_t block_size, uint32_t height, uint32_t publics, uint32_t hidden, uint32_t slots);
+
+typedef struct {
+    uint32_t answer, block_size, height, publics, hidden, slots; /* all but answer are 0 where answer is not 0 */
+    uint32_t head;                                               /* the slot of the next round, below slots */
+} pddm_drive;
+
+/* Which drive this is: 0, its geometry and its head, or refusal 1 to 3. Only the header, the first 24 bytes, and disk_len
+ * are looked at: the answer is public, and says nothing of the hidden volume but its size. */
+pddm_drive pddm_identify(const uint8_t *disk, size_t disk_len);
 
 #define PDDM_REFUSED 0 /* answer says why */
 #define PDDM_BLANK 1   /* never placed: the caller's blank block */

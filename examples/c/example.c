@@ -1,4 +1,6 @@
-/* Formats a drive, writes both volumes, reads back and checks the tree. Built by .ci/run against the proved archive. */
+/* Formats a drive, writes both volumes, reads back, checks the tree and asks which drive it is. Built by .ci/run against
+ * the proved archive. */
+#include <inttypes.h>
 #include <stdio.h>
 #include <string.h>
 #include "pddm.h"
@@ -40,6 +42,8 @@ int main(void)
 {
     const uint8_t blank[BLOCK] = {0};
     memset(random_bytes, 165, sizeof random_bytes); /* a real caller lends fresh random bytes */
+    pddm_size size = pddm_drive_size(BLOCK, 2, 3, 2, 4);
+    printf("size: answer %u, blocks %u, bytes %" PRIu64 "\n", size.answer, size.blocks, size.bytes);
     printf("format: %u\n", pddm_format(disk, sizeof disk, BLOCK, 2, 3, 2, 4));
     write_text(0, "minutes of the meeting", 0, NULL);
     write_text(1, "travel expenses", 1, "the source's address");
@@ -49,5 +53,8 @@ int main(void)
     for (uint32_t n = 0; n < 3; n++)
         show("hidden", n, pddm_hidden_find(disk, sizeof disk, n, blank, BLOCK));
     printf("check: %u\n", pddm_check_tree(disk, sizeof disk));
+    pddm_drive drive = pddm_identify(disk, sizeof disk);
+    printf("drive: answer %u, block size %u, height %u, publics %u, hidden %u, slots %u, head %u\n", drive.answer,
+           drive.block_size, drive.height, drive.publics, drive.hidden, drive.slots, drive.head);
     return 0;
 }

@@ -1,4 +1,5 @@
 pub mod Geometries
+pub mod Questions
 pub mod Finds
 pub mod Needs
 pub mod Writes

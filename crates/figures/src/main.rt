@@ -1,7 +1,7 @@
 // Prints document 01's figures ("Figures to hold against") and the examples of its refusal table: geometry,
-// formatting, both reads and the write; and document 02's largest bit place (K4), the stores of a drive with
-// two bitmap blocks (K2), the whole-tree check (K1) and the walk's nodes (K7). A line for each, with what the
-// document says and what the code gives.
+// formatting, the two questions of a caller, both reads and the write; and document 02's largest bit place
+// (K4), the stores of a drive with two bitmap blocks (K2), the whole-tree check (K1) and the walk's nodes
+// (K7). A line for each, with what the document says and what the code gives.
 use bitmap_figures::moves::print_moves;
 use layout::bitmap::bit_place;
 use layout::geometry::Geometry;
@@ -10,6 +10,7 @@ use layout::geometry::block_count;
 use libc::STDOUT_FILENO;
 use mapper::format_drive;
 use node_figures::nodes::print_nodes;
+use read_figures::questions::print_questions;
 use read_figures::reads::print_reads;
 use report::drives::two_high;
 use report::figures::print_byte;
@@ -127,6 +128,7 @@ fn main() {
     print_places();
     print_answers();
     print_fresh();
+    print_questions();
     print_reads();
     print_all_needs();
     print_writes();

@@ -14,21 +14,32 @@ ghost use mathlib.Core.Path.{_≡_};
 ghost use Prim.Native.Nat.{_+_, _≤_, _<_, _^_};
 ghost use lib.ListN.{length};
 ghost use Rattle.model.specs.Blocks.{Bytes};
+ghost use Rattle.script.specs.Texts.{Put};
 ghost use Rattle.script.specs.Reports.{heading};
-ghost use Rattle.listing.specs.Listings.{begun, afterByte, afterBytes, afterEnd, listingOf, Fed, Led};
-ghost use Rattle.listing.specs.Listings.{Lent, listing, printed};
+ghost use Rattle.listing.specs.Listings.{begun, afterByte, textOfByte, afterBytes, afterEnd, textOfEnd};
+ghost use Rattle.listing.specs.Listings.{Lent, listingOf, Stepped, Fed, Led, listing, printed};
 
-// Prints the heading; answers its length.
-fn print_heading(out: &mut [u8]) -> usize
-    requires { ⌜ length heading ≤ length (now out) ⌝ }
-    ensures { λ r. ⌜ r ≡ length heading ⌝ }
+// Hands so many bytes from the front of a buffer to standard output; answers how many. Nothing else prints.
+// No contract can speak of what is written there: the cases of tests/listing do.
+fn print_front(out: &[u8], put: usize) -> usize
+    requires { ⌜ put ≤ length (now out) ⌝ }
+    ensures { λ r. ⌜ r ≡ put ⌝ }
 {
-    let put = put_heading(out);
     io::write_all(STDOUT_FILENO, &out[..put]);
     put
 }
 
-// Takes one more byte of input and prints what comes of it.
+// Puts the heading and prints it; answers its length.
+fn print_heading(out: &mut [u8]) -> usize
+    requires { ⌜ length heading ≤ length (now out) ⌝ }
+    ensures { λ r. ⌜ Put heading (now (out .entry)) 0 (now (out .exit)) r ⌝ }
+{
+    let put = put_heading(out);
+    print_front(out, put)
+}
+
+// Takes one more byte of input and prints what comes of it: what it prints stands at the front of the buffer,
+// and the progress has its length.
 fn list_byte(
     progress: Progress,
     byte: u8,
@@ -38,26 +49,40 @@ fn list_byte(
 ) -> Progress
     requires { ⌜ progress .line + 1 < 2 ^ 64 ⌝ }
     requires { ⌜ Lent (now buffer) (now disk) (now out) ⌝ }
-    ensures { λ r. ⌜ listingOf r (now (buffer .exit)) (now (disk .exit)) ≡
-        afterByte (listingOf progress (now (buffer .entry)) (now (disk .entry))) byte ⌝ }
+    ensures { λ r. ⌜ Stepped
+        (afterByte (listingOf progress (now (buffer .entry)) (now (disk .entry))) byte)
+        (textOfByte (listingOf progress (now (buffer .entry)) (now (disk .entry))) byte)
+        (now (buffer .exit)) (now (disk .exit)) (now (out .entry)) (now (out .exit)) r ⌝ }
 {
     let next = step_byte(progress, byte, buffer, disk, out);
-    let put = next.put;
-    io::write_all(STDOUT_FILENO, &out[..put]);
-    next
+    let feed = next.feed;
+    let put = print_front(out, next.put);
+    Progress {
+        feed,
+        is_open: next.is_open,
+        line: next.line,
+        put,
+    }
 }
 
-// Takes the end of the input and prints what comes of it.
+// Takes the end of the input and prints what comes of it, as a byte's.
 fn list_end(progress: Progress, buffer: &[u8], disk: &mut [u8], out: &mut [u8]) -> Progress
     requires { ⌜ progress .line + 1 < 2 ^ 64 ⌝ }
     requires { ⌜ Lent (now buffer) (now disk) (now out) ⌝ }
-    ensures { λ r. ⌜ listingOf r (now (buffer .entry)) (now (disk .exit)) ≡
-        afterEnd (listingOf progress (now (buffer .entry)) (now (disk .entry))) ⌝ }
+    ensures { λ r. ⌜ Stepped
+        (afterEnd (listingOf progress (now (buffer .entry)) (now (disk .entry))))
+        (textOfEnd (listingOf progress (now (buffer .entry)) (now (disk .entry))))
+        (now (buffer .entry)) (now (disk .exit)) (now (out .entry)) (now (out .exit)) r ⌝ }
 {
-    let next = step_end(progress, buffer, disk, out);
-    let put = next.put;
-    io::write_all(STDOUT_FILENO, &out[..put]);
-    next
+    let last = step_end(progress, buffer, disk, out);
+    let feed = last.feed;
+    let put = print_front(out, last.put);
+    Progress {
+        feed,
+        is_open: last.is_open,
+        line: last.line,
+        put,
+    }
 }
 
 // Takes a piece of the input, byte by byte.
@@ -135,8 +160,9 @@ fn list_input(
     current
 }
 
-// Formats the disk, prints the heading and lists the input. What the steps print of any input, taken
-// together, is that input's listing.
+// Formats the disk, prints the heading and lists the input. Some input leads to where the listing then
+// stands (`led`): a contract does not know what was read. Of any input, what the steps put, one after another
+// and after the heading, is its listing (`whole`). That all of it is printed is tested, not proved.
 fn run_listing(piece: &mut [u8], buffer: &mut [u8], disk: &mut [u8], out: &mut [u8]) -> Progress
     requires { ⌜ length (now piece) ≤ 4096 ⌝ }
     requires { ⌜ Lent (now buffer) (now disk) (now out) ⌝ }

@@ -1,6 +1,7 @@
 // Where a listing stands, and what each byte of input and the end of the input do to it.
 use crate::writes::report_line;
 use layout::geometry::Geometry;
+use layout::numbers::HiddenNumber;
 use mapper::format_drive;
 use script::feeding::Feed;
 use script::feeding::feed_byte;
@@ -62,7 +63,7 @@ fn take_line(feed: Feed, line: u64, said: Line, disk: &mut [u8], out: &mut [u8])
 {
     match said {
         Line::Bare(number) => {
-            let put = report_line(disk, line, number, false, 0, out);
+            let put = report_line(disk, line, number, false, HiddenNumber(0), out);
             Progress {
                 feed,
                 is_open: true,

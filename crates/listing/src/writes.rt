@@ -18,42 +18,33 @@ fn write_line(
     disk: &mut [u8],
     list: &mut [u32],
     line: u64,
-    number: u32,
+    number: PublicNumber,
     offered: bool,
-    offer: u32,
+    offer: HiddenNumber,
 ) -> Written
     requires { ⌜ length (now list) ≡ listRoom ⌝ }
     ensures { λ r.
-        ⌜ Answered (lineWrite (now (disk .entry)) line number (offerSaid offered offer)) (now (disk .entry))
-        (now (list .entry)) (now (disk .exit)) (now (list .exit)) r ⌝ }
+        ⌜ Answered (lineWrite (now (disk .entry)) line (number .0) (offerSaid offered (offer .0)))
+        (now (disk .entry)) (now (list .entry)) (now (disk .exit)) (now (list .exit)) r ⌝ }
 {
     let data = [(line % 256) as u8; 32];
     let random = [165u8; 256];
-    write_block(
-        disk,
-        PublicNumber(number),
-        &data,
-        offered,
-        HiddenNumber(offer),
-        &data,
-        &random,
-        list,
-    )
+    write_block(disk, number, &data, offered, offer, &data, &random, list)
 }
 
 // Writes a line, puts its line of output at the front of the buffer and answers the length.
 pub fn report_line(
     disk: &mut [u8],
     line: u64,
-    number: u32,
+    number: PublicNumber,
     offered: bool,
-    offer: u32,
+    offer: HiddenNumber,
     out: &mut [u8],
 ) -> usize
     requires { ⌜ 24 ≤ length (now disk) ⌝ }
     requires { ⌜ reportRoom listRoom ≤ length (now out) ⌝ }
     ensures { λ r.
-        ⌜ Reported line number (offerSaid offered offer) (now (disk .entry)) (now (disk .exit))
+        ⌜ Reported line (number .0) (offerSaid offered (offer .0)) (now (disk .entry)) (now (disk .exit))
         (now (out .entry)) (now (out .exit)) r ⌝ }
 {
     let mut list = [0u32; 23];

@@ -76,6 +76,6 @@ fieldSaid declaredField.the-variants.Dash = absent
 fieldSaid declaredField.the-variants.Other = other
 
 abbrev pub lineSaid : declaredLine.Line → Line
-lineSaid (declaredLine.the-variants.Bare value) = good value none
-lineSaid (declaredLine.the-variants.Offering value offer) = good value (some offer)
+lineSaid (declaredLine.the-variants.Bare value) = good (value .0) none
+lineSaid (declaredLine.the-variants.Offering value offer) = good (value .0) (some (offer .0))
 lineSaid declaredLine.the-variants.Bad = bad

@@ -1,4 +1,6 @@
 // A line of input: public number, one space, and offered number or `-`, each number 1 to 9 digits.
+use layout::numbers::HiddenNumber;
+use layout::numbers::PublicNumber;
 ghost use mathlib.Core.Path.{_≡_};
 ghost use Rattle.script.specs.Lines.{isDash, Split, fieldOf, fieldSaid, lineFrom, lineOf, lineSaid};
 
@@ -11,8 +13,8 @@ pub enum Field {
 
 // What a line says: a public number alone, a public and an offered number, or a line of another form.
 pub enum Line {
-    Bare(u32),
-    Offering(u32, u32),
+    Bare(PublicNumber),
+    Offering(PublicNumber, HiddenNumber),
     Bad,
 }
 
@@ -77,8 +79,8 @@ fn line_from(first: Field, second: Field) -> Line
 {
     match first {
         Field::Number(number) => match second {
-            Field::Number(offer) => Line::Offering(number, offer),
-            Field::Dash => Line::Bare(number),
+            Field::Number(offer) => Line::Offering(PublicNumber(number), HiddenNumber(offer)),
+            Field::Dash => Line::Bare(PublicNumber(number)),
             Field::Other => Line::Bad,
         },
         Field::Dash => Line::Bad,

@@ -1,6 +1,7 @@
 // The listing's output: the heading, and a line for each line of input.
 use crate::texts::put_number;
 use crate::texts::put_text;
+use layout::numbers::DiskAddress;
 ghost use mathlib.Core.List.{[], _∷_, _++_};
 ghost use Prim.Native.Nat.{_+_, _*_, _≤_};
 ghost use lib.ListN.{length};
@@ -56,13 +57,21 @@ fn put_outcome(out: &mut [u8], at: usize, outcome: u8) -> usize
     last + 1
 }
 
+// Puts the address of a store.
+fn put_address(out: &mut [u8], at: usize, address: DiskAddress) -> usize
+    requires { ⌜ at + length (decimal (address .0)) ≤ length (now out) ⌝ }
+    ensures { λ r. ⌜ Put (decimal (address .0)) (now (out .entry)) at (now (out .exit)) r ⌝ }
+{
+    put_number(out, at, address.0 as u64)
+}
+
 // Puts a comma and a store.
-fn put_store(out: &mut [u8], at: usize, store: u32) -> usize
+fn put_store(out: &mut [u8], at: usize, store: DiskAddress) -> usize
     requires { ⌜ at + 11 ≤ length (now out) ⌝ }
-    ensures { λ r. ⌜ Put (comma ∷ decimal store) (now (out .entry)) at (now (out .exit)) r ⌝ }
+    ensures { λ r. ⌜ Put (comma ∷ decimal (store .0)) (now (out .entry)) at (now (out .exit)) r ⌝ }
 {
     out[at] = 44;
-    put_number(out, at + 1, store as u64)
+    put_address(out, at + 1, store)
 }
 
 // Puts stores, a comma before each.
@@ -73,7 +82,7 @@ fn put_later(out: &mut [u8], at: usize, stores: &[u32]) -> usize
     let mut next = at;
     let mut i = 0;
     while i < stores.len() {
-        next = put_store(out, next, stores[i]);
+        next = put_store(out, next, DiskAddress(stores[i]));
         i += 1;
     }
     next
@@ -88,7 +97,7 @@ fn put_stores(out: &mut [u8], at: usize, stores: &[u32]) -> usize
         out[at] = 45;
         return at + 1;
     }
-    let next = put_number(out, at, stores[0] as u64);
+    let next = put_address(out, at, DiskAddress(stores[0]));
     put_later(out, next, &stores[1..])
 }
 

@@ -47,6 +47,19 @@ put-inside {text} {out} {outAfter} put same =
     let whole : length outAfter ≡ length (over 0 text out) = ap length (put .placed) in
     omega (arith, put .ended, simp length-append at whole)
 
+-- a step whose text is printed, and no more bytes than it has
+pub step-printed :
+    {after : Listing} {text buffer disk out outAfter : Bytes} {progress : Progress} {put : ℕ} →
+    Stepped after text buffer disk out outAfter progress → put ≡ progress .put →
+    Stepped after text buffer disk out outAfter
+    (record {
+      feed = progress .feed;
+      «is_open» = progress .«is_open»;
+      line = progress .line;
+      put = put;
+    })
+step-printed stepped all = record { stands = stepped .stands; put = rw all (stepped .put) }
+
 -- ---- a line ----
 
 module _ {said : Line} {line : ℕ} {disk out : Bytes} where

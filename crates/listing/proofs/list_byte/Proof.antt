@@ -1,15 +1,18 @@
--- `listing::list_byte` meets its contract: what is put ends inside the buffer. Assumes nothing.
-use mathlib.Core.Path.{sym}
+-- `listing::list_byte` meets its contract: what is put ends inside the buffer, and all of it is printed.
+-- Assumes nothing.
 use Prim.Native.Nat.{_≤_}
+use native.Mathlib.Omega.{arith}
 use lib.ListN.{length}
-use lib.Seq.{length-take-le}
-use Rattle.listing.proofs.Laws.Steps.{put-inside}
+use Rattle.listing.proofs.Laws.Steps.{put-inside, step-printed}
 use borrow.Author.Needs.{needs}
 use Rattle.listing.proofs.list_byte.Statement.{statement}
 use Rattle.listing.proofs.list_byte.Tie as tie
 
-abbrev at-step : tie.After-slice-known5 → tie.After-step-byte
-at-step c = c .before .before .before .before
+abbrev at-lent : tie.After-print-front-arg → tie.After-slice-known5
+at-lent c = c .before .before .before
+
+abbrev at-step : tie.After-print-front-arg → tie.After-step-byte
+at-step c = at-lent c .before .before .before .before
 
 -- what is put ends inside the buffer
 inside : (c : tie.After-step-byte) → c .step-byte .result .put ≤ length (c .step-byte .last .1 .1 .1 .1 .0)
@@ -18,17 +21,8 @@ inside c = put-inside (c .step-byte .ensures .put) (c .step-byte .kept .1 .1 .1 
 step-byte-requires : tie.Need-step-byte-requires
 step-byte-requires c κs = search needs
 
-slice-reshare-prefix-write-all : tie.Need-slice-reshare-prefix-write-all
-slice-reshare-prefix-write-all c = inside (at-step (c .before .before))
-
-slice-aggregate-write-all : tie.Need-slice-aggregate-write-all
-slice-aggregate-write-all c =
-    let stepped = at-step (c .before .before .before) in
-    let step = stepped .step-byte in
-    sym (length-take-le (step .result .put) (step .last .1 .1 .1 .1 .0) (inside stepped))
-
-write-all-requires : tie.Need-write-all-requires
-write-all-requires c κs = search needs
+print-front-requires : tie.Need-print-front-requires
+print-front-requires c κs = omega (arith, inside (at-step c))
 
 same-length : tie.Need-same-length
 same-length c = search needs
@@ -40,17 +34,9 @@ same-length-3 : tie.Need-same-length-3
 same-length-3 c = search needs
 
 returns : tie.Need-returns
-returns c = search needs
+returns c = step-printed (at-step (c .before) .step-byte .ensures) (c .print-front .ensures)
 
 pub list-byte-spec : {M : Type 1} → statement M
 list-byte-spec =
     tie.close
-    (tie.spec
-    step-byte-requires
-    slice-reshare-prefix-write-all
-    slice-aggregate-write-all
-    write-all-requires
-    same-length
-    same-length-2
-    same-length-3
-    returns)
+    (tie.spec step-byte-requires print-front-requires same-length same-length-2 same-length-3 returns)

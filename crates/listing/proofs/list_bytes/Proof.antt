@@ -69,7 +69,7 @@ loop-again c =
     let turn = at-turn (listed .before) in
     taken-one (turn .loop .inv) (at-test (listed .before) .loop-test .taken)
     (listingOf (call .result) (call .last .1 .1 .0) (call .last .1 .1 .1 .0)) (call .last .1 .1 .0)
-    (call .last .1 .1 .1 .1 .0) (call .ensures) (call .kept .1 .1 .0) (call .kept .1 .1 .1 .0)
+    (call .last .1 .1 .1 .1 .0) (call .ensures .stands) (call .kept .1 .1 .0) (call .kept .1 .1 .1 .0)
     (call .kept .1 .1 .1 .1 .0)
 
 same-length : tie.Need-same-length Inv-loop μ-loop

@@ -1,34 +1,24 @@
--- `listing::list_end` meets its contract: what is put ends inside the buffer. Assumes nothing.
-use mathlib.Core.Path.{sym}
-use Prim.Native.Nat.{_≤_}
-use lib.ListN.{length}
-use lib.Seq.{length-take-le}
-use Rattle.listing.proofs.Laws.Steps.{put-inside}
+-- `listing::list_end` meets its contract: what is put ends inside the buffer, and all of it is printed.
+-- Assumes nothing.
+use native.Mathlib.Omega.{arith}
+use Rattle.listing.proofs.Laws.Steps.{put-inside, step-printed}
 use borrow.Author.Needs.{needs}
 use Rattle.listing.proofs.list_end.Statement.{statement}
 use Rattle.listing.proofs.list_end.Tie as tie
 
-abbrev at-step : tie.After-slice-known3 → tie.After-step-end
-at-step c = c .before .before
+abbrev at-lent : tie.After-print-front-arg → tie.After-slice-known3
+at-lent c = c .before .before .before
 
--- what is put ends inside the buffer
-inside : (c : tie.After-step-end) → c .step-end .result .put ≤ length (c .step-end .last .1 .1 .1 .0)
-inside c = put-inside (c .step-end .ensures .put) (c .step-end .kept .1 .1 .1 .0)
+abbrev at-step : tie.After-print-front-arg → tie.After-step-end
+at-step c = at-lent c .before .before
 
 step-end-requires : tie.Need-step-end-requires
 step-end-requires c κs = search needs
 
-slice-reshare-prefix-write-all : tie.Need-slice-reshare-prefix-write-all
-slice-reshare-prefix-write-all c = inside (at-step (c .before .before))
-
-slice-aggregate-write-all : tie.Need-slice-aggregate-write-all
-slice-aggregate-write-all c =
-    let stepped = at-step (c .before .before .before) in
-    let step = stepped .step-end in
-    sym (length-take-le (step .result .put) (step .last .1 .1 .1 .0) (inside stepped))
-
-write-all-requires : tie.Need-write-all-requires
-write-all-requires c κs = search needs
+print-front-requires : tie.Need-print-front-requires
+print-front-requires c κs =
+    let step = at-step c .step-end in
+    omega (arith, put-inside (step .ensures .put) (step .kept .1 .1 .1 .0))
 
 same-length : tie.Need-same-length
 same-length c = search needs
@@ -37,16 +27,8 @@ same-length-2 : tie.Need-same-length-2
 same-length-2 c = search needs
 
 returns : tie.Need-returns
-returns c = search needs
+returns c = step-printed (at-step (c .before) .step-end .ensures) (c .print-front .ensures)
 
 pub list-end-spec : {M : Type 1} → statement M
 list-end-spec =
-    tie.close
-    (tie.spec
-    step-end-requires
-    slice-reshare-prefix-write-all
-    slice-aggregate-write-all
-    write-all-requires
-    same-length
-    same-length-2
-    returns)
+    tie.close (tie.spec step-end-requires print-front-requires same-length same-length-2 returns)

@@ -64,7 +64,7 @@ returns c =
     let ended = c .before .before .before .before in
     let s = at-start (at-read (at-end ended .before)) .args in
     let start = listingOf (s .progress) (s .buffer .now) (s .disk .now) in
-    let e = ended .list-end .ensures in (
+    let e = ended .list-end .ensures .stands in (
       record { count = 0; fed = e },
       omega (arith, ap (λ (l : Listing). l .line) e, line-after-end start),
     )

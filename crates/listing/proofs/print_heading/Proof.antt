@@ -1,39 +1,28 @@
--- `listing::print_heading` meets its contract: the heading ends inside the buffer. Assumes nothing.
-use mathlib.Core.Path.{sym}
-use lib.Seq.{length-take-le}
+-- `listing::print_heading` meets its contract: the heading ends inside the buffer, and all of it is printed.
+-- Assumes nothing.
+use native.Mathlib.Omega.{arith}
 use Rattle.listing.proofs.Laws.Steps.{put-inside}
 use borrow.Author.Needs.{needs}
 use Rattle.listing.proofs.print_heading.Statement.{statement}
 use Rattle.listing.proofs.print_heading.Tie as tie
 
+abbrev at-heading : tie.After-print-front-arg → tie.After-put-heading
+at-heading c = c .before .before .before
+
 put-heading-requires : tie.Need-put-heading-requires
 put-heading-requires c κs = search needs
 
-slice-reshare-prefix-write-all : tie.Need-slice-reshare-prefix-write-all
-slice-reshare-prefix-write-all c = search needs
-
-slice-aggregate-write-all : tie.Need-slice-aggregate-write-all
-slice-aggregate-write-all c =
-    let heading = c .before .before .before .put-heading in
-    sym
-    (length-take-le (heading .result) (heading .last .0) (put-inside (heading .ensures) (heading .kept .0)))
-
-write-all-requires : tie.Need-write-all-requires
-write-all-requires c κs = search needs
+print-front-requires : tie.Need-print-front-requires
+print-front-requires c κs =
+    let heading = at-heading c .put-heading in
+    omega (arith, put-inside (heading .ensures) (heading .kept .0))
 
 same-length : tie.Need-same-length
 same-length c = search needs
 
 returns : tie.Need-returns
-returns c = search needs
+returns c = rw (c .print-front .ensures) (at-heading (c .before) .put-heading .ensures)
 
 pub print-heading-spec : {M : Type 1} → statement M
 print-heading-spec =
-    tie.close
-    (tie.spec
-    put-heading-requires
-    slice-reshare-prefix-write-all
-    slice-aggregate-write-all
-    write-all-requires
-    same-length
-    returns)
+    tie.close (tie.spec put-heading-requires print-front-requires same-length returns)

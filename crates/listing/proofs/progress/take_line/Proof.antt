@@ -18,8 +18,8 @@ enum-known-said c = search needs
 report-line-requires : tie.Need-report-line-requires
 report-line-requires c κs = search needs
 
-add-t16 : tie.Need-add-t16
-add-t16 c = search needs
+add-t17 : tie.Need-add-t17
+add-t17 c = search needs
 
 enum-known-said-2 : tie.Need-enum-known-said-2
 enum-known-said-2 c = search needs
@@ -27,8 +27,8 @@ enum-known-said-2 c = search needs
 report-line-requires-2 : tie.Need-report-line-requires-2
 report-line-requires-2 c κs = search needs
 
-add-t21 : tie.Need-add-t21
-add-t21 c = search needs
+add-t22 : tie.Need-add-t22
+add-t22 c = search needs
 
 enum-told : tie.Need-enum-told
 enum-told c = search needs
@@ -67,10 +67,10 @@ take-line-spec =
     (tie.spec
     enum-known-said
     report-line-requires
-    add-t16
+    add-t17
     enum-known-said-2
     report-line-requires-2
-    add-t21
+    add-t22
     enum-told
     same-length
     same-length-2

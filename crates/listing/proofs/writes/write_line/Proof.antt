@@ -36,9 +36,10 @@ returns : tie.Need-returns
 returns c =
     let call = c .before .before .before .before in
     let s = at-start (at-data call) in
-    line-answered (s .args .disk .now) (s .args .line) (s .args .number) (s .args .offered) (s .args .offer)
-    (s .args .list .now) (call .write-block .last .0) (call .write-block .last .1 .1 .1 .1 .1 .1 .1 .0)
-    (call .write-block .result) (s .pre) (call .write-block .ensures)
+    line-answered (s .args .disk .now) (s .args .line) (s .args .number .0) (s .args .offered)
+    (s .args .offer .0) (s .args .list .now) (call .write-block .last .0)
+    (call .write-block .last .1 .1 .1 .1 .1 .1 .1 .0) (call .write-block .result) (s .pre)
+    (call .write-block .ensures)
 
 pub write-line-spec : {M : Type 1} → statement M
 write-line-spec =

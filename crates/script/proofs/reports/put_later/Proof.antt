@@ -31,11 +31,11 @@ loop-holds c =
     listed-none (start .args .stores .now) (start .args .out .now) (start .args .at)
     (omega (arith, start .pre))
 
-mul-put-store : tie.Need-mul-put-store Inv-loop μ-loop
-mul-put-store c = search needs
+mul-t6 : tie.Need-mul-t6 Inv-loop μ-loop
+mul-t6 c = search needs
 
-shared-slice-read-put-store : tie.Need-shared-slice-read-put-store Inv-loop μ-loop
-shared-slice-read-put-store c = search needs
+shared-slice-read-t11 : tie.Need-shared-slice-read-t11 Inv-loop μ-loop
+shared-slice-read-t11 c = search needs
 
 put-store-requires : tie.Need-put-store-requires Inv-loop μ-loop
 put-store-requires c κs =
@@ -76,8 +76,8 @@ put-later-spec =
     Inv-loop
     μ-loop
     loop-holds
-    mul-put-store
-    shared-slice-read-put-store
+    mul-t6
+    shared-slice-read-t11
     put-store-requires
     add-i
     loop-less

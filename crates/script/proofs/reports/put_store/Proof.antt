@@ -10,32 +10,32 @@ use Rattle.script.proofs.Laws.Reports.{length-decimal-store}
 use Rattle.script.proofs.reports.put_store.Statement.{statement}
 use Rattle.script.proofs.reports.put_store.Tie as tie
 
-abbrev at-start : tie.After-put-number → tie.Start
+abbrev at-start : tie.After-put-address → tie.Start
 at-start c = c .before .before .before
 
-room : (s : tie.Start) → s .args .at + 1 + length (decimal (s .args .store)) ≤ length (s .args .out .now)
-room s = omega (arith, s .pre, length-decimal-store (s .args .store) (omega arith))
+room : (s : tie.Start) → s .args .at + 1 + length (decimal (s .args .store .0)) ≤ length (s .args .out .now)
+room s = omega (arith, s .pre, length-decimal-store (s .args .store .0) (omega arith))
 
 slice-write-out : tie.Need-slice-write-out
 slice-write-out c = search needs
 
-add-put-number : tie.Need-add-put-number
-add-put-number c = search needs
+add-put-address : tie.Need-add-put-address
+add-put-address c = search needs
 
-put-number-requires : tie.Need-put-number-requires
-put-number-requires c κs = simp length-set (room (c .before .before))
+put-address-requires : tie.Need-put-address-requires
+put-address-requires c κs = simp length-set (room (c .before .before))
 
 same-length : tie.Need-same-length
-same-length c = c .before .before .put-number .kept .0 ∙ simp length-set
+same-length c = c .before .before .put-address .kept .0 ∙ simp length-set
 
 returns : tie.Need-returns
 returns c =
     let start = at-start (c .before .before) in
-    let put = c .before .before .put-number in
-    put-cons comma (decimal (start .args .store)) (start .args .out .now) (start .args .at) (put .last .0)
+    let put = c .before .before .put-address in
+    put-cons comma (decimal (start .args .store .0)) (start .args .out .now) (start .args .at) (put .last .0)
     (put .result)
     (room start) (put .ensures)
 
 pub put-store-spec : {M : Type 1} → statement M
 put-store-spec =
-    tie.close (tie.spec slice-write-out add-put-number put-number-requires same-length returns)
+    tie.close (tie.spec slice-write-out add-put-address put-address-requires same-length returns)

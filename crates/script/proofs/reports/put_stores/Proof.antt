@@ -9,7 +9,7 @@ use Rattle.script.proofs.reports.put_stores.Tie as tie
 abbrev at-start : tie.Else1 → tie.Start
 at-start c = c .before .before .before
 
-abbrev after-first : tie.After-put-later-arg2 → tie.After-put-number
+abbrev after-first : tie.After-put-later-arg2 → tie.After-put-address
 after-first c = c .before .before .before .before
 
 slice-write-out : tie.Need-slice-write-out
@@ -26,14 +26,11 @@ returns c =
     let start = c .before .before .before in
     put-none (start .args .stores .now) (start .args .out .now) (start .args .at) (start .pre) (c .if1 .taken)
 
-shared-slice-read-put-number : tie.Need-shared-slice-read-put-number
-shared-slice-read-put-number c = search needs
+shared-slice-read-t11 : tie.Need-shared-slice-read-t11
+shared-slice-read-t11 c = search needs
 
-cast-put-number : tie.Need-cast-put-number
-cast-put-number c = omega (arith, c .shared-slice-known2 .given 0)
-
-put-number-requires : tie.Need-put-number-requires
-put-number-requires c κs =
+put-address-requires : tie.Need-put-address-requires
+put-address-requires c κs =
     let start = at-start (c .before .before) in
     first-fits (start .args .stores .now) (start .args .out .now) (start .args .at) (start .pre)
     (c .before .before .if1 .left)
@@ -56,10 +53,10 @@ put-later-requires c κs =
     rw take-drop
     (omega (
       arith,
-      first .put-number .kept .0,
+      first .put-address .kept .0,
       later-fits (start .args .stores .now) (start .args .out .now) (start .args .at) (start .pre)
           (some .if1 .left) (λ index. first .before .shared-slice-known2 .given index .fits)
-          (first .put-number .last .0) (first .put-number .result) (first .put-number .ensures),
+          (first .put-address .last .0) (first .put-address .result) (first .put-address .ensures),
     ))
 
 same-length-2 : tie.Need-same-length-2
@@ -73,8 +70,8 @@ returns-2 c =
     let start = at-start some in
     put-some (start .args .stores .now) (start .args .out .now) (start .args .at) (start .pre)
     (some .if1 .left)
-    (λ index. first .before .shared-slice-known2 .given index .fits) (first .put-number .last .0)
-    (first .put-number .result) (first .put-number .ensures) (later .put-later .last .0)
+    (λ index. first .before .shared-slice-known2 .given index .fits) (first .put-address .last .0)
+    (first .put-address .result) (first .put-address .ensures) (later .put-later .last .0)
     (later .put-later .result) (rw take-drop at (later .put-later .ensures))
 
 pub put-stores-spec : {M : Type 1} → statement M
@@ -85,9 +82,8 @@ put-stores-spec =
     add-result
     same-length
     returns
-    shared-slice-read-put-number
-    cast-put-number
-    put-number-requires
+    shared-slice-read-t11
+    put-address-requires
     sub-put-later
     part-put-later-start
     part-put-later-end

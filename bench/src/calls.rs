@@ -1,8 +1,10 @@
 //! Calls with all that they lend, what they give, and both in words.
-use crate::engine::{Engine, Geometry, Needs, Write, Written};
+use crate::engine::{Engine, Geometry, Identified, Needs, Size, Write, Written};
 
 pub enum Call {
     Format(Geometry),
+    Identify,
+    DriveSize(Geometry),
     PublicRead(u32, Vec<u8>),
     HiddenRead(u32, Vec<u8>),
     Needs(u32),
@@ -15,6 +17,8 @@ pub enum Call {
 #[derive(PartialEq, Eq, Debug)]
 pub enum Given {
     Formatted(Result<(), u32>),
+    Identified(Identified),
+    Sized(Size),
     Shown(Result<(Option<usize>, usize), u32>),
     Needed(Needs),
     Checked(Result<(), u32>),
@@ -29,6 +33,8 @@ impl Call {
         };
         match self {
             Call::Format(g) => Given::Formatted((engine.format)(disk, *g)),
+            Call::Identify => Given::Identified((engine.identify)(disk)),
+            Call::DriveSize(g) => Given::Sized((engine.drive_size)(*g)),
             Call::PublicRead(number, blank) => {
                 Given::Shown((engine.public_read)(disk, *number, blank).map(|part| shown(part, blank)))
             }
@@ -50,6 +56,8 @@ impl Call {
     pub fn told(&self) -> String {
         match self {
             Call::Format(g) => format!("format for {g:?}"),
+            Call::Identify => "identify".to_string(),
+            Call::DriveSize(g) => format!("size for {g:?}"),
             Call::PublicRead(number, blank) => {
                 format!("public read of {number}, blank of {} bytes", blank.len())
             }
@@ -89,7 +97,7 @@ impl Given {
             Given::Shown(shown) => *shown == Err(12),
             Given::Checked(answer) => answer.is_err(),
             Given::Wrote(written, _) => written.outcome == 12,
-            Given::Formatted(_) | Given::Needed(_) => false,
+            Given::Formatted(_) | Given::Identified(_) | Given::Sized(_) | Given::Needed(_) => false,
         }
     }
 

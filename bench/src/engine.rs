@@ -1,7 +1,8 @@
 //! What a mapper offers, as a table of its calls, so that tests and the benchmark run every one of them
 //! alike.
 
-#[derive(Clone, Copy, PartialEq, Eq, Debug)]
+#[repr(C)]
+#[derive(Clone, Copy, Default, PartialEq, Eq, Debug)]
 pub struct Geometry {
     pub block_size: u32,
     pub height: u32,
@@ -57,6 +58,34 @@ impl Needs {
     }
 }
 
+/// Which drive a disk is; all 0 but for the answer where that is a refusal. Laid out as `pddm_drive`.
+#[repr(C)]
+#[derive(Clone, Copy, Default, PartialEq, Eq, Debug)]
+pub struct Identified {
+    pub answer: u32,
+    pub geometry: Geometry,
+    pub head: u32,
+}
+
+impl Identified {
+    pub fn refused(answer: u32) -> Self {
+        Identified { answer, ..Default::default() }
+    }
+}
+
+/// How large a drive is; 1 and zeros where its geometry is outside the limits. Laid out as `pddm_size`.
+#[repr(C)]
+#[derive(Clone, Copy, PartialEq, Eq, Debug)]
+pub struct Size {
+    pub answer: u32,
+    pub blocks: u32,
+    pub bytes: u64,
+}
+
+impl Size {
+    pub const REFUSED: Size = Size { answer: 1, blocks: 0, bytes: 0 };
+}
+
 /// The part of the disk that a read shows, or the caller's blank; or the refusal.
 pub type Shown<'a> = Result<&'a [u8], u32>;
 
@@ -64,6 +93,8 @@ pub type Shown<'a> = Result<&'a [u8], u32>;
 pub struct Engine {
     pub name: &'static str,
     pub format: fn(&mut [u8], Geometry) -> Result<(), u32>,
+    pub identify: fn(&[u8]) -> Identified,
+    pub drive_size: fn(Geometry) -> Size,
     /// Of a disk, a number and a blank.
     pub public_read: for<'a> fn(&'a [u8], u32, &'a [u8]) -> Shown<'a>,
     pub hidden_read: for<'a> fn(&'a [u8], u32, &'a [u8]) -> Shown<'a>,

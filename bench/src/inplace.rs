@@ -5,7 +5,7 @@ use crate::engine::{Engine, Write, Written};
 use crate::plain::{Allowed, Half, PLAIN};
 use std::arch::x86_64::{_MM_HINT_T0, _mm_prefetch};
 
-/// Formatting, reads and the whole-tree check copy no block, and are plain Rust's.
+/// Formatting, the questions, reads and the whole-tree check copy no block, and are plain Rust's.
 pub const IN_PLACE: Engine = Engine { name: "in-place Rust", write, ..PLAIN };
 
 fn block_mut<'a>(v: &Drive, disk: &'a mut [u8], address: usize) -> &'a mut [u8] {

@@ -1,6 +1,6 @@
 //! The proved mapper beside two written in Rust: what they answer is compared, and how long they take. The
-//! programs are `differential`, `bit_places`, `walks`, `benchmark`, `tree_check`, `waiting` and `longest`;
-//! `tests/` holds all three mappers to the documents' examples.
+//! programs are `differential`, `bit_places`, `walks`, `touched`, `benchmark`, `tree_check`, `waiting`,
+//! `longest`, `fill`, `spread` and `stacks`; `tests/` holds all three mappers to the documents' examples.
 pub mod arguments;
 pub mod calls;
 pub mod drive;
@@ -8,12 +8,15 @@ pub mod drives;
 pub mod engine;
 pub mod inplace;
 pub mod met;
+pub mod painted;
 pub mod plain;
 pub mod plot;
 pub mod proved;
 pub mod random;
+pub mod states;
 pub mod tree;
 pub mod tree_damage;
+pub mod volume;
 pub mod watched;
 pub mod workload;
 

@@ -5,8 +5,10 @@ use std::collections::BTreeMap;
 
 /// What each kind of call, and the whole-tree check after each kind of tree damage, is to give at least once,
 /// and nothing else.
-const DUE: [(&str, &[&str]); 14] = [
+const DUE: [(&str, &[&str]); 16] = [
     ("format", &["0", "1", "2"]),
+    ("identify", &["0", "1", "2", "3"]),
+    ("drive size", &["0", "1"]),
     ("public read", &["block", "blank", "1", "2", "3", "4", "5", "6"]),
     ("hidden read", &["block", "blank", "1", "2", "3", "10", "11", "12"]),
     ("needs", &["0", "1", "2", "3", "4", "6", "7"]),
@@ -38,6 +40,8 @@ impl Met {
         self.calls += 1;
         match given {
             Given::Formatted(answer) => self.count("format", answer.err().unwrap_or(0)),
+            Given::Identified(identified) => self.count("identify", identified.answer),
+            Given::Sized(size) => self.count("drive size", size.answer),
             Given::Shown(shown) => {
                 let public = matches!(call, Call::PublicRead(..));
                 let kind = if public { "public read" } else { "hidden read" };

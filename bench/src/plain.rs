@@ -1,17 +1,42 @@
 //! A mapper written from documents 01 and 02 (K2, K7) in plain Rust: one store function, whole blocks,
 //! document 01's checks and no others. The proved mapper is measured and held against it.
 use crate::drive::{Drive, Nodes, check, entry, put_entry};
-use crate::engine::{Engine, Geometry, NONE, Needs, PLACED, Shown, WAITING, Write, Written};
+use crate::engine::{
+    Engine, Geometry, Identified, NONE, Needs, PLACED, Shown, Size, WAITING, Write, Written,
+};
 use crate::tree::check_tree;
 
-pub const PLAIN: Engine =
-    Engine { name: "plain Rust", format, public_read, hidden_read, needs, check_tree, write };
+pub const PLAIN: Engine = Engine {
+    name: "plain Rust",
+    format,
+    identify,
+    drive_size,
+    public_read,
+    hidden_read,
+    needs,
+    check_tree,
+    write,
+};
 
 fn format(disk: &mut [u8], g: Geometry) -> Result<(), u32> {
     let v = Drive::sized(g, disk.len())?;
     disk[..v.d * v.b].fill(0);
     [v.b, v.k, v.p, v.h, v.m].into_iter().enumerate().for_each(|(i, x)| put_entry(disk, i, x));
     Ok(())
+}
+
+fn identify(disk: &[u8]) -> Identified {
+    let told = Drive::open(disk).map(|(v, head)| {
+        let [block_size, height, publics, hidden, slots, head] =
+            [v.b, v.k, v.p, v.h, v.m, head].map(|x| x as u32);
+        Identified { answer: 0, geometry: Geometry { block_size, height, publics, hidden, slots }, head }
+    });
+    told.unwrap_or_else(Identified::refused)
+}
+
+fn drive_size(g: Geometry) -> Size {
+    let told = |v: Drive| Size { answer: 0, blocks: v.t as u32, bytes: (v.t * v.b) as u64 };
+    Drive::of(g).map_or(Size::REFUSED, told)
 }
 
 fn public_read<'a>(disk: &'a [u8], number: u32, blank: &'a [u8]) -> Shown<'a> {

@@ -4,10 +4,19 @@
 //! Every call is sound for all arguments: its pointers come from slices that live through the call, and disk
 //! and list are borrowed alone.
 use crate::drive::check;
-use crate::engine::{Engine, Geometry, Needs, Shown, Write, Written};
+use crate::engine::{Engine, Geometry, Identified, Needs, Shown, Size, Write, Written};
 
-pub const PROVED: Engine =
-    Engine { name: "proved", format, public_read, hidden_read, needs, check_tree, write };
+pub const PROVED: Engine = Engine {
+    name: "proved",
+    format,
+    identify,
+    drive_size,
+    public_read,
+    hidden_read,
+    needs,
+    check_tree,
+    write,
+};
 
 /// `pddm_found`.
 #[repr(C)]
@@ -26,6 +35,8 @@ unsafe extern "C" {
     fn pddm_format(
         disk: *mut u8, disk_len: usize, block_size: u32, height: u32, publics: u32, hidden: u32, slots: u32,
     ) -> u32;
+    fn pddm_identify(disk: *const u8, disk_len: usize) -> Identified;
+    fn pddm_drive_size(block_size: u32, height: u32, publics: u32, hidden: u32, slots: u32) -> Size;
     fn pddm_public_find(
         disk: *const u8, disk_len: usize, number: u32, blank: *const u8, blank_len: usize,
     ) -> Found;
@@ -55,6 +66,14 @@ fn format(disk: &mut [u8], g: Geometry) -> Result<(), u32> {
     let (start, len) = (disk.as_mut_ptr(), disk.len());
     let answer = unsafe { pddm_format(start, len, g.block_size, g.height, g.publics, g.hidden, g.slots) };
     check(answer != 0, answer)
+}
+
+fn identify(disk: &[u8]) -> Identified {
+    unsafe { pddm_identify(disk.as_ptr(), disk.len()) }
+}
+
+fn drive_size(g: Geometry) -> Size {
+    unsafe { pddm_drive_size(g.block_size, g.height, g.publics, g.hidden, g.slots) }
 }
 
 fn public_read<'a>(disk: &'a [u8], number: u32, blank: &'a [u8]) -> Shown<'a> {

@@ -1,7 +1,9 @@
 //! Document 01's examples and figures, with document 02's K2, on every mapper: B 32, k 2, P 3, H 2, M 4.
 use pddm_bench::ENGINES;
 use pddm_bench::drive::put_entry;
-use pddm_bench::engine::{Engine, Geometry, NONE, NOT_TRIED, PLACED, Write, Written, fresh};
+use pddm_bench::engine::{
+    Engine, Geometry, Identified, NONE, NOT_TRIED, PLACED, Size, Write, Written, fresh,
+};
 
 const G: Geometry = Geometry { block_size: 32, height: 2, publics: 3, hidden: 2, slots: 4 };
 const BLANK: [u8; 32] = [0; 32];
@@ -45,6 +47,47 @@ fn limits_of_the_geometry() {
         assert_eq!(format(Geometry { block_size: 16, ..G }, 256), Err(1));
         assert_eq!(format(Geometry { block_size: 48, ..G }, 512), Err(1));
         assert_eq!(format(G, 23), Err(1));
+    }
+}
+
+/// P 3,072 are 3 map blocks of 1,024 entries. 715,806,036 slots of 3 blocks are 2,147,418,108 blocks, whose
+/// bits are in 65,534 blocks of 32,768. So T = 2 + 3 + 65,534 + 2,147,418,108 = 2^31 - 1, and one public
+/// block more takes a map block more.
+const LARGEST: Geometry =
+    Geometry { block_size: 4096, height: 2, publics: 3072, hidden: 1, slots: 715_806_036 };
+
+#[test]
+fn size_of_a_drive() {
+    for e in ENGINES {
+        let size = |blocks, bytes| Size { answer: 0, blocks, bytes };
+        assert_eq!((e.drive_size)(G), size(16, 512));
+        assert_eq!((e.drive_size)(Geometry { block_size: 48, ..G }), Size::REFUSED);
+        assert_eq!((e.drive_size)(Geometry { publics: 4, ..G }), Size::REFUSED);
+        assert_eq!((e.drive_size)(LARGEST), size(2_147_483_647, 8_796_093_018_112));
+        assert_eq!((e.drive_size)(Geometry { publics: 3073, ..LARGEST }), Size::REFUSED);
+        let most = u32::MAX;
+        let past = Geometry { height: 4, publics: most - 1, hidden: 1, slots: most, ..LARGEST };
+        assert_eq!((e.drive_size)(past), Size::REFUSED);
+    }
+}
+
+#[test]
+fn drive_that_a_disk_is() {
+    for e in ENGINES {
+        let drive = |head| Identified { answer: 0, geometry: G, head };
+        let mut disk = fresh(&e, G);
+        assert_eq!((e.identify)(&disk), drive(0));
+        assert_eq!((e.identify)(&disk[..511]), Identified::refused(2));
+        assert_eq!((e.identify)(&disk[..23]), Identified::refused(1));
+        assert_eq!((e.identify)(&[]), Identified::refused(1));
+        for number in [0, 1, 0] {
+            assert_eq!(write(&e, &mut disk, number, None, 64, 7).0.answer, 0);
+        }
+        assert_eq!((e.identify)(&disk), drive(3));
+        put_entry(&mut disk, 5, 4);
+        assert_eq!((e.identify)(&disk), Identified::refused(3));
+        put_entry(&mut disk, 0, 48);
+        assert_eq!((e.identify)(&disk), Identified::refused(1));
     }
 }
 

@@ -8,6 +8,7 @@ use pddm_bench::ENGINES;
 use pddm_bench::arguments::Arguments;
 use pddm_bench::drives::capacity;
 use pddm_bench::engine::{Engine, Geometry, fresh};
+use pddm_bench::painted::stack_of;
 use pddm_bench::plot::{Panel, svg};
 use pddm_bench::workload::{CALLS, Caller, GEOMETRY};
 use std::hint::black_box;
@@ -146,30 +147,11 @@ fn kinds() {
     }
 }
 
-/// How far down the stack one write reaches on an aged drive: the bytes of a painted stack that it changes.
+/// The stack of one write on an aged drive.
 fn stack_depth(engine: Engine, g: Geometry) -> usize {
-    const PAINT: u8 = 0xA7;
-    const AREA: usize = 256 * 1024;
-    #[inline(never)]
-    fn paint() -> usize {
-        black_box(&mut [PAINT; AREA]).as_ptr() as usize
-    }
-    #[inline(never)]
-    fn one_write(stand: &mut Stand) {
-        stand.writes(0..1);
-    }
-    #[inline(never)]
-    fn changed(area: *const u8) -> usize {
-        AREA - (0..AREA).find(|&i| unsafe { area.add(i).read_volatile() } != PAINT).unwrap_or(AREA)
-    }
-    let run = move || {
-        let mut stand = Stand { engine, disk: fresh(&engine, g), caller: Caller::new(g) };
-        stand.writes(0..2 * g.slots);
-        let area = paint();
-        one_write(&mut stand);
-        changed(area as *const u8)
-    };
-    std::thread::Builder::new().stack_size(4 * AREA).spawn(run).unwrap().join().unwrap()
+    let mut stand = Stand { engine, disk: fresh(&engine, g), caller: Caller::new(g) };
+    stand.writes(0..2 * g.slots);
+    stack_of(|| stand.writes(0..1))
 }
 
 fn stacks() {

@@ -91,6 +91,8 @@ fn any_call(r: &mut Random, g: Geometry, disk: &[u8]) -> Call {
         10..=17 => Call::HiddenRead(any_number(r, g.hidden), any_block(r, b)),
         18..=21 => Call::Needs(any_number(r, g.publics)),
         22..=25 => Call::CheckTree,
+        26 => Call::Identify,
+        27 => Call::DriveSize(bent_geometry(r, g)),
         _ => {
             let number = any_number(r, g.publics);
             let needs = (PLAIN.needs)(disk, number);

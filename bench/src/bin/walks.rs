@@ -9,10 +9,10 @@
 //! is read only below that node is not counted.
 use pddm_bench::ENGINES;
 use pddm_bench::arguments::Arguments;
-use pddm_bench::drive::{Drive, put_entry};
-use pddm_bench::drives::fill;
-use pddm_bench::engine::{Engine, Geometry, NONE, PLACED, WAITING, Write, ample};
-use pddm_bench::watched::{PAGE, paged, watched};
+use pddm_bench::drive::Drive;
+use pddm_bench::engine::{Engine, Geometry, Write, ample};
+use pddm_bench::states::{LIVE, NOBODYS, OTHER_DAMAGED, OWNER_DAMAGED, OWNER_UNMAPPED, STALE, State};
+use pddm_bench::watched::{Access, PAGE, paged, watched};
 use std::process::ExitCode;
 
 /// The numbers, in leaves 1 and 3: one owns slot 0, if anyone does.
@@ -22,32 +22,14 @@ const OTHER: u32 = 3 * 1023;
 /// Walks for owner and other.
 type Walks = [i32; 2];
 
-/// A drive whose head has gone round once, to slot 0 again.
-struct State {
-    name: &'static str,
-    /// What was offered at the first slots.
-    offers: &'static [Option<u32>],
-    /// A number's entry in the node watched, changed by hand: 0 is unmapped, 1 ill formed.
-    changed: Option<(u32, usize)>,
-    /// Walks and outcome of a write that offers nothing, the owner and the other.
-    due: [(Walks, u32); 3],
-}
-
-#[rustfmt::skip]
-const STATES: [State; 6] = [
-    State { name: "nobody's", offers: &[None, Some(OWNER), Some(OTHER)], changed: None,
-        due: [([0, 0], NONE), ([1, 0], PLACED), ([0, 1], PLACED)] },
-    State { name: "live", offers: &[Some(OWNER), Some(OTHER)], changed: None,
-        due: [([1, 0], NONE), ([1, 0], WAITING), ([1, 0], WAITING)] },
-    State { name: "stale", offers: &[Some(OWNER), Some(OWNER), Some(OTHER)], changed: None,
-        due: [([1, 0], NONE), ([1, 0], PLACED), ([1, 1], PLACED)] },
-    State { name: "owner unmapped", offers: &[Some(OWNER), Some(OTHER)], changed: Some((OWNER, 0)),
-        due: [([1, 0], NONE), ([1, 0], PLACED), ([1, 1], PLACED)] },
-    State { name: "owner damaged", offers: &[Some(OWNER), Some(OTHER)], changed: Some((OWNER, 1)),
-        due: [([1, 0], 12), ([1, 0], 12), ([1, 0], 12)] },
-    State { name: "stale, other damaged", offers: &[Some(OWNER), Some(OWNER), Some(OTHER)],
-        changed: Some((OTHER, 1)),
-        due: [([1, 0], NONE), ([1, 0], PLACED), ([1, 1], 12)] },
+/// Walks due of a write that offers nothing, the owner and the other, by what it meets at slot 0.
+const DUE: [(State, [Walks; 3]); 6] = [
+    (NOBODYS, [[0, 0], [1, 0], [0, 1]]),
+    (LIVE, [[1, 0], [1, 0], [1, 0]]),
+    (STALE, [[1, 0], [1, 0], [1, 1]]),
+    (OWNER_UNMAPPED, [[1, 0], [1, 0], [1, 1]]),
+    (OWNER_DAMAGED, [[1, 0], [1, 0], [1, 0]]),
+    (OTHER_DAMAGED, [[1, 0], [1, 0], [1, 1]]),
 ];
 
 fn geometry(height: u32) -> Geometry {
@@ -59,21 +41,15 @@ fn walks(engine: &Engine, g: Geometry, state: &State, work: impl FnOnce(&mut [u8
     let v = Drive::of(g).expect("a geometry within the limits");
     let mut memory = vec![0; v.t * v.b + PAGE];
     let disk = paged(&mut memory, v.t * v.b);
-    (engine.format)(disk, g).expect("a drive formatted");
-    let offers = state.offers.iter().copied().chain(std::iter::repeat(None));
-    fill(engine, g, disk, offers.take(v.m).map(|offer| (0, offer)));
-    let (_, nodes) = v.walk(disk, OWNER as usize).expect("no damage");
-    let node = v.b * nodes[2].expect("a node of level 2");
-    if let Some((number, value)) = state.changed {
-        put_entry(&mut disk[node..], v.branch(number as usize, 1), value);
-    }
-    let ((), reads) = watched(disk, node, work);
+    let node = v.b * state.make(engine, g, [OWNER, OTHER], 0, 1, disk);
+    let mut reads = [0; PAGE];
+    watched(disk, node..node + PAGE, Access::Read, |_, at| reads[at - node] += 1, work);
     [OWNER, OTHER].map(|number| 4 * v.branch(number as usize, 1)).map(|at| reads[at] - reads[at - 1])
 }
 
 fn hidden_read(engine: &Engine, g: Geometry) -> Walks {
     let blank = [0; PAGE];
-    walks(engine, g, &STATES[1], |disk| assert_ne!((engine.hidden_read)(disk, OWNER, &blank), Ok(&blank[..])))
+    walks(engine, g, &LIVE, |disk| assert_ne!((engine.hidden_read)(disk, OWNER, &blank), Ok(&blank[..])))
 }
 
 /// One write, of one round.
@@ -106,8 +82,9 @@ fn main() -> ExitCode {
         let g = geometry(height);
         let read = format!("{height} | hidden read of {OWNER} | -");
         good &= line(&read, [1, 0], |engine| hidden_read(engine, g));
-        for state in &STATES {
-            for (offered, (due, outcome)) in [None, Some(OWNER), Some(OTHER)].into_iter().zip(state.due) {
+        for (state, dues) in &DUE {
+            let offers = [None, Some(OWNER), Some(OTHER)].into_iter();
+            for ((offered, &due), outcome) in offers.zip(dues).zip(state.outcomes) {
                 let told = offered.map_or("-".to_string(), |number| number.to_string());
                 let name = format!("{height} | {} | {told}", state.name);
                 good &= line(&name, due, |engine| write(engine, g, state, offered, outcome));

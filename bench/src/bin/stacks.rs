@@ -1,0 +1,74 @@
+//! `stacks`: how much stack each call of the proved mapper takes, B 4,096, k 2 to 4, on a drive with both
+//! volumes full: the bytes of a painted stack that its calls change, the caller's few among them. The writes
+//! are laps of the head, so that slots are kept, taken by an offer and filled with random bytes.
+use pddm_bench::arguments::Arguments;
+use pddm_bench::drives::fill;
+use pddm_bench::engine::{Geometry, Write, ample, fresh};
+use pddm_bench::painted::stack_of;
+use pddm_bench::proved::PROVED;
+
+/// Numbers of each volume.
+const NUMBERS: u32 = 20;
+
+fn geometry(height: u32) -> Geometry {
+    Geometry { block_size: 4096, height, publics: NUMBERS, hidden: NUMBERS, slots: 32 }
+}
+
+/// A drive with all numbers of both volumes placed.
+fn full(g: Geometry) -> Vec<u8> {
+    let mut disk = fresh(&PROVED, g);
+    fill(&PROVED, g, &mut disk, (0..4 * g.slots).map(|i| (i % NUMBERS, Some(i % NUMBERS))));
+    let blank = vec![0; g.block_size as usize];
+    assert!((0..NUMBERS).all(|number| (PROVED.hidden_read)(&disk, number, &blank) != Ok(&blank[..])));
+    disk
+}
+
+/// The stacks of formatting, both reads, what a write needs, writes without and with an offer, and the check.
+fn stacks(g: Geometry) -> [usize; 9] {
+    let mut disk = full(g);
+    let block = vec![1; g.block_size as usize];
+    let (random, list) = ample(g);
+    let (random, mut list) = (vec![165; random], vec![0; list]);
+    let mut writes = |offers: bool| {
+        stack_of(|| {
+            for i in 0..4 * g.slots {
+                let offer = offers.then_some((i * 7 % NUMBERS, &block[..]));
+                let call = Write { number: i % NUMBERS, data: &block, offer, random: &random };
+                assert_eq!((PROVED.write)(&mut disk, &call, &mut list).answer, 0);
+            }
+        })
+    };
+    let written = [false, true].map(&mut writes);
+    let numbers = || 0..NUMBERS;
+    [
+        stack_of(|| numbers().for_each(|n| assert!((PROVED.public_read)(&disk, n, &block).is_ok()))),
+        stack_of(|| numbers().for_each(|n| assert!((PROVED.hidden_read)(&disk, n, &block).is_ok()))),
+        stack_of(|| numbers().for_each(|n| assert_eq!((PROVED.needs)(&disk, n).answer, 0))),
+        written[0],
+        written[1],
+        stack_of(|| assert_eq!((PROVED.check_tree)(&disk), Ok(()))),
+        stack_of(|| assert_eq!((PROVED.identify)(&disk).answer, 0)),
+        stack_of(|| assert_eq!((PROVED.drive_size)(g).answer, 0)),
+        stack_of(|| assert_eq!((PROVED.format)(&mut disk, g), Ok(()))),
+    ]
+}
+
+fn main() {
+    Arguments::new("stacks").end();
+    const CALLS: [&str; 9] = [
+        "public read",
+        "hidden read",
+        "what a write needs",
+        "write without an offer",
+        "write with an offer",
+        "tree check",
+        "which drive a disk is",
+        "how large a drive is",
+        "formatting",
+    ];
+    let [two, three, four] = [2, 3, 4].map(|height| stacks(geometry(height)));
+    println!("| stack in bytes | k 2 | k 3 | k 4 |\n|---|---|---|---|");
+    for (i, call) in CALLS.iter().enumerate() {
+        println!("| {call} | {} | {} | {} |", two[i], three[i], four[i]);
+    }
+}

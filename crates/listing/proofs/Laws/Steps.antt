@@ -47,7 +47,7 @@ put-inside {text} {out} {outAfter} put same =
     let whole : length outAfter ≡ length (over 0 text out) = ap length (put .placed) in
     omega (arith, put .ended, simp length-append at whole)
 
--- a step whose text is printed, and no more bytes than it has
+-- a step with the length that `print_front` answers, which is that of its text
 pub step-printed :
     {after : Listing} {text buffer disk out outAfter : Bytes} {progress : Progress} {put : ℕ} →
     Stepped after text buffer disk out outAfter progress → put ≡ progress .put →

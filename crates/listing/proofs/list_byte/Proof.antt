@@ -1,5 +1,5 @@
--- `listing::list_byte` meets its contract: what is put ends inside the buffer, and all of it is printed.
--- Assumes nothing.
+-- `listing::list_byte` meets its contract: what is put ends inside the buffer, and `print_front` answers its
+-- whole length. Assumes nothing.
 use Prim.Native.Nat.{_≤_}
 use native.Mathlib.Omega.{arith}
 use lib.ListN.{length}

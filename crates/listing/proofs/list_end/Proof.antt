@@ -1,5 +1,5 @@
--- `listing::list_end` meets its contract: what is put ends inside the buffer, and all of it is printed.
--- Assumes nothing.
+-- `listing::list_end` meets its contract: what is put ends inside the buffer, and `print_front` answers its
+-- whole length. Assumes nothing.
 use native.Mathlib.Omega.{arith}
 use Rattle.listing.proofs.Laws.Steps.{put-inside, step-printed}
 use borrow.Author.Needs.{needs}

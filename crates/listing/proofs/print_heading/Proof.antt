@@ -1,5 +1,5 @@
--- `listing::print_heading` meets its contract: the heading ends inside the buffer, and all of it is printed.
--- Assumes nothing.
+-- `listing::print_heading` meets its contract: the heading ends inside the buffer, and `print_front` answers
+-- its whole length. Assumes nothing.
 use native.Mathlib.Omega.{arith}
 use Rattle.listing.proofs.Laws.Steps.{put-inside}
 use borrow.Author.Needs.{needs}

@@ -106,7 +106,7 @@ module _ (g : Geometry) (f : Fits g) (disk : Bytes) (whole : length disk ≡ blo
   abbrev pub marked : (isSet : Bool) → Bytes
   marked isSet = setBlock (g .blockSize) disk (bitAddress g slot) (bitmapWith g disk slot isSet)
 
-  blockAt-marked : (isSet : Bool) → blockAt (g .blockSize) (marked isSet) (bitAddress g slot) ≡
+  pub blockAt-marked : (isSet : Bool) → blockAt (g .blockSize) (marked isSet) (bitAddress g slot) ≡
       bitmapWith g disk slot isSet
   blockAt-marked isSet =
       blockAt-setBlock-same (g .blockSize) disk (blockCount g) whole (bitAddress g slot) bitAddress-inside

@@ -1,6 +1,6 @@
--- Laws of the bitmap's stores of a round that takes the call's data: where they go, how many they are, that
--- they are whole, and the bits after them; and the addresses of all stores of map and bitmap. Assumes
--- nothing.
+-- Laws of the bitmap's stores of a round that takes the call's data: what they are by the disk as it is,
+-- where they go, that they are whole, and the bits after them; and the addresses of all stores of map and
+-- bitmap. Assumes nothing.
 use mathlib.Core.Path.{_≡_, refl, sym, ap, _∙_}
 use mathlib.Core.Logic.{_≢_, inl, inr, ⊎-elim}
 use mathlib.Core.Bool.{Bool, true, false, cond, _||_}
@@ -9,23 +9,24 @@ use Prim.Native.Nat.{ℕ, _*_, _<_}
 use native.Mathlib.Omega.{arith}
 use lib.Dec.{eqb}
 use lib.ListN.{length}
-use borrow.Author.Tests.{eq-eqb, ne-eqb, eqb-true}
+use borrow.Author.Tests.{eq-eqb, ne-eqb, eqb-true, eqb-false}
+use Rattle.laws.specs.Bits.{setBit}
 use Rattle.laws.proofs.Cases.{bool-cases}
 use Rattle.laws.proofs.Members.{All}
 use Rattle.model.specs.Geometry.{Geometry, Fits, blockCount}
-use Rattle.model.specs.Blocks.{Bytes, DiskAddress}
-use Rattle.model.specs.Layout.{slotOf, areaPlace, bitAddress, isShared, isOneBlock, bitmapWith}
-use Rattle.model.specs.Layout.{mapAddress, mapEntry}
-use Rattle.model.specs.Stores.{Store, Trace, apply, addresses}
+use Rattle.model.specs.Blocks.{Bytes, DiskAddress, blockAt}
+use Rattle.model.specs.Layout.{slotOf, areaPlace, bitAddress, bitPlace, isShared, isOneBlock}
+use Rattle.model.specs.Layout.{bitmapWith, mapAddress, mapEntry}
+use Rattle.model.specs.Stores.{Store, Trace, store, apply, addresses}
 use Rattle.model.specs.Table.{writePublic}
 use Rattle.model.specs.Rounds.{bitStore, movedStores, bitStores, mapStores}
 use Rattle.model.specs.Invariants.{bitmapBit}
 use Rattle.model.proofs.Laws.Geometry.{bitAddress-lt}
-use Rattle.model.proofs.Laws.Blocks.{length-setBlock, setBlock-again}
+use Rattle.model.proofs.Laws.Blocks.{length-setBlock, setBlock-again, blockAt-setBlock-other}
 use Rattle.model.proofs.Laws.Slots.{SlotBlock}
-use Rattle.model.proofs.Laws.Bitmap.{length-bitmapWith, marked, areaPlace-apart}
+use Rattle.model.proofs.Laws.Bitmap.{length-bitmapWith, marked, blockAt-marked, areaPlace-apart}
 use Rattle.model.proofs.Laws.Bitmap.{bitmapBit-marked-other, bitmapBit-marked-same}
-use Rattle.model.proofs.Laws.Stores.{Stored, length-addresses}
+use Rattle.model.proofs.Laws.Stores.{Stored}
 -- what it says of old places, and of each member of a list
 pub use Rattle.laws.proofs.Members.{all-map}
 pub use Rattle.model.proofs.Laws.Places.{OldPlace, entry-not-zero}
@@ -44,7 +45,7 @@ module _ (g : Geometry) (f : Fits g) (disk : Bytes) (whole : length disk ≡ blo
       (omega (arith, bitAddress-lt g f slot inside)) _
       (length-bitmapWith g f disk whole slot inside true) ∙ whole
 
-  bitStores-none :
+  pub bitStores-none :
       (entry : DiskAddress) → entry ≡ 0 → bitStores g disk entry slot ≡ bitStore g disk slot true ∷ []
   unfolding bitStores
   bitStores-none entry e = rw (eq-eqb entry 0 e)
@@ -64,6 +65,35 @@ module _ (g : Geometry) (f : Fits g) (disk : Bytes) (whole : length disk ≡ blo
       bitStores g disk entry slot ≡ bitStore g disk slot true ∷ cleared entry ∷ []
   unfolding bitStores movedStores apply
   bitStores-apart entry ne e = rw (ne-eqb entry 0 ne, e)
+
+  -- by the disk as it is: the shared block with both bits
+  pub bitStores-both :
+      (entry : DiskAddress) → entry ≢ 0 → isShared g slot (slotOf g entry) ≡ true →
+      bitStores g disk entry slot ≡
+      store (bitAddress g slot)
+      (setBit (bitPlace g (slotOf g entry)) false (bitmapWith g disk slot true)) ∷ []
+  unfolding bitmapWith
+  bitStores-both entry ne e =
+      let old = slotOf g entry in
+      let same = eqb-true (bitAddress g slot) (bitAddress g old) e in
+      let block : blockAt (g .blockSize) withNew (bitAddress g old) ≡ bitmapWith g disk slot true =
+      rw (sym same) (blockAt-marked g f disk whole slot inside true) in
+      bitStores-shared entry ne e ∙ rw (block, sym same)
+
+  -- or each block with its own bit
+  pub bitStores-each :
+      (entry : DiskAddress) → entry ≢ 0 → isShared g slot (slotOf g entry) ≡ false →
+      bitStores g disk entry slot ≡ bitStore g disk slot true ∷ bitStore g disk (slotOf g entry) false ∷ []
+  unfolding bitmapWith
+  bitStores-each entry ne e =
+      let old = slotOf g entry in
+      let block : blockAt (g .blockSize) withNew (bitAddress g old) ≡
+      blockAt (g .blockSize) disk (bitAddress g old) =
+      blockAt-setBlock-other (g .blockSize) disk (blockCount g) whole (bitAddress g slot)
+      (omega (arith, bitAddress-lt g f slot inside)) (bitmapWith g disk slot true)
+      (length-bitmapWith g f disk whole slot inside true) (bitAddress g old)
+      (λ same. eqb-false (bitAddress g slot) (bitAddress g old) e (sym same)) in
+      bitStores-apart entry ne e ∙ rw block
 
   module _ (entry : DiskAddress) (old : OldPlace g entry) where
     -- the disk with the bits as a round leaves them
@@ -184,18 +214,6 @@ addresses-bitStores g disk entry slot =
     by true isOne h = refl
     by false true h = ap (λ (a : ℕ). a ∷ []) (sym (h refl))
     by false false h = refl
-
-pub length-bitStores :
-    (g : Geometry) (disk : Bytes) (entry : DiskAddress) (slot : ℕ) →
-    length (bitStores g disk entry slot) ≡ cond (isOneBlock g entry slot) 1 2
-length-bitStores g disk entry slot =
-    sym (length-addresses (bitStores g disk entry slot)) ∙ ap length (addresses-bitStores g disk entry slot)
-    ∙ by (isOneBlock g entry slot)
-  where
-    by : (isOne : Bool) →
-        length (bitAddress g slot ∷ cond isOne [] (bitAddress g (slotOf g entry) ∷ [])) ≡ cond isOne 1 2
-    by true = refl
-    by false = refl
 
 -- the addresses of the last round after its slot and the root
 pub addresses-mapStores :

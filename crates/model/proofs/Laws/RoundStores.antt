@@ -1,13 +1,13 @@
 -- Laws of the stores of one round, for any hidden half that stores the slot's hidden blocks and the root:
 -- their addresses, and that they are whole and inside the disk. Assumes nothing.
 use mathlib.Core.Path.{_≡_, refl, ap, _∙_, subst}
-use mathlib.Core.Logic.{_⊎_, inl, inr}
+use mathlib.Core.Logic.{_≢_, _⊎_, inl, inr}
 use mathlib.Core.List.{List, [], _∷_, _++_}
 use Prim.Native.Nat.{ℕ, zero, suc, _+_, _*_, _≤_, _<_}
 use native.Mathlib.Numerals.{add-one}
 use native.Mathlib.Omega.{arith}
-use lib.ListN.{length}
-use Rattle.laws.proofs.Members.{All, all-append, all-map}
+use lib.ListN.{length, take}
+use Rattle.laws.proofs.Members.{All, all-append, all-map, Distinct}
 use Rattle.model.specs.Geometry.{Geometry, Fits, rootAddress, blockCount}
 use Rattle.model.specs.Blocks.{Bytes, DiskAddress, blockAt}
 use Rattle.model.specs.Layout.{slotStart, nextSlot, mapEntry}
@@ -37,6 +37,24 @@ all-addressesFrom P address (suc count) h =
           (λ i l. let q : address + suc i ≡ suc address + i = omega arith in
           subst P q (h (suc i) (omega arith))),
     )
+
+pub distinct-addressesFrom : (address count : ℕ) → Distinct (addressesFrom address count)
+unfolding addressesFrom
+distinct-addressesFrom address zero = tt
+distinct-addressesFrom address (suc count) = (
+  all-addressesFrom (λ (other : ℕ). address ≢ other) (suc address) count (λ i h e. omega arith),
+  distinct-addressesFrom (suc address) count,
+)
+
+pub take-addressesFrom :
+    (address place count : ℕ) → place ≤ count →
+    take place (addressesFrom address count) ≡ addressesFrom address place
+unfolding addressesFrom
+take-addressesFrom address zero count h = refl
+take-addressesFrom address (suc place) zero h = absurd (omega arith)
+take-addressesFrom address (suc place) (suc count) h =
+    ap {B = List ℕ} (λ (rest : List ℕ). address ∷ rest)
+    (take-addressesFrom (suc address) place count (omega arith))
 
 -- an address of a slot's hidden blocks, or the root
 abbrev pub HiddenAddress : Geometry → (slot : ℕ) → DiskAddress → Type 0

@@ -4,13 +4,13 @@ use mathlib.Core.Path.{_≡_, refl, sym, ap, _∙_}
 use mathlib.Core.Logic.{_≢_, _⊎_, inl, inr}
 use mathlib.Core.Bool.{Bool, cond}
 use mathlib.Core.List.{List, [], _∷_, _++_}
-use Prim.Native.Nat.{ℕ, suc, _*_, _<_}
-use lib.ListN.{length}
+use Prim.Native.Nat.{ℕ, zero, suc, _*_, _<_}
+use lib.ListN.{length, getD, take}
 use lib.Dec.{eqb}
 use borrow.Author.Tests.{eq-eqb, ne-eqb}
 use Rattle.laws.proofs.Cases.{eq-cases}
 use Rattle.model.specs.Blocks.{Bytes, DiskAddress, blockAt, setBlock}
-use Rattle.model.specs.Stores.{Store, Trace, apply, addresses}
+use Rattle.model.specs.Stores.{Store, Trace, store, apply, addresses}
 use Rattle.model.proofs.Laws.Blocks.{length-setBlock, blockAt-setBlock-same, blockAt-setBlock-other}
 -- what holds of each store of a trace is said by it
 pub use Rattle.laws.proofs.Members.{All}
@@ -41,6 +41,20 @@ pub length-addresses : (xs : Trace) → length (addresses xs) ≡ length xs
 unfolding addresses
 length-addresses [] = refl
 length-addresses (x ∷ xs) = ap suc (length-addresses xs)
+
+pub addresses-take : (xs : Trace) (count : ℕ) → addresses (take count xs) ≡ take count (addresses xs)
+unfolding addresses
+addresses-take xs zero = refl
+addresses-take [] (suc count) = refl
+addresses-take (x ∷ xs) (suc count) =
+    ap {B = List ℕ} (λ (rest : List ℕ). x .address ∷ rest) (addresses-take xs count)
+
+pub getD-addresses : (xs : Trace) (index : ℕ) →
+    getD (addresses xs) index 0 ≡ getD xs index (store 0 []) .address
+unfolding addresses
+getD-addresses [] index = refl
+getD-addresses (x ∷ xs) zero = refl
+getD-addresses (x ∷ xs) (suc index) = getD-addresses xs index
 
 -- ---- what a block holds after a trace ----
 

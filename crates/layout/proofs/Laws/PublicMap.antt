@@ -9,7 +9,7 @@ use Rattle.laws.proofs.Cases.{and-left}
 use Rattle.model.specs.Geometry.{Geometry, areaStart}
 use Rattle.model.specs.Blocks.{Bytes, DiskAddress}
 use Rattle.model.specs.Layout.{slotOf, isSlotBlock, isAllocated, mapEntry, isPlace}
-use Rattle.model.proofs.Laws.Places.{OldPlace, Placed}
+use Rattle.model.proofs.Laws.Places.{Placed}
 use Rattle.model.proofs.Laws.Slots.{slotBlock-of}
 use Rattle.layout.specs.PublicMap.{OldEntry}
 
@@ -20,11 +20,6 @@ entry-of-placed g disk number (inl e) = inl e
 entry-of-placed g disk number (inr e) =
     let entry = mapEntry g disk number in
     inr (and-left (isSlotBlock g 0 entry) (isAllocated g disk (slotOf g entry)) e)
-
--- as the model's laws say it
-pub old-of-entry : (g : Geometry) (entry : DiskAddress) → OldEntry g entry → OldPlace g entry
-old-of-entry g entry (inl e) = inl e
-old-of-entry g entry (inr e) = inr (slotBlock-of g 0 entry e)
 
 -- an entry that is not 0 is block A of one of the slots
 old-block : (g : Geometry) (entry : DiskAddress) → OldEntry g entry → entry ≢ 0 →

@@ -4,10 +4,10 @@ use Prim.Native.Nat.{ℕ, _+_}
 use native.Mathlib.Omega.{arith}
 use borrow.Author.Needs.{needs}
 use Rattle.model.proofs.Laws.Geometry.{slot-block-lt}
 use Rattle.layout.specs.Geometries.{geometryOf}
-use Rattle.slots.proofs.Laws.Levels.{levelAddress-data, levelAddress-node}
-use Rattle.slots.proofs.levels.level_address.Statement.{statement}
-use Rattle.slots.proofs.levels.level_address.Tie as tie
+use Rattle.layout.proofs.Laws.Levels.{levelAddress-data, levelAddress-node}
+use Rattle.layout.proofs.levels.level_address.Statement.{statement}
+use Rattle.layout.proofs.levels.level_address.Tie as tie
 
 slot-start-requires : tie.Need-slot-start-requires
 slot-start-requires c κs = search needs

@@ -1,5 +1,5 @@
-// Whose slot it is, the walk of its owner, and what that walk says of the slot.
-use crate::levels::level_address;
+// Whose slot it is, the walk of its owner, and what that walk says of the slot (document 01, "A round",
+// "Hidden").
 use hidden_map::ends::is_at;
 use hidden_map::ends::is_damaged;
 use hidden_map::walks::Reached;
@@ -8,6 +8,7 @@ use hidden_map::walks::walk;
 use layout::blocks::block_at;
 use layout::entries::entry_at;
 use layout::geometry::Geometry;
+use layout::levels::level_address;
 use layout::numbers::HiddenNumber;
 ghost use mathlib.Core.Path.{_≡_};
 ghost use Prim.Native.Nat.{_<_};
@@ -17,7 +18,7 @@ ghost use Rattle.model.specs.HiddenTree.{isFoundAt};
 ghost use Rattle.model.specs.HiddenHalf.{ownerOf};
 ghost use Rattle.layout.specs.Geometries.{geometryOf};
 ghost use Rattle.hidden_map.specs.Ends.{endOf};
-ghost use Rattle.slots.specs.Owners.{Owned, isLiveFor, isDamagedFor};
+ghost use Rattle.owners.specs.Owners.{Owned, isLiveFor, isDamagedFor};
 
 // Nobody, or the hidden number that a slot belongs to, with the trail of its walk.
 pub enum Owner {

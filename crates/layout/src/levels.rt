@@ -1,12 +1,12 @@
 // Where a slot's blocks stand.
-use layout::geometry::Geometry;
-use layout::geometry::slot_start;
-use layout::numbers::DiskAddress;
+use crate::geometry::Geometry;
+use crate::geometry::slot_start;
+use crate::numbers::DiskAddress;
 ghost use mathlib.Core.Path.{_≡_};
 ghost use Prim.Native.Nat.{_<_};
 ghost use Rattle.model.specs.Geometry.{Fits};
 ghost use Rattle.model.specs.Layout.{levelAddress};
 ghost use Rattle.layout.specs.Geometries.{geometryOf};
 
 // Address of a slot's block of a level: A + level, and A + k for level 0, hidden data.
 pub fn level_address(g: Geometry, slot: u32, level: u32) -> DiskAddress

@@ -8,9 +8,9 @@ use Rattle.model.specs.Blocks.{Bytes, blockAt, entryAt}
 use Rattle.model.specs.Layout.{levelAddress}
 use Rattle.model.specs.HiddenHalf.{ownerOf, isLive, isOwnerDamaged}
 use Rattle.hidden_map.specs.Walks.{Walked}
-use Rattle.slots.specs.declared.owners.Owner.{Owner}
-use Rattle.slots.specs.declared.owners.Owner.the-variants.{Nobody, Number}
-use Rattle.slots.specs.Owners.{Owned, OwnWalked, isLiveFor, isDamagedFor}
+use Rattle.owners.specs.declared.Owner.{Owner}
+use Rattle.owners.specs.declared.Owner.the-variants.{Nobody, Number}
+use Rattle.owners.specs.Owners.{Owned, OwnWalked, isLiveFor, isDamagedFor}
 
 -- the last entry of the slot's leaf
 pub owner-read :

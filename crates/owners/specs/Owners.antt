@@ -8,8 +8,8 @@ use Rattle.model.specs.Layout.{levelAddress}
 use Rattle.model.specs.HiddenTree.{isFoundAt, isDamaged}
 use Rattle.hidden_map.specs.Ends.{endOf}
 use Rattle.hidden_map.specs.Walks.{Walked}
-use Rattle.slots.specs.declared.owners.Owner.{Owner}
-use Rattle.slots.specs.declared.owners.Owner.the-variants.{Nobody, Number}
+use Rattle.owners.specs.declared.Owner.{Owner}
+use Rattle.owners.specs.declared.Owner.the-variants.{Nobody, Number}
 
 -- the owner by a reverse number: nobody, where that is no hidden number, else the number with its walk
 abbrev pub Owned : Geometry → (disk : Bytes) → (number : ℕ) → Owner → Type 0

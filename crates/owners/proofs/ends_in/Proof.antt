@@ -4,8 +4,8 @@ use Prim.Native.Nat.{ℕ}
 use borrow.Author.Needs.{needs}
 use Rattle.model.specs.HiddenTree.{isFoundAt}
 use Rattle.hidden_map.specs.Ends.{endOf}
-use Rattle.slots.proofs.owners.ends_in.Statement.{statement}
-use Rattle.slots.proofs.owners.ends_in.Tie as tie
+use Rattle.owners.proofs.ends_in.Statement.{statement}
+use Rattle.owners.proofs.ends_in.Tie as tie
 
 level-address-requires : tie.Need-level-address-requires
 level-address-requires c κs = search needs

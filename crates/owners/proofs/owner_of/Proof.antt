@@ -7,10 +7,10 @@ use Rattle.model.specs.Geometry.{blockCount}
 use Rattle.model.proofs.Laws.Geometry.{fanout-low}
 use Rattle.model.proofs.Laws.Blocks.{length-blockAt}
 use Rattle.layout.specs.Geometries.{geometryOf}
-use Rattle.slots.proofs.Laws.Levels.{levelAddress-lt}
-use Rattle.slots.proofs.Laws.Owners.{owner-read}
-use Rattle.slots.proofs.owners.owner_of.Statement.{statement}
-use Rattle.slots.proofs.owners.owner_of.Tie as tie
+use Rattle.layout.proofs.Laws.Levels.{levelAddress-lt}
+use Rattle.owners.proofs.Laws.Owners.{owner-read}
+use Rattle.owners.proofs.owner_of.Statement.{statement}
+use Rattle.owners.proofs.owner_of.Tie as tie
 
 cast-last : tie.Need-cast-last
 cast-last c = search needs

@@ -3,9 +3,9 @@
 use mathlib.Core.Path.{sym, ap, _∙_}
 use borrow.Author.Needs.{needs}
 use Rattle.layout.specs.Geometries.{geometryOf}
-use Rattle.slots.specs.Owners.{isLiveFor}
-use Rattle.slots.proofs.owners.is_live.Statement.{statement}
-use Rattle.slots.proofs.owners.is_live.Tie as tie
+use Rattle.owners.specs.Owners.{isLiveFor}
+use Rattle.owners.proofs.is_live.Statement.{statement}
+use Rattle.owners.proofs.is_live.Tie as tie
 
 -- a number owns the slot
 abbrev ownedOf : tie.After-ends-in → tie.After-owner

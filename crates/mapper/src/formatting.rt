@@ -1,10 +1,10 @@
 // Formatting: header (head 0), map, bitmap and root, all zero but for the header's entries; the data area
 // stays.
-use copies::clear_at;
 use layout::entries::put_entry;
 use layout::geometry::Geometry;
 use layout::geometry::area_start;
 use layout::refusals::size_fault;
+use stores::copies::clear_at;
 ghost use mathlib.Core.Path.{_≡_};
 ghost use Prim.Native.Nat.{_≤_};
 ghost use lib.ListN.{length};

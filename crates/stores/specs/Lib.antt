@@ -1,2 +1,4 @@
 pub mod Made
 pub mod Changes
+pub mod Descriptors
+pub mod Described

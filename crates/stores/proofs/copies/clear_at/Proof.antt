@@ -1,4 +1,4 @@
--- `copies::clear_at` meets its contract: zeros copied. The loop's invariant: the first i bytes
+-- `clear_at` meets its contract: zeros copied. The loop's invariant: the first i bytes
 -- are cleared. The measure is what is left to clear. Assumes nothing.
 use mathlib.Core.Path.{_≡_, refl}
 use Prim.Native.Nat.{ℕ, _-_, _≤_, zero-le}
@@ -6,9 +6,9 @@ use native.Mathlib.Omega.{arith}
 use borrow.Author.Needs.{needs}
 use lib.ListN.{length, replicate, length-set, length-replicate, getD-replicate}
 use lib.Seq.{paste, paste-zero}
-use Rattle.copies.proofs.Laws.Copies.{set-paste, paste-whole}
-use Rattle.copies.proofs.clear_at.Statement.{statement}
-use Rattle.copies.proofs.clear_at.Tie as tie
+use Rattle.stores.proofs.Laws.Copies.{set-paste, paste-whole}
+use Rattle.stores.proofs.copies.clear_at.Statement.{statement}
+use Rattle.stores.proofs.copies.clear_at.Tie as tie
 
 abbrev Inv-loop : tie.InvT-loop
 Inv-loop target₀ at count i₀ target i =

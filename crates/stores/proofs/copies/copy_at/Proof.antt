@@ -1,13 +1,13 @@
--- `copies::copy_at` meets its contract. The loop's invariant: the first i bytes are copied. The
+-- `copy_at` meets its contract. The loop's invariant: the first i bytes are copied. The
 -- measure is what is left of the source. Assumes nothing.
 use mathlib.Core.Path.{_≡_, refl}
 use Prim.Native.Nat.{_-_, _≤_, zero-le}
 use borrow.Author.Needs.{needs}
 use lib.ListN.{length, length-set}
 use lib.Seq.{paste, paste-zero}
-use Rattle.copies.proofs.Laws.Copies.{set-paste, paste-whole}
-use Rattle.copies.proofs.copy_at.Statement.{statement}
-use Rattle.copies.proofs.copy_at.Tie as tie
+use Rattle.stores.proofs.Laws.Copies.{set-paste, paste-whole}
+use Rattle.stores.proofs.copies.copy_at.Statement.{statement}
+use Rattle.stores.proofs.copies.copy_at.Tie as tie
 
 abbrev Inv-loop : tie.InvT-loop
 Inv-loop target₀ at source i₀ target i =

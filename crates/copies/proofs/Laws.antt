@@ -1,2 +1,0 @@
--- The laws of copying.
-pub mod Copies

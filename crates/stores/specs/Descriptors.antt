@@ -1,0 +1,59 @@
+-- What a descriptor means: the block that its store begins with, the store, and when it can be made. Assumes
+-- nothing.
+use mathlib.Core.Path.{_≡_}
+use Prim.Native.Nat.{_+_, _*_, _≤_, _<_}
+use lib.ListN.{length}
+use Rattle.model.specs.Geometry.{Geometry, blockCount}
+use Rattle.model.specs.Blocks.{Bytes, blockAt, zeroBlock}
+use Rattle.model.specs.Stores.{Store, store}
+use Rattle.layout.specs.declared.numbers.DiskAddress.{DiskAddress}
+use Rattle.stores.specs.declared.changes.Change.{Change}
+use Rattle.stores.specs.declared.changes.Change.the-variants.{Nothing}
+use Rattle.stores.specs.declared.descriptors.Source.{Source}
+use Rattle.stores.specs.declared.descriptors.Source.the-variants.{Disk, Zeros, Content, Offered, Random}
+use Rattle.stores.specs.declared.descriptors.Descriptor.{Descriptor}
+use Rattle.stores.specs.Changes.{changed, Inside}
+
+-- ---- what is taken ----
+
+-- the block of a source: one of the disk, zeros, the call's data, what is offered, or the random bytes' block
+-- at an index
+abbrev pub sourceBlock : Source → Geometry → (disk content offered random : Bytes) → Bytes
+sourceBlock (Disk address) g disk content offered random = blockAt (g .blockSize) disk (address .0)
+sourceBlock Zeros g disk content offered random = zeroBlock (g .blockSize)
+sourceBlock Content g disk content offered random = content
+sourceBlock Offered g disk content offered random = offered
+sourceBlock (Random index) g disk content offered random = blockAt (g .blockSize) random index
+
+-- it stands on the drive, or is lent whole
+abbrev pub Takeable : Source → Geometry → (content offered random : Bytes) → Type 0
+Takeable (Disk address) g content offered random = address .0 < blockCount g
+Takeable Zeros g content offered random = Unit {0}
+Takeable Content g content offered random = length content ≡ g .blockSize
+Takeable Offered g content offered random = length offered ≡ g .blockSize
+Takeable (Random index) g content offered random = index * g .blockSize + g .blockSize ≤ length random
+
+-- ---- what is stored ----
+
+-- a block that is stored as it is taken
+abbrev pub plainOf : DiskAddress → Source → Descriptor
+plainOf address source = record { address = address; source = source; first = Nothing; second = Nothing }
+
+-- a block of the disk that is stored where it stands, with these changes
+abbrev pub ownOf : DiskAddress → (first second : Change) → Descriptor
+ownOf address first second =
+    record { address = address; source = Disk address; first = first; second = second }
+
+-- the store that a descriptor means: the block with both changes made, at its address
+abbrev pub storeOf : Descriptor → Geometry → (disk content offered random : Bytes) → Store
+storeOf descriptor g disk content offered random =
+    store (descriptor .address .0)
+    (changed (descriptor .second)
+    (changed (descriptor .first) (sourceBlock (descriptor .source) g disk content offered random)))
+
+-- it goes to the drive, its block can be taken, and its changes stand inside a block
+pub record Makeable (descriptor : Descriptor) (g : Geometry) (content offered random : Bytes) : Type 0 where
+  pub address-inside : descriptor .address .0 < blockCount g
+  pub takeable : Takeable (descriptor .source) g content offered random
+  pub first-inside : Inside (g .blockSize) (descriptor .first)
+  pub second-inside : Inside (g .blockSize) (descriptor .second)

@@ -1,0 +1,93 @@
+// A store before it is made, and the block that it begins with.
+use crate::changes::Change;
+use crate::copies::clear_at;
+use crate::copies::copy_at;
+use layout::blocks::block_at;
+use layout::geometry::Geometry;
+use layout::numbers::DiskAddress;
+ghost use mathlib.Core.Path.{_≡_};
+ghost use Prim.Native.Nat.{_+_, _*_, _≤_};
+ghost use lib.ListN.{length};
+ghost use Rattle.model.specs.Blocks.{blockAt};
+ghost use Rattle.model.specs.Layout.{Drive};
+ghost use Rattle.layout.specs.Geometries.{geometryOf};
+ghost use Rattle.stores.specs.Descriptors.{plainOf, ownOf, sourceBlock, Takeable};
+
+// Where the block of a store is taken from: the disk, zeros, the call's data, what is offered, or so many
+// blocks into the round's random bytes.
+pub enum Source {
+    Disk(DiskAddress),
+    Zeros,
+    Content,
+    Offered,
+    Random(u32),
+}
+
+// A store before it is made: where it goes, the block that it begins with, and what is changed in it, one
+// change after the other.
+pub struct Descriptor {
+    pub address: DiskAddress,
+    pub source: Source,
+    pub first: Change,
+    pub second: Change,
+}
+
+// A block that is stored as it is taken.
+pub fn plain(address: DiskAddress, source: Source) -> Descriptor
+    ensures { λ r. ⌜ r ≡ plainOf address source ⌝ }
+{
+    Descriptor {
+        address,
+        source,
+        first: Change::Nothing,
+        second: Change::Nothing,
+    }
+}
+
+// A block of the disk that is stored where it stands, with these changes.
+pub fn own(address: DiskAddress, first: Change, second: Change) -> Descriptor
+    ensures { λ r. ⌜ r ≡ ownOf address first second ⌝ }
+{
+    Descriptor {
+        address,
+        source: Source::Disk(address),
+        first,
+        second,
+    }
+}
+
+// The block that stands so many blocks into the random bytes.
+fn random_block<'a>(random: &'a [u8], g: Geometry, index: u32) -> &'a [u8]
+    requires { ⌜ index * geometryOf g .blockSize + geometryOf g .blockSize ≤ length (now random) ⌝ }
+    ensures { λ r. ⌜ now r ≡ blockAt (geometryOf g .blockSize) (now (random .entry)) index ⌝ }
+{
+    let width = g.block_size as usize;
+    let from = (index as usize) * width;
+    let to = from + width;
+    &random[from..to]
+}
+
+// Takes the block of a source into a lent buffer of one block.
+pub fn take_source(
+    disk: &[u8],
+    g: Geometry,
+    source: Source,
+    content: &[u8],
+    offered: &[u8],
+    random: &[u8],
+    block: &mut [u8],
+)
+    requires { ⌜ Drive (geometryOf g) (now disk) ⌝ }
+    requires { ⌜ Takeable source (geometryOf g) (now content) (now offered) (now random) ⌝ }
+    requires { ⌜ length (now block) ≡ geometryOf g .blockSize ⌝ }
+    ensures { λ _. ⌜ now (block .exit) ≡ sourceBlock source (geometryOf g) (now (disk .entry))
+        (now (content .entry)) (now (offered .entry)) (now (random .entry)) ⌝ }
+{
+    match source {
+        Source::Disk(address) => copy_at(block, 0, block_at(disk, g, address)),
+        Source::Zeros => clear_at(block, 0, g.block_size as usize),
+        Source::Content => copy_at(block, 0, content),
+        Source::Offered => copy_at(block, 0, offered),
+        Source::Random(index) => copy_at(block, 0, random_block(random, g, index)),
+    }
+}

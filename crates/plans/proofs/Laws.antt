@@ -1,1 +1,2 @@
+pub mod PublicPlans
 pub mod Plans

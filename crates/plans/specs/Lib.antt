@@ -1,2 +1,4 @@
 pub mod States
+pub mod HiddenPlans
+pub mod PublicPlans
 pub mod Plans

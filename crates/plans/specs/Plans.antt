@@ -13,13 +13,13 @@ use Rattle.hidden_map.specs.Walks.{Walked}
 use Rattle.table.specs.declared.HiddenChoice.{HiddenChoice}
 use Rattle.table.specs.declared.HiddenChoice.the-variants.{Keep, Place, Fill}
 use Rattle.table.specs.Rows.{publicOf}
-use Rattle.slots.specs.declared.owners.Owner.{Owner}
-use Rattle.slots.specs.declared.owners.Owner.the-variants.{Nobody, Number}
-use Rattle.slots.specs.Owners.{isDamagedFor}
-use Rattle.paths.specs.declared.Data.the-variants.{Own, Offered}
-use Rattle.hidden_half.specs.declared.halves.Plan.{Plan}
-use Rattle.hidden_half.specs.declared.halves.Plan.the-variants as plan
-use Rattle.hidden_half.specs.Plans.{hiddenTrace, PathPlaced}
+use Rattle.owners.specs.declared.Owner.{Owner}
+use Rattle.owners.specs.declared.Owner.the-variants.{Nobody, Number}
+use Rattle.owners.specs.Owners.{isDamagedFor}
+use Rattle.plans.specs.declared.hidden_plans.Data.the-variants.{Own, Offered}
+use Rattle.plans.specs.declared.hidden_plans.HiddenPlan.{HiddenPlan}
+use Rattle.plans.specs.declared.hidden_plans.HiddenPlan.the-variants as plan
+use Rattle.plans.specs.HiddenPlans.{hiddenTrace, PathPlaced}
 use Rattle.plans.specs.declared.states.Offer.the-variants.{Placed}
 use Rattle.plans.specs.declared.states.State.{State}
 use Rattle.plans.specs.declared.plans.Plans.{Plans}
@@ -28,17 +28,17 @@ use Rattle.plans.specs.States.{stateOf}
 -- ---- the hidden half ----
 
 -- the owner's path with the slot's own data
-abbrev pub keptPlan : Owner → Plan
+abbrev pub keptPlan : Owner → HiddenPlan
 keptPlan Nobody = plan.Fill
 keptPlan (Number own trail) = plan.Path own (trail .nodes) Own
 
 -- a number's path with what is offered, unless its walk is damaged
-abbrev pub placedPlan : HiddenNumber → Trail → Plan
+abbrev pub placedPlan : HiddenNumber → Trail → HiddenPlan
 placedPlan number trail =
     cond (isDamaged (endOf (trail .end))) plan.Back (plan.Path number (trail .nodes) Offered)
 
 -- the plan by the table's choice; what is placed has the nodes of the number's own walk
-abbrev pub PlannedBy : HiddenChoice → Geometry → (disk : Bytes) → Owner → HiddenNumber → Plan → Type 0
+abbrev pub PlannedBy : HiddenChoice → Geometry → (disk : Bytes) → Owner → HiddenNumber → HiddenPlan → Type 0
 PlannedBy Keep g disk owner number hidden = hidden ≡ keptPlan owner
 PlannedBy Place g disk owner number hidden =
     (trail : Trail) × (Walked g disk (number .0) trail × (hidden ≡ placedPlan number trail))
@@ -46,11 +46,11 @@ PlannedBy Fill g disk owner number hidden = hidden ≡ plan.Fill
 
 -- and where the owner's walk is damaged the slot is written back
 pub record HalfPlanned (g : Geometry) (disk : Bytes) (choice : HiddenChoice) (owner : Owner)
-    (number : HiddenNumber) (hidden : Plan) : Type 0 where
+    (number : HiddenNumber) (hidden : HiddenPlan) : Type 0 where
   pub stopped : isDamagedFor owner ≡ true → hidden ≡ plan.Back
   pub chosen : isDamagedFor owner ≡ false → PlannedBy choice g disk owner number hidden
 
-abbrev pub stateAfter : State → Plan → State
+abbrev pub stateAfter : State → HiddenPlan → State
 stateAfter state plan.Back = record { offer = state .offer; «met_damage» = true }
 stateAfter state (plan.Path number nodes Own) = state
 stateAfter state (plan.Path number nodes Offered) =

@@ -1,21 +1,21 @@
 // What a round is to do with its slot, settled before the slot is stored: one walk for the slot's owner, and
 // one for the waiting number where that is another.
+use crate::hidden_plans::Data;
+use crate::hidden_plans::HiddenPlan;
 use crate::states::Offer;
 use crate::states::State;
 use crate::states::is_waiting;
-use hidden_half::halves::Plan;
 use hidden_map::ends::is_damaged;
 use hidden_map::walks::Trail;
 use hidden_map::walks::walk;
 use layout::bitmap::is_allocated;
 use layout::geometry::Geometry;
 use layout::numbers::HiddenNumber;
-use paths::Data;
-use slots::owners::Owner;
-use slots::owners::is_live;
-use slots::owners::is_owner_damaged;
-use slots::owners::owner_of;
-use slots::owners::walk_owner;
+use owners::Owner;
+use owners::is_live;
+use owners::is_owner_damaged;
+use owners::owner_of;
+use owners::walk_owner;
 use table::HiddenChoice;
 use table::PublicChoice;
 use table::row_at;
@@ -24,13 +24,13 @@ ghost use Prim.Native.Nat.{_<_};
 ghost use Rattle.model.specs.Layout.{Drive};
 ghost use Rattle.layout.specs.Geometries.{geometryOf};
 ghost use Rattle.hidden_map.specs.Walks.{Walked};
-ghost use Rattle.slots.specs.Owners.{OwnWalked};
+ghost use Rattle.owners.specs.Owners.{OwnWalked};
 ghost use Rattle.plans.specs.Plans.{keptPlan, placedPlan, stateAfter, HalfPlanned, Planned};
 
 // The choice for the public block, the plan of the hidden half, and the state of the offer after the round.
 pub struct Plans {
     pub public: PublicChoice,
-    pub hidden: Plan,
+    pub hidden: HiddenPlan,
     pub after: State,
 }
 
@@ -54,29 +54,29 @@ fn next_trail(disk: &[u8], g: Geometry, owner: Owner, number: HiddenNumber) -> T
 }
 
 // The plan for a slot that is kept: its owner's path with the slot's own data. Nobody's slot is not kept.
-fn plan_kept(owner: Owner) -> Plan
+fn plan_kept(owner: Owner) -> HiddenPlan
     ensures { λ r. ⌜ r ≡ keptPlan owner ⌝ }
 {
     match owner {
-        Owner::Nobody => Plan::Fill,
+        Owner::Nobody => HiddenPlan::Fill,
         Owner::Number(own, trail) => {
             let nodes = trail.nodes;
-            Plan::Path(own, nodes, Data::Own)
+            HiddenPlan::Path(own, nodes, Data::Own)
         }
     }
 }
 
 // The plan for a number that is placed: its path with what is offered, or the slot written back where its
 // walk is damaged.
-fn plan_placed(number: HiddenNumber, trail: Trail) -> Plan
+fn plan_placed(number: HiddenNumber, trail: Trail) -> HiddenPlan
     ensures { λ r. ⌜ r ≡ placedPlan number trail ⌝ }
 {
     let end = trail.end;
     let nodes = trail.nodes;
     if is_damaged(end) {
-        return Plan::Back;
+        return HiddenPlan::Back;
     }
-    Plan::Path(number, nodes, Data::Offered)
+    HiddenPlan::Path(number, nodes, Data::Offered)
 }
 
 // The plan for a slot's hidden half by the table's choice, or the slot written back where its owner's walk is
@@ -87,39 +87,39 @@ fn plan_half(
     choice: HiddenChoice,
     owner: Owner,
     number: HiddenNumber,
-) -> Plan
+) -> HiddenPlan
     requires { ⌜ Drive (geometryOf g) (now disk) ⌝ }
     requires { ⌜ OwnWalked (geometryOf g) (now disk) owner ⌝ }
     ensures { λ r. ⌜ HalfPlanned (geometryOf g) (now (disk .entry)) choice owner number r ⌝ }
 {
     if is_owner_damaged(owner) {
-        return Plan::Back;
+        return HiddenPlan::Back;
     }
     match choice {
         HiddenChoice::Keep => plan_kept(owner),
         HiddenChoice::Place => plan_placed(number, next_trail(disk, g, owner, number)),
-        HiddenChoice::Fill => Plan::Fill,
+        HiddenChoice::Fill => HiddenPlan::Fill,
     }
 }
 
 // The state of the offer after a round with this plan.
-fn state_after(state: State, plan: Plan) -> State
+fn state_after(state: State, plan: HiddenPlan) -> State
     ensures { λ r. ⌜ r ≡ stateAfter state plan ⌝ }
 {
     let offer = state.offer;
     match plan {
-        Plan::Back => State {
+        HiddenPlan::Back => State {
             offer,
             met_damage: true,
         },
-        Plan::Path(_, _, data) => match data {
+        HiddenPlan::Path(_, _, data) => match data {
             Data::Own => state,
             Data::Offered => State {
                 offer: Offer::Placed,
                 met_damage: state.met_damage,
             },
         },
-        Plan::Fill => state,
+        HiddenPlan::Fill => state,
     }
 }
 

@@ -24,13 +24,13 @@ use Rattle.table.specs.declared.HiddenChoice.{HiddenChoice}
 use Rattle.table.specs.declared.HiddenChoice.the-variants.{Keep, Place, Fill}
 use Rattle.table.specs.declared.Row.{Row}
 use Rattle.table.specs.Rows as rows
-use Rattle.slots.specs.declared.owners.Owner.{Owner}
-use Rattle.slots.specs.declared.owners.Owner.the-variants.{Nobody, Number}
-use Rattle.slots.specs.Owners.{Owned, isLiveFor, isDamagedFor}
-use Rattle.slots.proofs.Laws.Owners.{isLive-owned, isOwnerDamaged-owned}
-use Rattle.paths.specs.declared.Data.the-variants.{Offered}
-use Rattle.hidden_half.specs.declared.halves.Plan.{Plan}
-use Rattle.hidden_half.specs.declared.halves.Plan.the-variants as plan
+use Rattle.owners.specs.declared.Owner.{Owner}
+use Rattle.owners.specs.declared.Owner.the-variants.{Nobody, Number}
+use Rattle.owners.specs.Owners.{Owned, isLiveFor, isDamagedFor}
+use Rattle.owners.proofs.Laws.Owners.{isLive-owned, isOwnerDamaged-owned}
+use Rattle.plans.specs.declared.hidden_plans.Data.the-variants.{Offered}
+use Rattle.plans.specs.declared.hidden_plans.HiddenPlan.{HiddenPlan}
+use Rattle.plans.specs.declared.hidden_plans.HiddenPlan.the-variants as plan
 use Rattle.plans.specs.declared.states.Offer.{Offer}
 use Rattle.plans.specs.declared.states.Offer.the-variants as offers
 use Rattle.plans.specs.declared.states.State.{State}
@@ -83,7 +83,7 @@ module _ (g : Geometry) (disk : Bytes) (choice : HiddenChoice) (owner : Owner) (
       record { stopped = λ h. refl; chosen = λ h. true-is-not-false (sym d ∙ e) h }
 
   pub half-chosen :
-      damaged ≡ false → (told : HiddenChoice) → choice ≡ told → (hidden : Plan) →
+      damaged ≡ false → (told : HiddenChoice) → choice ≡ told → (hidden : HiddenPlan) →
       PlannedBy told g disk owner number hidden → HalfPlanned g disk choice owner number hidden
   half-chosen e told c hidden h =
       record {
@@ -121,17 +121,17 @@ stale-of-fill false false e = (refl, refl)
 
 module _ (g : Geometry) (disk : Bytes) (slot : ℕ) (state : State) (number : HiddenNumber) (row : Row)
     (owner : Owner) (known : Settled g disk slot (state .offer) (number .0) row owner) where
-  abbrev plansBy : Plan → Plans
+  abbrev plansBy : HiddenPlan → Plans
   plansBy hidden = record { public = row .public; hidden = hidden; after = stateAfter state hidden }
 
   abbrev waitingBy : Bytes → List HiddenWrite
   waitingBy content = waitingOf (state .offer) (number .0) content
 
   -- a plan said in another way
-  planned-as : {hidden other : Plan} → hidden ≡ other →
+  planned-as : {hidden other : HiddenPlan} → hidden ≡ other →
       Planned g disk slot state (number .0) (plansBy other) →
       Planned g disk slot state (number .0) (plansBy hidden)
-  planned-as e p = subst (λ (x : Plan). Planned g disk slot state (number .0) (plansBy x)) (sym e) p
+  planned-as e p = subst (λ (x : HiddenPlan). Planned g disk slot state (number .0) (plansBy x)) (sym e) p
 
   -- the public choice, whatever the plan
   chosen : (content : Bytes) → rows.publicOf (row .public) ≡ rowOf g disk slot (waitingBy content) .public
@@ -266,7 +266,7 @@ module _ (g : Geometry) (disk : Bytes) (slot : ℕ) (state : State) (number : Hi
         }
 
     planned-by :
-        (choice : HiddenChoice) → row .hidden ≡ choice → (hidden : Plan) →
+        (choice : HiddenChoice) → row .hidden ≡ choice → (hidden : HiddenPlan) →
         PlannedBy choice g disk owner number hidden →
         Planned g disk slot state (number .0) (plansBy hidden)
     planned-by Keep e hidden h = planned-as h (planned-kept (ap rows.hiddenOf e) owner refl)
@@ -276,7 +276,7 @@ module _ (g : Geometry) (disk : Bytes) (slot : ℕ) (state : State) (number : Hi
     planned-by Fill e hidden h = planned-as h (planned-filled (ap rows.hiddenOf e))
 
   pub planned :
-      (hidden : Plan) → HalfPlanned g disk (row .hidden) owner number hidden → (after : State) →
+      (hidden : HiddenPlan) → HalfPlanned g disk (row .hidden) owner number hidden → (after : State) →
       after ≡ stateAfter state hidden →
       Planned g disk slot state (number .0)
       (record { public = row .public; hidden = hidden; after = after })

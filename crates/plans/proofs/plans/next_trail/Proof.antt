@@ -5,7 +5,7 @@ use Prim.Native.Nat.{ℕ}
 use borrow.Author.Needs.{needs}
 use Rattle.layout.specs.Geometries.{geometryOf}
 use Rattle.hidden_map.specs.Walks.{Walked}
-use Rattle.slots.specs.Owners.{OwnWalked}
+use Rattle.owners.specs.Owners.{OwnWalked}
 use Rattle.plans.proofs.plans.next_trail.Statement.{statement}
 use Rattle.plans.proofs.plans.next_trail.Tie as tie
 

@@ -5,8 +5,8 @@ use borrow.Author.Needs.{needs}
 use Rattle.layout.specs.Geometries.{geometryOf}
 use Rattle.table.specs.declared.HiddenChoice.{HiddenChoice}
 use Rattle.table.specs.declared.HiddenChoice.the-variants.{Keep, Place, Fill}
-use Rattle.hidden_half.specs.declared.halves.Plan.{Plan}
-use Rattle.hidden_half.specs.declared.halves.Plan.the-variants as plan
+use Rattle.plans.specs.declared.hidden_plans.HiddenPlan.{HiddenPlan}
+use Rattle.plans.specs.declared.hidden_plans.HiddenPlan.the-variants as plan
 use Rattle.plans.specs.Plans.{PlannedBy, HalfPlanned}
 use Rattle.plans.proofs.Laws.Plans.{half-stopped, half-chosen}
 use Rattle.plans.proofs.plans.plan_half.Statement.{statement}
@@ -19,7 +19,7 @@ startOf c = c .before .before
 chosen :
     (c : tie.Else1) (told : HiddenChoice) →
     let a = startOf (c .before) .args in
-    a .choice ≡ told → (hidden : Plan) →
+    a .choice ≡ told → (hidden : HiddenPlan) →
     PlannedBy told (geometryOf (a .g)) (a .disk .now) (a .owner) (a .number) hidden →
     HalfPlanned (geometryOf (a .g)) (a .disk .now) (a .choice) (a .owner) (a .number) hidden
 chosen c told e hidden h =

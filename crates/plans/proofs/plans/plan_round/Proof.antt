@@ -2,7 +2,7 @@
 -- nothing.
 use borrow.Author.Needs.{needs}
 use Rattle.layout.specs.Geometries.{geometryOf}
-use Rattle.slots.proofs.Laws.Owners.{ownWalked-owned}
+use Rattle.owners.proofs.Laws.Owners.{ownWalked-owned}
 use Rattle.plans.proofs.Laws.Plans.{Settled, settled, planned}
 use Rattle.plans.proofs.plans.plan_round.Statement.{statement}
 use Rattle.plans.proofs.plans.plan_round.Tie as tie

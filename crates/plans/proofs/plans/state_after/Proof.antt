@@ -1,8 +1,8 @@
 -- `state_after` meets its contract, by the plan. Assumes nothing.
 use mathlib.Core.Path.{sym, ap, _∙_}
 use borrow.Author.Needs.{needs}
-use Rattle.paths.specs.declared.Data.{Data}
-use Rattle.hidden_half.specs.declared.halves.Plan.the-variants.{Path}
+use Rattle.plans.specs.declared.hidden_plans.Data.{Data}
+use Rattle.plans.specs.declared.hidden_plans.HiddenPlan.the-variants.{Path}
 use Rattle.plans.specs.declared.states.State.{State}
 use Rattle.plans.specs.Plans.{stateAfter}
 use Rattle.plans.proofs.plans.state_after.Statement.{statement}

@@ -1,0 +1,4 @@
+-- The laws that the proofs of the functions cite, a file for each idea.
+pub mod Endings
+pub mod Planned
+pub mod Addresses

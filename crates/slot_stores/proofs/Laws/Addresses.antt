@@ -1,0 +1,67 @@
+-- Where the stores of a slot go, whatever the plan: A to A + k in order, then the root. Assumes nothing.
+use mathlib.Core.Path.{_≡_, ap, _∙_}
+use mathlib.Core.List.{List, _∷_}
+use Prim.Native.Nat.{ℕ, _*_, _-_, _≤_, _<_}
+use native.Mathlib.Numerals.{add-one}
+use native.Mathlib.Omega.{arith}
+use lib.ListN.{length}
+use Rattle.model.specs.Geometry.{Geometry, rootAddress}
+use Rattle.model.specs.Blocks.{Bytes}
+use Rattle.model.specs.Layout.{Drive, slotStart, levelAddress}
+use Rattle.model.specs.Stores.{addresses}
+use Rattle.model.specs.Rounds.{publicStore}
+use Rattle.model.specs.Simulator.{slotAddresses}
+use Rattle.model.proofs.Laws.Geometry.{slot-block-lt}
+use Rattle.model.proofs.Laws.Paths.{Hides, addressesFrom-suc, blockAt-whole}
+use Rattle.model.proofs.Laws.Paths.{writtenBack-hides, dummyStores-hides, pathStores-hides}
+use Rattle.model.proofs.Laws.RoundStores.{publicStore-address}
+use Rattle.hidden_map.specs.Nodes.{addressAt, pathBlocks}
+use Rattle.hidden_map.proofs.Laws.Nodes.{length-nodeBlocks, nodeBlocks-whole}
+use Rattle.plans.specs.declared.hidden_plans.Data.{Data}
+use Rattle.plans.specs.declared.hidden_plans.Data.the-variants.{Own, Offered}
+use Rattle.plans.specs.declared.hidden_plans.HiddenPlan.{HiddenPlan}
+use Rattle.plans.specs.declared.hidden_plans.HiddenPlan.the-variants.{Back, Path, Fill}
+use Rattle.plans.specs.declared.public_plans.PublicPlan.{PublicPlan}
+use Rattle.plans.specs.HiddenPlans.{dataOf, hiddenTrace, PathPlaced}
+use Rattle.plans.specs.PublicPlans.{choiceOf}
+use Rattle.slot_stores.specs.Slots.{slotTrace}
+
+module _ (g : Geometry) (disk : Bytes) (drive : Drive g disk) (slot : ℕ) (inside : slot < g .slots)
+    (offered random : Bytes) (sized : length offered ≡ g .blockSize)
+    (enough : g .height * g .blockSize ≤ length random) where
+  length-dataOf : (which : Data) → length (dataOf which g disk slot offered) ≡ g .blockSize
+  length-dataOf Own =
+      blockAt-whole g (drive .fits) disk (drive .whole) (levelAddress g slot 0)
+      (slot-block-lt g slot (g .height) inside (omega arith))
+  length-dataOf Offered = sized
+
+  hiddenTrace-hides :
+      (plan : HiddenPlan) → PathPlaced g plan → Hides g slot (hiddenTrace plan g disk slot offered random)
+  hiddenTrace-hides Back placed = writtenBack-hides g (drive .fits) disk (drive .whole) slot inside
+  hiddenTrace-hides (Path number nodes which) placed =
+      let f = drive .fits in
+      let at = addressAt nodes in
+      pathStores-hides g f disk (drive .whole) slot inside (number .0) (dataOf which g disk slot offered)
+      (pathBlocks g disk at) (length-dataOf which)
+      (record {
+        counted = omega (arith, length-nodeBlocks g disk at (g .height - 1), f .height-low);
+        whole = (
+          blockAt-whole g f disk (drive .whole) (rootAddress g) (omega arith),
+          nodeBlocks-whole g disk drive at placed (g .height - 1),
+        );
+      })
+  hiddenTrace-hides Fill placed =
+      dummyStores-hides g (drive .fits) disk (drive .whole) slot inside random enough
+
+  pub addresses-slotTrace :
+      (content : Bytes) (public : PublicPlan) (hidden : HiddenPlan) → PathPlaced g hidden →
+      addresses (slotTrace public hidden g disk slot content offered random) ≡ slotAddresses g slot
+  unfolding addresses
+  addresses-slotTrace content public hidden placed =
+      ap (λ (xs : List ℕ). publicStore (choiceOf public) g disk slot content .address ∷ xs)
+      (hiddenTrace-hides hidden placed .runs)
+      ∙ rw (
+        publicStore-address (choiceOf public) g disk slot content,
+        addressesFrom-suc,
+        add-one (slotStart g slot),
+      )

@@ -1,3 +1,0 @@
-pub mod Stores
-pub mod Bits
-pub mod Map

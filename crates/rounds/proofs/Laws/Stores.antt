@@ -1,0 +1,162 @@
+-- Laws of the loop that makes a planned round's stores: what it has made so far, its beginning, a turn and
+-- its end. A turn's descriptor takes a block that no store before it changed, so it means the same store on
+-- the disk as it is now and as it was. Assumes nothing.
+use mathlib.Core.Path.{_≡_, refl, sym, ap, subst, _∙_}
+use mathlib.Core.Logic.{inl, inr}
+use mathlib.Core.List.{List, [], _∷_, _++_}
+use Prim.Native.Nat.{ℕ, _+_, _≤_, _<_}
+use native.Mathlib.Nat.{suc-mul, mul-le-mul-right}
+use native.Mathlib.Numerals.{add-one}
+use native.Mathlib.Omega.{arith}
+use lib.ListN.{length, getD, take}
+use lib.Seq.{take-suc, take-all, length-take-le}
+use Rattle.laws.proofs.Members.{All, all-append}
+use Rattle.model.specs.Geometry.{Geometry, blockCount}
+use Rattle.model.specs.Blocks.{Bytes, DiskAddress}
+use Rattle.model.specs.Layout.{Drive, levelPlace}
+use Rattle.model.specs.Stores.{Store, Trace, store, addresses}
+use Rattle.model.proofs.Laws.Slots.{slotBlock-of}
+use Rattle.model.proofs.Laws.Stores.{Stored, getD-addresses}
+use Rattle.stores.specs.declared.descriptors.Source.{Source}
+use Rattle.stores.specs.declared.descriptors.Source.the-variants.{Disk, Zeros, Content, Offered, Random}
+use Rattle.stores.specs.declared.descriptors.Descriptor.{Descriptor}
+use Rattle.stores.specs.Changes.{changed}
+use Rattle.stores.specs.Descriptors.{sourceBlock, Takeable, storeOf, Makeable}
+use Rattle.stores.specs.Described.{storeAt, Takes, Describes}
+use Rattle.stores.specs.Made.{Made}
+use Rattle.stores.proofs.Laws.Descriptors.{storeOf-stored}
+use Rattle.stores.proofs.Laws.Made.{made-nothing, made-store, made-then, length-made-list, drive-made}
+use Rattle.stores.proofs.Laws.Made.{blockAt-made-outside}
+use Rattle.round_stores.specs.declared.planned.Round.{Round}
+use Rattle.round_stores.specs.Planned.{plannedTrace, Storable}
+use Rattle.round_stores.proofs.Laws.Addresses.{takes-apart}
+
+-- so many stores of a trace are made, each whole and inside the drive
+pub record SoFar (g : Geometry) (trace : Trace) (disk : Bytes) (list : List DiskAddress) (next : ℕ)
+    (diskNow : Bytes) (listNow : List DiskAddress) (place at : ℕ) : Type 0 where
+  pub within : place ≤ length trace
+  pub made : Made (g .blockSize) (take place trace) disk list next diskNow listNow at
+  pub stored : All (Stored (g .blockSize) (blockCount g)) (take place trace)
+
+pub none-so-far :
+    (g : Geometry) (trace : Trace) (disk : Bytes) (list : List DiskAddress) (next : ℕ) → next ≤ length list →
+    SoFar g trace disk list next disk list 0 next
+none-so-far g trace disk list next room =
+    record { within = omega arith; made = made-nothing (g .blockSize) disk list next room; stored = tt }
+
+pub all-made :
+    {g : Geometry} {trace : Trace} {disk diskNow : Bytes} {list listNow : List DiskAddress}
+    {next place at : ℕ} → SoFar g trace disk list next diskNow listNow place at → length trace ≤ place →
+    Made (g .blockSize) trace disk list next diskNow listNow at
+all-made {g} {trace} {disk} {diskNow} {list} {listNow} {next} {place} {at} so h =
+    subst (λ (xs : Trace). Made (g .blockSize) xs disk list next diskNow listNow at) (take-all place trace h)
+    (so .made)
+
+-- what holds whenever the loop's test is reached: so many stores are made, and what is lent is as long as it
+-- was
+pub record Storing (g : Geometry) (trace : Trace) (disk : Bytes) (list : List DiskAddress) (next : ℕ)
+    (block : Bytes) (diskNow : Bytes) (listNow : List DiskAddress) (blockNow : Bytes) (place at : ℕ) :
+    Type 0 where
+  pub so-far : SoFar g trace disk list next diskNow listNow place at
+  pub disk-kept : length diskNow ≡ length disk
+  pub list-kept : length listNow ≡ length list
+  pub block-kept : length blockNow ≡ length block
+
+-- ---- a turn ----
+
+module _ {g : Geometry} {disk : Bytes} {round : Round} {content offered random : Bytes}
+    (storable : Storable g disk round content offered random) where
+  abbrev trace : Trace
+  trace = plannedTrace round g disk content offered random
+
+  -- the store at a place of the round, on every disk
+  abbrev pub StoreOf : (place : ℕ) → Descriptor → Type 0
+  StoreOf place descriptor =
+      Describes g place (λ disk content offered random.
+      storeAt place (plannedTrace round g disk content offered random)) descriptor
+
+  module _ {place : ℕ} {descriptor : Descriptor} (described : StoreOf place descriptor) where
+    takeable : (source : Source) → Takes g place (descriptor .address .0) source →
+        Takeable source g content offered random
+    takeable (Disk address) (inl own) = rw own (described .address-inside)
+    takeable (Disk address) (inr (low, formed)) =
+        slotBlock-of g (levelPlace g place) (address .0) formed .address-inside
+    takeable Zeros takes = tt
+    takeable Content takes = storable .content-whole
+    takeable Offered takes = storable .offered-whole
+    takeable (Random index) takes =
+        omega (
+          arith,
+          mul-le-mul-right (g .blockSize) takes,
+          suc-mul index (g .blockSize),
+          storable .random-enough,
+        )
+
+    pub turn-makeable : Makeable descriptor g content offered random
+    turn-makeable =
+        record {
+          address-inside = described .address-inside;
+          takeable = takeable (descriptor .source) (described .takes);
+          first-inside = described .first-inside;
+          second-inside = described .second-inside;
+        }
+
+    module _ {diskNow : Bytes} {list listNow : List DiskAddress} {next at : ℕ}
+        (room : next + length trace ≤ length list)
+        (so : SoFar g trace disk list next diskNow listNow place at) (more : place < length trace) where
+      pub turn-drive : Drive g diskNow
+      turn-drive = drive-made g (so .made) (storable .drive) (so .stored)
+
+      long : length (take place trace) ≡ place
+      long = length-take-le place trace (so .within)
+
+      pub turn-room : at < length listNow
+      turn-room = omega (arith, so .made .counted, long, length-made-list (so .made) (omega (arith, long)))
+
+      own-is : descriptor .address .0 ≡ getD (addresses trace) place 0
+      own-is =
+          ap (λ (x : Store). x .address) (described .means disk content offered random)
+          ∙ sym (getD-addresses trace place)
+
+      -- what is taken is on the disk as it was
+      source-kept :
+          (source : Source) → Takes g place (descriptor .address .0) source →
+          sourceBlock source g diskNow content offered random ≡
+          sourceBlock source g disk content offered random
+      source-kept (Disk address) takes =
+          blockAt-made-outside (so .made) (blockCount g) (address .0) (storable .drive .whole) (so .stored)
+          (takes-apart storable place (address .0) (descriptor .address .0) more own-is takes)
+      source-kept Zeros takes = refl
+      source-kept Content takes = refl
+      source-kept Offered takes = refl
+      source-kept (Random index) takes = refl
+
+      -- so the store is the one that the round has here
+      store-is : storeOf descriptor g diskNow content offered random ≡ storeAt place trace
+      store-is =
+          ap (λ (block : Bytes). store (descriptor .address .0)
+          (changed (descriptor .second) (changed (descriptor .first) block)))
+          (source-kept (descriptor .source) (described .takes))
+          ∙ described .means disk content offered random
+
+      pub turn-made :
+          {after : Bytes} {entered : List DiskAddress} {last : ℕ} →
+          Made (g .blockSize) (storeOf descriptor g diskNow content offered random ∷ []) diskNow listNow at
+          after entered last →
+          SoFar g trace disk list next after entered (place + 1) last
+      turn-made made =
+          let here = storeAt place trace in
+          let grown : take (place + 1) trace ≡ take place trace ++ (here ∷ []) =
+          ap (λ (n : ℕ). take n trace) (add-one place) ∙ take-suc trace place (store 0 []) more in
+          let Whole = Stored (g .blockSize) (blockCount g) in
+          let whole : Whole here =
+          subst Whole (described .means disk content offered random)
+          (storeOf-stored g disk content offered random (storable .drive) descriptor turn-makeable) in
+          record {
+            within = omega arith;
+            made =
+                rw grown
+                (made-then (take place trace) (here ∷ []) (omega (arith, long)) (so .made)
+                (made-store store-is made));
+            stored = rw grown (all-append Whole (take place trace) (here ∷ []) (so .stored) (whole, tt));
+          }

@@ -1,16 +1,16 @@
--- Laws of bits: of a byte, then of a list of bytes; read after write at the same and at another place,
--- lengths, zeros. Assumes nothing.
+-- Laws of bits: of a byte, with a bit's weight, then of a list of bytes; equations, read after write at the
+-- same and at another place, lengths, zeros. Assumes nothing.
 use mathlib.Core.Path.{_≡_, refl, sym, ap, _∙_}
 use mathlib.Core.Logic.{_≢_, _⊎_, inl, inr}
 use mathlib.Core.Bool.{Bool, true, false}
 use mathlib.Core.List.{List}
-use Prim.Native.Nat.{ℕ, zero, suc, _+_, _-_, _/_, _%_, _^_, _≤_, _<_}
+use Prim.Native.Nat.{ℕ, zero, suc, _+_, _-_, _/_, _%_, _^_, _≤_, _<_, _*_}
 use native.Mathlib.Numerals.{one-add}
 use native.Mathlib.Nat.{zero-div}
 use native.Mathlib.Omega.{arith}
 use lib.ListN.{replicate, length, getD, set, length-set}
 use lib.Dec.{eqb}
-use lib.Pow.{shr-shr}
+use lib.Pow.{shr-shr, shl-exact}
 use lib.Seq.{getD-set-same, getD-set-other}
 use borrow.Author.Tests.{eq-eqb, ne-eqb, eqb-true, eqb-false}
 use Rattle.laws.specs.Bits.{bitOf, withBit, bitAt, setBit}
@@ -83,6 +83,10 @@ digitOf-lt byte place = omega arith
 
 -- ---- a bit of a byte ----
 
+pub bitOf-is : (place byte : ℕ) → bitOf place byte ≡ eqb (byte / 2 ^ place % 2) 1
+unfolding bitOf
+bitOf-is place byte = refl
+
 one-of-bitOf : (place byte : ℕ) → bitOf place byte ≡ true → digitOf byte place ≡ 1
 unfolding bitOf
 one-of-bitOf place byte e = eqb-true (digitOf byte place) 1 e
@@ -90,6 +94,34 @@ one-of-bitOf place byte e = eqb-true (digitOf byte place) 1 e
 zero-of-bitOf : (place byte : ℕ) → bitOf place byte ≡ false → digitOf byte place ≡ 0
 unfolding bitOf
 zero-of-bitOf place byte e = omega (arith, digitOf-lt byte place, eqb-false (digitOf byte place) 1 e)
+
+-- ---- a bit's weight ----
+
+-- one shifted to a place of a byte
+pub weight-is : (place : ℕ) → place < 8 → 1 * 2 ^ place % 256 ≡ 2 ^ place
+weight-is place h = omega (arith, shl-exact {a = 1} 1 place 8 (omega arith) (omega arith))
+
+-- a clear bit leaves room for its weight
+room-of-digitOf :
+    (size place byte : ℕ) → place < size → byte < 2 ^ size → digitOf byte place ≡ 0 →
+    byte + 2 ^ place < 2 ^ size
+room-of-digitOf zero place byte h k e = absurd (omega arith)
+room-of-digitOf (suc size) zero byte h k e = omega arith
+room-of-digitOf (suc size) (suc place) byte h k e =
+    omega (
+      arith,
+      room-of-digitOf size place (byte / 2) (omega arith) (omega arith) (sym (digitOf-suc byte place) ∙ e),
+    )
+
+pub room-of-bitOf : (place byte : ℕ) → place < 8 → byte < 256 → bitOf place byte ≡ false →
+    byte + 2 ^ place < 256
+room-of-bitOf place byte h k e = room-of-digitOf 8 place byte h k (zero-of-bitOf place byte e)
+
+-- a set bit has its weight in the byte
+pub weight-le-of-bitOf : (place byte : ℕ) → bitOf place byte ≡ true → 2 ^ place ≤ byte
+weight-le-of-bitOf place byte e = digitOf-le byte place (one-of-bitOf place byte e)
+
+-- ---- a byte with a bit set or cleared ----
 
 -- the four ways of withBit
 pub withBit-set : (place byte : ℕ) → bitOf place byte ≡ false → withBit place true byte ≡ byte + 2 ^ place
@@ -108,7 +140,7 @@ pub withBit-clear-already : (place byte : ℕ) → bitOf place byte ≡ false �
 unfolding withBit
 withBit-clear-already place byte e = rw e
 
-pub bitOf-withBit-same : (place : ℕ) (isSet : Bool) (byte : ℕ) →
+bitOf-withBit-same : (place : ℕ) (isSet : Bool) (byte : ℕ) →
     bitOf place (withBit place isSet byte) ≡ isSet
 unfolding bitOf
 bitOf-withBit-same place isSet byte = by isSet (bool-cases (bitOf place byte))
@@ -126,7 +158,7 @@ bitOf-withBit-same place isSet byte = by isSet (bool-cases (bitOf place byte))
         (λ z. omega (arith, digitOf-clear-same byte place (one-of-bitOf place byte e)))
     by false (inr e) = ap (bitOf place) (withBit-clear-already place byte e) ∙ e
 
-pub bitOf-withBit-other :
+bitOf-withBit-other :
     (place other : ℕ) (isSet : Bool) (byte : ℕ) → other ≢ place →
     bitOf other (withBit place isSet byte) ≡ bitOf other byte
 unfolding bitOf
@@ -144,6 +176,17 @@ bitOf-withBit-other place other isSet byte ne = by isSet (bool-cases (bitOf plac
     by false (inr e) = ap (bitOf other) (withBit-clear-already place byte e)
 
 -- ---- a bit of a list of bytes ----
+
+pub bitAt-is : (place : ℕ) (bytes : List ℕ) → bitAt place bytes ≡ bitOf (place % 8) (getD bytes (place / 8) 0)
+unfolding bitAt
+bitAt-is place bytes = refl
+
+pub setBit-is :
+    (place : ℕ) (isSet : Bool) (bytes : List ℕ) →
+    setBit place isSet bytes ≡
+    set bytes (place / 8) (withBit (place % 8) isSet (getD bytes (place / 8) 0))
+unfolding setBit
+setBit-is place isSet bytes = refl
 
 pub length-setBit : (place : ℕ) (isSet : Bool) (bytes : List ℕ) →
     length (setBit place isSet bytes) ≡ length bytes

@@ -9,8 +9,7 @@ use native.Mathlib.Nat.{suc-add, zero-add}
 use native.Mathlib.Numerals.{add-one}
 use native.Mathlib.Omega.{arith}
 use lib.Seq.{ext-getD, length-take-le, take-at, drop-at, take-append-le, drop-append-add, drop-drop}
-use lib.Seq.{take-take, take-nil, getD-take, getD-drop}
-use lib.Seq.{set-split, append-snoc, take-all}
+use lib.Seq.{take-take, take-nil, getD-take, getD-drop, set-split, append-snoc, take-all}
 use lib.ListN.{length-replicate, length, getD, take, drop, set, replicate, length-append, length-take}
 use lib.ListN.{length-drop, take-append-drop, drop-of-length-le, List·getD-eq-default}
 use lib.Dec.{eqb}
@@ -49,6 +48,16 @@ module _ {A : Type 0} where
       (take-take (index + count) size (drop from xs) h)
       ∙ sym (part-of-take index count (drop from xs)) ∙ ap (take count) (drop-drop index from xs)
 
+  -- of two lists joined: the first, and what lies in the second
+  pub part-append-front : (xs ys : List A) → part 0 (length xs) (xs ++ ys) ≡ xs
+  unfolding part
+  part-append-front xs ys = take-at xs ys (length xs) refl
+
+  pub part-append-rest :
+      (xs ys : List A) (from size : ℕ) → part (length xs + from) size (xs ++ ys) ≡ part from size ys
+  unfolding part
+  part-append-rest xs ys from size = ap (take size) (drop-append-add xs ys from)
+
   -- ---- over ----
 
   pub over-is : (from : ℕ) (new old : List A) → over from new old ≡ take from old ++ new ++
@@ -74,14 +83,14 @@ module _ {A : Type 0} where
         let t : length (take from old) ≡ from = length-front in
         rw (append-assoc, drop-at) (take-at _ _ _ refl)
 
-    pub take-over-before : (index : ℕ) → index ≤ from → take index (over from new old) ≡ take index old
+    take-over-before : (index : ℕ) → index ≤ from → take index (over from new old) ≡ take index old
     unfolding over
     take-over-before index h =
         let t : length (take from old) ≡ from = length-front in
         let l : index ≤ length (take from old) = omega arith in
         rw (append-assoc, take-append-le index (take from old), take-take)
 
-    pub drop-over-after : (index : ℕ) → from + length new ≤ index →
+    drop-over-after : (index : ℕ) → from + length new ≤ index →
         drop index (over from new old) ≡ drop index old
     unfolding over
     drop-over-after index h =

@@ -1,9 +1,9 @@
--- Laws of little-endian numbers: length, zero, both round trips, bound. Assumes nothing.
+-- Laws of little-endian numbers: length, zero, four bytes, both round trips, bound. Assumes nothing.
 use mathlib.Core.Path.{_≡_, refl, ap, ap₂, _∙_}
 use mathlib.Core.List.{List, [], _∷_}
 use Prim.Native.Nat.{ℕ, zero, suc, _+_, _*_, _/_, _%_, _^_, _<_}
 use native.Mathlib.Omega.{arith}
-use lib.ListN.{length, getD, replicate}
+use lib.ListN.{length, getD}
 use Rattle.laws.specs.Numbers.{numberOf, littleEndian}
 
 -- ---- length ----
@@ -15,10 +15,19 @@ length-littleEndian (suc size) value = ap suc (length-littleEndian size (value /
 
 -- ---- equations ----
 
-pub littleEndian-zero : (size : ℕ) → littleEndian size 0 ≡ replicate size 0
+-- four bytes
+pub numberOf-four :
+    (first second third fourth : ℕ) →
+    numberOf (first ∷ second ∷ third ∷ fourth ∷ []) ≡ first + 256 * (second + 256 * (third + 256 * fourth))
+unfolding numberOf
+numberOf-four first second third fourth = omega arith
+
+pub littleEndian-four :
+    (value : ℕ) →
+    littleEndian 4 value ≡
+    value % 256 ∷ value / 256 % 256 ∷ value / 256 / 256 % 256 ∷ value / 256 / 256 / 256 % 256 ∷ []
 unfolding littleEndian
-littleEndian-zero zero = refl
-littleEndian-zero (suc size) = ap {B = List ℕ} (λ (bytes : List ℕ). 0 ∷ bytes) (littleEndian-zero size)
+littleEndian-four value = refl
 
 -- bytes that are all 0
 pub numberOf-zeros : (bytes : List ℕ) → ((index : ℕ) → getD bytes index 0 ≡ 0) → numberOf bytes ≡ 0

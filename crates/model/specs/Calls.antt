@@ -1,14 +1,14 @@
 -- The calls (document 01, "Public numbers and hidden outcomes" and "The disk"): formatting, both reads, and
 -- the write with its hidden outcome. Assumes nothing.
-use mathlib.Core.Bool.{Bool, true, false, cond, not}
+use mathlib.Core.Bool.{false, cond, not}
 use mathlib.Core.List.{List, [], _∷_, _++_}
 use mathlib.Core.Option.{Option, none, some}
-use Prim.Native.Nat.{ℕ, zero, suc, _+_, _*_, _-_}
+use Prim.Native.Nat.{ℕ, _*_, _-_}
 use lib.Dec.{eqb}
 use lib.ListN.{length, replicate}
 use Rattle.laws.specs.Lists.{over}
-use Rattle.model.specs.Geometry.{Geometry, areaStart}
-use Rattle.model.specs.Blocks.{Bytes, DiskAddress, blockAt, packed, zeroBlock}
+use Rattle.model.specs.Geometry.{Geometry, areaStart, blockWidth}
+use Rattle.model.specs.Blocks.{Bytes, DiskAddress, blockAt, packed}
 use Rattle.model.specs.Layout.{geometryIn, headIn, mapEntry}
 use Rattle.model.specs.HiddenTree.{End, found, unmapped, damaged, walk}
 use Rattle.model.specs.Stores.{Trace, apply, addresses}
@@ -41,10 +41,10 @@ publicRead disk number blank =
     let g = geometryIn disk in
     let entry = mapEntry g disk number in
     cond (eqb (publicReadRefusal disk number blank) 0)
-    (cond (eqb entry 0) blank (blockAt (g .blockSize) disk entry)) []
+    (cond (eqb entry 0) blank (blockAt (blockWidth g) disk entry)) []
 
 abbrev pub shownAt : Geometry → (disk blank : Bytes) → End → Bytes
-shownAt g disk blank (found address) = blockAt (g .blockSize) disk address
+shownAt g disk blank (found address) = blockAt (blockWidth g) disk address
 shownAt g disk blank unmapped = blank
 shownAt g disk blank damaged = []
 
@@ -76,8 +76,8 @@ outcomeNumber badSize = 11
 outcomeNumber damagedWalk = 12
 
 -- the first that holds: 10 or 11 for a bad hidden write, placed, 12 where a round met damage, waiting, none
-unfoldable pub outcomeOf : (refusal : ℕ) → HiddenState → Outcome
-outcomeOf refusal state =
+unfoldable pub offerOutcome : (refusal : ℕ) → HiddenState → Outcome
+offerOutcome refusal state =
     cond (eqb refusal 10) badNumber
     (cond (eqb refusal 11) badSize
     (cond (not (eqb (state .placed) 0)) placed
@@ -117,7 +117,12 @@ refusedWrite answer = record { answer = answer; rounds = 0; trace = []; outcome 
 
 abbrev pub doneWrite : (refusal : ℕ) → Run → Written
 doneWrite refusal run =
-    record { answer = 0; rounds = run .rounds; trace = run .trace; outcome = outcomeOf refusal (run .state) }
+    record {
+      answer = 0;
+      rounds = run .rounds;
+      trace = run .trace;
+      outcome = offerOutcome refusal (run .state);
+    }
 
 -- a write, with a list of this length lent
 unfoldable pub written :
@@ -130,7 +135,7 @@ written disk number content random room offer =
 
 -- the disk that a write leaves
 abbrev pub writtenDisk : Written → (disk : Bytes) → Bytes
-writtenDisk result disk = apply (geometryIn disk .blockSize) (result .trace) disk
+writtenDisk result disk = apply (blockWidth (geometryIn disk)) (result .trace) disk
 
 -- the lent list that a write leaves: its stores' addresses in front, the rest as it was
 abbrev pub writtenList : Written → (list : List DiskAddress) → List DiskAddress

@@ -17,6 +17,14 @@ pub record Geometry : Type 0 where
 
 -- ---- areas ----
 
+-- bytes that a block takes on the disk
+abbrev pub blockWidth : Geometry → ℕ
+blockWidth g = g .blockSize
+
+-- blocks of a slot: its public block, and one for each level of the hidden tree below the root
+abbrev pub slotWidth : Geometry → ℕ
+slotWidth g = g .height + 1
+
 -- entries of four bytes in a block (document 01: F)
 abbrev pub fanout : Geometry → ℕ
 fanout g = g .blockSize / 4
@@ -25,9 +33,9 @@ fanout g = g .blockSize / 4
 abbrev pub mapBlocks : Geometry → ℕ
 mapBlocks g = ceilDiv (g .publics) (fanout g)
 
--- blocks of the data area, k + 1 a slot
+-- blocks of the data area
 abbrev pub areaBlocks : Geometry → ℕ
-areaBlocks g = g .slots * (g .height + 1)
+areaBlocks g = g .slots * slotWidth g
 
 -- blocks of the bitmap, one bit for each block of the data area
 abbrev pub bitmapBlocks : Geometry → ℕ

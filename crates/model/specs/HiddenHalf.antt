@@ -3,12 +3,12 @@
 -- nothing.
 use mathlib.Core.Bool.{Bool, true, false, cond, not, _&&_, _||_}
 use mathlib.Core.List.{List, [], _∷_}
-use Prim.Native.Nat.{ℕ, suc, _+_, _-_}
+use Prim.Native.Nat.{ℕ, suc}
 use lib.Dec.{ltb}
-use Rattle.model.specs.Geometry.{Geometry, fanout}
-use Rattle.model.specs.Blocks.{Bytes, blockAt, entryAt}
-use Rattle.model.specs.Layout.{slotStart, levelAddress, isAllocated}
-use Rattle.model.specs.HiddenTree.{walk, isDamaged, isFoundAt}
+use Rattle.model.specs.Geometry.{Geometry, blockWidth}
+use Rattle.model.specs.Blocks.{Bytes, blockAt}
+use Rattle.model.specs.Layout.{levelAddress, isAllocated}
+use Rattle.model.specs.HiddenTree.{ownerOf, walk, isDamaged, isFoundAt}
 use Rattle.model.specs.Stores.{Trace}
 use Rattle.model.specs.Paths.{currentPath, writtenBack, dummyStores}
 use Rattle.model.specs.Table.{Row, rowAt, HiddenChoice, keepHidden, placeHidden, fillHidden}
@@ -30,10 +30,6 @@ isWaiting [] = false
 isWaiting (write ∷ writes) = true
 
 -- ---- whose slot ----
-
--- the reverse number, the last entry of the slot's leaf (document 01: r)
-unfoldable pub ownerOf : Geometry → (disk : Bytes) → (slot : ℕ) → ℕ
-ownerOf g disk slot = entryAt (fanout g - 1) (blockAt (g .blockSize) disk (slotStart g slot + 1))
 
 -- whether the slot holds its owner's current block
 unfoldable pub isLive : Geometry → (disk : Bytes) → (slot : ℕ) → Bool
@@ -77,7 +73,7 @@ unfoldable pub hiddenBy :
     List HiddenWrite → HiddenHalf
 hiddenBy keepHidden g disk slot random state waiting =
     half
-    (currentPath g disk (ownerOf g disk slot) slot (blockAt (g .blockSize) disk (levelAddress g slot 0)))
+    (currentPath g disk (ownerOf g disk slot) slot (blockAt (blockWidth g) disk (levelAddress g slot 0)))
     state
 hiddenBy placeHidden g disk slot random state [] = half (dummyStores g disk slot random) state
 hiddenBy placeHidden g disk slot random state (next ∷ later) =

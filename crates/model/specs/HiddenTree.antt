@@ -1,14 +1,14 @@
 -- The hidden volume's map, a tree (document 01, "The disk"): which entry a hidden number takes at each level,
--- and the walk from the root down. An entry of level j stands in a node of level j + 1 and leads to a block
--- of level j. Assumes nothing.
+-- whose slot it is, and the walk from the root down. An entry of level j stands in a node of level j + 1 and
+-- leads to a block of level j. Assumes nothing.
 use mathlib.Core.Bool.{Bool, true, false, cond}
-use mathlib.Core.List.{List, [], _∷_}
+use mathlib.Core.List.{List, _∷_}
 use Prim.Native.Nat.{ℕ, zero, suc, _+_, _*_, _-_, _/_, _%_, _^_}
 use lib.Dec.{eqb}
 use lib.ListN.{replicate}
-use Rattle.model.specs.Geometry.{Geometry, fanout, rootAddress}
+use Rattle.model.specs.Geometry.{Geometry, fanout, rootAddress, blockWidth}
 use Rattle.model.specs.Blocks.{Bytes, DiskAddress, blockAt, entryAt, zeroBlock}
-use Rattle.model.specs.Layout.{isWellFormed}
+use Rattle.model.specs.Layout.{slotStart, isWellFormed}
 
 -- the leaf that a hidden number stands in, counted from 0
 abbrev pub leafOf : Geometry → (number : ℕ) → ℕ
@@ -24,6 +24,10 @@ branchAt g number (suc level) = leafOf g number / fanout g ^ level % fanout g
 unfoldable pub span : Geometry → (level : ℕ) → ℕ
 span g zero = 1
 span g (suc level) = (fanout g - 1) * fanout g ^ level
+
+-- the reverse number, the last entry of the slot's leaf (document 01: r)
+unfoldable pub ownerOf : Geometry → (disk : Bytes) → (slot : ℕ) → ℕ
+ownerOf g disk slot = entryAt (fanout g - 1) (blockAt (blockWidth g) disk (slotStart g slot + 1))
 
 -- where a walk ends
 pub data End : Type 0 where
@@ -61,9 +65,9 @@ walkFrom g disk number (suc level) node =
     let entry = entryAt (branchAt g number (suc level)) node in
     cond (eqb entry 0) (ended g node (suc level) unmapped)
     (cond (isWellFormed g (suc level) entry)
-    (passing node (walkFrom g disk number level (blockAt (g .blockSize) disk entry)))
+    (passing node (walkFrom g disk number level (blockAt (blockWidth g) disk entry)))
     (ended g node (suc level) damaged))
 
 -- the walk for a number from the root
 abbrev pub walk : Geometry → (disk : Bytes) → (number : ℕ) → Walk
-walk g disk number = walkFrom g disk number (g .height - 1) (blockAt (g .blockSize) disk (rootAddress g))
+walk g disk number = walkFrom g disk number (g .height - 1) (blockAt (blockWidth g) disk (rootAddress g))

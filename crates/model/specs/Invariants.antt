@@ -6,10 +6,10 @@ use mathlib.Core.Logic.{_≢_}
 use Prim.Native.Nat.{ℕ, zero, suc, _+_, _*_, _-_, _/_, _%_, _<_}
 use Rattle.laws.specs.Bits.{bitAt}
 use Rattle.model.specs.Geometry.{Geometry, fanout, mapBlocks, bitmapBlocks, areaStart, rootAddress}
+use Rattle.model.specs.Geometry.{blockWidth}
 use Rattle.model.specs.Blocks.{Bytes, DiskAddress, blockAt, entryAt}
 use Rattle.model.specs.Layout.{slotOf, levelAddress, isWellFormed, mapEntry, isPlace}
-use Rattle.model.specs.HiddenTree.{span, walk, found}
-use Rattle.model.specs.HiddenHalf.{ownerOf}
+use Rattle.model.specs.HiddenTree.{ownerOf, span, walk, found}
 
 -- ---- the public volume ----
 
@@ -26,7 +26,7 @@ pub record PublicInvariant (g : Geometry) (disk : Bytes) : Type 0 where
 unfoldable pub bitmapBit : Geometry → (disk : Bytes) → (place : ℕ) → Bool
 bitmapBit g disk place =
     bitAt (place % (8 * g .blockSize))
-    (blockAt (g .blockSize) disk (1 + mapBlocks g + place / (8 * g .blockSize)))
+    (blockAt (blockWidth g) disk (1 + mapBlocks g + place / (8 * g .blockSize)))
 
 -- each set bit of the bitmap is that of a public number's place; with PublicInvariant the set bits are just
 -- these
@@ -46,11 +46,11 @@ entriesIn g (suc level) = fanout g
 -- it
 pub data Met (g : Geometry) (disk : Bytes) : (level index : ℕ) → (entry : DiskAddress) → Type 0 where
   inRoot : {level index entry : ℕ} → suc level ≡ g .height → index < entriesIn g level →
-      entry ≡ entryAt index (blockAt (g .blockSize) disk (rootAddress g)) → Met g disk level index entry
+      entry ≡ entryAt index (blockAt (blockWidth g) disk (rootAddress g)) → Met g disk level index entry
   inNode : {level index entry above node place : ℕ} → Met g disk (suc level) above node →
       isWellFormed g (suc level) node ≡ true → place < entriesIn g level →
       index ≡ above * entriesIn g level + place →
-      entry ≡ entryAt place (blockAt (g .blockSize) disk node) → Met g disk level index entry
+      entry ≡ entryAt place (blockAt (blockWidth g) disk node) → Met g disk level index entry
 
 -- what holds of an entry that is met and is not 0; the numbers below it are those n with n div span level =
 -- index

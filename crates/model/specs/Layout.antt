@@ -7,6 +7,7 @@ use lib.Dec.{ltb, leb, eqb}
 use lib.ListN.{length}
 use Rattle.laws.specs.Bits.{bitAt, setBit}
 use Rattle.model.specs.Geometry.{Geometry, Fits, fanout, mapBlocks, areaStart, blockCount, driveSize}
+use Rattle.model.specs.Geometry.{blockWidth, slotWidth}
 use Rattle.model.specs.Blocks.{Bytes, DiskAddress, blockAt, entryAt}
 
 -- ---- header ----
@@ -35,11 +36,11 @@ pub record Drive (g : Geometry) (disk : Bytes) : Type 0 where
 
 -- address of a slot's public block (document 01: A)
 abbrev pub slotStart : Geometry → (slot : ℕ) → DiskAddress
-slotStart g slot = areaStart g + slot * (g .height + 1)
+slotStart g slot = areaStart g + slot * slotWidth g
 
 -- the slot that a block of the data area belongs to; 0 below the data area, which every use has ruled out
 abbrev pub slotOf : Geometry → DiskAddress → ℕ
-slotOf g address = (address - areaStart g) / (g .height + 1)
+slotOf g address = (address - areaStart g) / slotWidth g
 
 -- the slot after a slot, in a circle
 abbrev pub nextSlot : Geometry → (slot : ℕ) → ℕ
@@ -63,7 +64,7 @@ levelAddress g slot level = slotStart g slot + levelPlace g level
 unfoldable pub isSlotBlock : Geometry → (place : ℕ) → DiskAddress → Bool
 isSlotBlock g place address =
     leb (areaStart g) address && ltb address (blockCount g) &&
-    eqb ((address - areaStart g) % (g .height + 1)) place
+    eqb ((address - areaStart g) % slotWidth g) place
 
 -- whether an address is well formed for a level
 abbrev pub isWellFormed : Geometry → (level : ℕ) → DiskAddress → Bool
@@ -73,7 +74,7 @@ isWellFormed g level address = isSlotBlock g (levelPlace g level) address
 
 -- the bit of a slot's public block, counted over the whole data area
 abbrev pub areaPlace : Geometry → (slot : ℕ) → ℕ
-areaPlace g slot = slot * (g .height + 1)
+areaPlace g slot = slot * slotWidth g
 
 -- the bitmap block that holds that bit
 abbrev pub bitAddress : Geometry → (slot : ℕ) → DiskAddress
@@ -94,12 +95,12 @@ isOneBlock g entry slot = eqb entry 0 || isShared g slot (slotOf g entry)
 
 -- whether a slot holds a public block (document 01: marked)
 unfoldable pub isAllocated : Geometry → (disk : Bytes) → (slot : ℕ) → Bool
-isAllocated g disk slot = bitAt (bitPlace g slot) (blockAt (g .blockSize) disk (bitAddress g slot))
+isAllocated g disk slot = bitAt (bitPlace g slot) (blockAt (blockWidth g) disk (bitAddress g slot))
 
 -- a slot's bitmap block with its bit 1 or 0 as asked
 unfoldable pub bitmapWith : Geometry → (disk : Bytes) → (slot : ℕ) → (isSet : Bool) → Bytes
 bitmapWith g disk slot isSet =
-    setBit (bitPlace g slot) isSet (blockAt (g .blockSize) disk (bitAddress g slot))
+    setBit (bitPlace g slot) isSet (blockAt (blockWidth g) disk (bitAddress g slot))
 
 -- ---- public map ----
 
@@ -109,7 +110,7 @@ mapAddress g number = 1 + number / fanout g
 
 -- a public number's entry: 0, or the address of its block
 unfoldable pub mapEntry : Geometry → (disk : Bytes) → (number : ℕ) → DiskAddress
-mapEntry g disk number = entryAt (number % fanout g) (blockAt (g .blockSize) disk (mapAddress g number))
+mapEntry g disk number = entryAt (number % fanout g) (blockAt (blockWidth g) disk (mapAddress g number))
 
 -- whether an entry is block A of an allocated slot
 unfoldable pub isPlace : Geometry → (disk : Bytes) → (entry : DiskAddress) → Bool

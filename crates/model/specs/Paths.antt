@@ -3,7 +3,7 @@
 use mathlib.Core.List.{List, [], _∷_, _++_}
 use Prim.Native.Nat.{ℕ, zero, suc, _+_, _-_}
 use lib.ListN.{length, take, drop}
-use Rattle.model.specs.Geometry.{Geometry, fanout, rootAddress}
+use Rattle.model.specs.Geometry.{Geometry, fanout, rootAddress, blockWidth}
 use Rattle.model.specs.Blocks.{Bytes, DiskAddress, blockAt, setEntry}
 use Rattle.model.specs.Layout.{slotStart, levelAddress}
 use Rattle.model.specs.HiddenTree.{branchAt, walk}
@@ -42,7 +42,7 @@ currentPath g disk number slot content = pathStores g number slot content (walk 
 
 -- a block stored as it is
 abbrev pub keptBlock : Geometry → (disk : Bytes) → DiskAddress → Store
-keptBlock g disk address = store address (blockAt (g .blockSize) disk address)
+keptBlock g disk address = store address (blockAt (blockWidth g) disk address)
 
 -- so many blocks from an address on, each stored as it is
 unfoldable pub keptBlocks : Geometry → (disk : Bytes) → DiskAddress → (count : ℕ) → Trace

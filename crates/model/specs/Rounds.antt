@@ -2,10 +2,10 @@
 -- the run that goes on until a round takes the call's data. Assumes nothing.
 use mathlib.Core.Bool.{Bool, true, false, cond}
 use mathlib.Core.List.{[], _∷_, _++_}
-use Prim.Native.Nat.{ℕ, zero, suc, _+_, _*_, _%_}
+use Prim.Native.Nat.{ℕ, zero, suc, _*_, _%_}
 use lib.Dec.{eqb}
 use lib.ListN.{drop}
-use Rattle.model.specs.Geometry.{Geometry, fanout}
+use Rattle.model.specs.Geometry.{Geometry, fanout, blockWidth}
 use Rattle.model.specs.Blocks.{Bytes, DiskAddress, blockAt, setEntry}
 use Rattle.model.specs.Layout.{slotStart, slotOf, nextSlot, bitAddress, bitmapWith, mapAddress}
 use Rattle.model.specs.Layout.{isShared, mapEntry}
@@ -25,7 +25,7 @@ publicStore writePublic g disk slot content = store (slotStart g slot) content
 abbrev pub mapStore : Geometry → (disk : Bytes) → (number slot : ℕ) → Store
 mapStore g disk number slot =
     store (mapAddress g number)
-    (setEntry (number % fanout g) (slotStart g slot) (blockAt (g .blockSize) disk (mapAddress g number)))
+    (setEntry (number % fanout g) (slotStart g slot) (blockAt (blockWidth g) disk (mapAddress g number)))
 
 -- a slot's bitmap block with its bit 1 or 0 as asked
 abbrev pub bitStore : Geometry → (disk : Bytes) → (slot : ℕ) → (isSet : Bool) → Store
@@ -36,7 +36,7 @@ bitStore g disk slot isSet = store (bitAddress g slot) (bitmapWith g disk slot i
 unfoldable pub movedStores : Geometry → (disk : Bytes) → (slot old : ℕ) → Trace
 movedStores g disk slot old =
     let new = bitStore g disk slot true in
-    let cleared = bitStore g (apply (g .blockSize) (new ∷ []) disk) old false in
+    let cleared = bitStore g (apply (blockWidth g) (new ∷ []) disk) old false in
     cond (isShared g slot old) (cleared ∷ []) (new ∷ cleared ∷ [])
 
 -- the bitmap's stores: of a number that had no place the new bit's block alone, else of one that moves
@@ -46,7 +46,7 @@ bitStores g disk entry slot =
 
 -- the header with the head at the next slot, its other bytes kept
 abbrev pub headerStore : Geometry → (disk : Bytes) → (slot : ℕ) → Store
-headerStore g disk slot = store 0 (setEntry 5 (nextSlot g slot) (blockAt (g .blockSize) disk 0))
+headerStore g disk slot = store 0 (setEntry 5 (nextSlot g slot) (blockAt (blockWidth g) disk 0))
 
 -- what only a round that takes the call's data stores, before its header
 unfoldable pub mapStores : PublicChoice → Geometry → (disk : Bytes) → (number slot : ℕ) → Trace
@@ -97,5 +97,5 @@ runFrom (suc most) g number content slot random disk state =
     followedBy round
     (cond (goesOn choice)
     (runFrom most g number content (nextSlot g slot) (drop (g .height * g .blockSize) random)
-    (apply (g .blockSize) round disk) (hidden .state))
+    (apply (blockWidth g) round disk) (hidden .state))
     (stopped (hidden .state)))

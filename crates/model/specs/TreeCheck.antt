@@ -5,11 +5,10 @@ use mathlib.Core.List.{List, [], _∷_, _++_}
 use Prim.Native.Nat.{ℕ, zero, suc, _+_, _*_}
 use lib.Dec.{ltb, leb, eqb}
 use Rattle.laws.specs.Checks.{Check, check, firstOf}
-use Rattle.model.specs.Geometry.{Geometry, rootAddress}
+use Rattle.model.specs.Geometry.{Geometry, rootAddress, blockWidth}
 use Rattle.model.specs.Blocks.{Bytes, DiskAddress, blockAt, entryAt}
 use Rattle.model.specs.Layout.{geometryIn, slotOf, levelAddress, isWellFormed}
-use Rattle.model.specs.HiddenTree.{span, walk, isFoundAt}
-use Rattle.model.specs.HiddenHalf.{ownerOf}
+use Rattle.model.specs.HiddenTree.{ownerOf, span, walk, isFoundAt}
 use Rattle.model.specs.Refusals.{driveChecks}
 use Rattle.model.specs.Invariants.{entriesIn}
 
@@ -44,7 +43,7 @@ abbrev pub metAtWith :
     (level first : ℕ) → (node : Bytes) → (place : ℕ) → List MetEntry
 metAtWith g disk metBelow level first node place =
     let met = entryIn g level first node place in
-    metWith g met (metBelow (met .first) (blockAt (g .blockSize) disk (met .entry)))
+    metWith g met (metBelow (met .first) (blockAt (blockWidth g) disk (met .entry)))
 
 -- what is met below a block of a level whose numbers begin with this one: nothing below hidden data; in a
 -- node place by place, a leaf's last entry left out
@@ -55,7 +54,7 @@ metBelow g disk (suc level) first node =
 
 -- what is met from the first root entry on
 abbrev pub metEntries : Geometry → (disk : Bytes) → List MetEntry
-metEntries g disk = metBelow g disk (g .height) 0 (blockAt (g .blockSize) disk (rootAddress g))
+metEntries g disk = metBelow g disk (g .height) 0 (blockAt (blockWidth g) disk (rootAddress g))
 
 -- what is met in a node at a place
 abbrev pub metAt : Geometry → (disk : Bytes) → (level first : ℕ) → (node : Bytes) → (place : ℕ) →

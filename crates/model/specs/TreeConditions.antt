@@ -6,8 +6,7 @@ use Prim.Native.Nat.{ℕ, _+_, _≤_, _<_}
 use Rattle.model.specs.Geometry.{Geometry}
 use Rattle.model.specs.Blocks.{Bytes}
 use Rattle.model.specs.Layout.{slotOf, levelAddress}
-use Rattle.model.specs.HiddenTree.{span, walk, found}
-use Rattle.model.specs.HiddenHalf.{ownerOf}
+use Rattle.model.specs.HiddenTree.{ownerOf, span, walk, found}
 use Rattle.model.specs.Conditions.{Condition, condition}
 use Rattle.model.specs.TreeCheck.{MetEntry, metEntries}
 

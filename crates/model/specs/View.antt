@@ -2,11 +2,11 @@
 -- alike. Assumes nothing.
 use mathlib.Core.Path.{_≡_}
 use mathlib.Core.Bool.{Bool, cond, _||_}
-use mathlib.Core.List.{List, [], _++_}
+use mathlib.Core.List.{[], _++_}
 use Prim.Native.Nat.{ℕ, zero, suc}
 use lib.Dec.{ltb}
 use lib.ListN.{length}
-use Rattle.model.specs.Geometry.{Geometry, rootAddress, blockCount}
+use Rattle.model.specs.Geometry.{Geometry, rootAddress, blockCount, blockWidth}
 use Rattle.model.specs.Blocks.{Bytes, DiskAddress, blockAt}
 use Rattle.model.specs.Layout.{geometryIn, isSlotBlock}
 use Rattle.model.specs.Refusals.{driveRefusal}
@@ -23,7 +23,7 @@ shownOf g address block = cond (isShown g address) block []
 unfoldable pub viewFrom : Geometry → (disk : Bytes) → DiskAddress → (count : ℕ) → Bytes
 viewFrom g disk address zero = []
 viewFrom g disk address (suc count) =
-    shownOf g address (blockAt (g .blockSize) disk address) ++ viewFrom g disk (suc address) count
+    shownOf g address (blockAt (blockWidth g) disk address) ++ viewFrom g disk (suc address) count
 
 -- the view of a drive, in the order of its addresses
 unfoldable pub viewOf : (disk : Bytes) → Bytes

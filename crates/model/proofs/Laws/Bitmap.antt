@@ -12,7 +12,7 @@ use Rattle.laws.proofs.Cases.{eq-cases}
 use Rattle.laws.proofs.Bits.{length-setBit, bitAt-setBit-same, bitAt-setBit-other}
 use Rattle.laws.proofs.Division.{ceilDiv-covers}
 use Rattle.model.specs.Geometry.{Geometry, Fits, blockCount, mapBlocks, areaBlocks, bitmapBlocks}
-use Rattle.model.specs.Geometry.{rootAddress}
+use Rattle.model.specs.Geometry.{slotWidth, blockWidth, rootAddress}
 use Rattle.model.specs.Blocks.{Bytes, blockAt, setBlock, DiskAddress}
 use Rattle.model.specs.Layout.{areaPlace, bitAddress, bitPlace, isAllocated, bitmapWith}
 use Rattle.model.specs.Invariants.{bitmapBit}
@@ -23,21 +23,21 @@ use Rattle.model.proofs.Laws.Blocks.{length-blockAt, blockAt-setBlock-s
 
 pub isAllocated-is :
     (g : Geometry) (disk : Bytes) (slot : ℕ) → isAllocated g disk slot ≡
-    bitAt (bitPlace g slot) (blockAt (g .blockSize) disk (bitAddress g slot))
+    bitAt (bitPlace g slot) (blockAt (blockWidth g) disk (bitAddress g slot))
 unfolding isAllocated
 isAllocated-is g disk slot = refl
 
 pub bitmapWith-is :
     (g : Geometry) (disk : Bytes) (slot : ℕ) (isSet : Bool) →
     bitmapWith g disk slot isSet ≡ setBit (bitPlace g slot) isSet
-    (blockAt (g .blockSize) disk (bitAddress g slot))
+    (blockAt (blockWidth g) disk (bitAddress g slot))
 unfolding bitmapWith
 bitmapWith-is g disk slot isSet = refl
 
 -- a mark depends on its bitmap block alone
 pub isAllocated-block :
     (g : Geometry) (disk other : Bytes) (slot : ℕ) →
-    blockAt (g .blockSize) disk (bitAddress g slot) ≡ blockAt (g .blockSize) other (bitAddress g slot) →
+    blockAt (blockWidth g) disk (bitAddress g slot) ≡ blockAt (blockWidth g) other (bitAddress g slot) →
     isAllocated g disk slot ≡ isAllocated g other slot
 unfolding isAllocated
 isAllocated-block g disk other slot e = ap (bitAt (bitPlace g slot)) e
@@ -55,7 +55,7 @@ isAllocated-bit g disk slot = refl
 -- a bit depends on its bitmap block alone
 pub bitmapBit-block :
     (g : Geometry) (disk other : Bytes) (place : ℕ) →
-    blockAt (g .blockSize) disk (blockOfBit g place) ≡ blockAt (g .blockSize) other (blockOfBit g place) →
+    blockAt (blockWidth g) disk (blockOfBit g place) ≡ blockAt (blockWidth g) other (blockOfBit g place) →
     bitmapBit g disk place ≡ bitmapBit g other place
 unfolding bitmapBit
 bitmapBit-block g disk other place e = ap (bitAt (place % (8 * g .blockSize))) e
@@ -86,8 +86,8 @@ module _ (g : Geometry) (f : Fits g) where
 
 pub areaPlace-apart : (g : Geometry) (slot other : ℕ) → other ≢ slot → areaPlace g other ≢ areaPlace g slot
 areaPlace-apart g slot other ne e =
-    let p : 0 < g .height + 1 = omega arith in
-    ne (sym (mul-div-cancel other p) ∙ ap (λ (n : ℕ). n / (g .height + 1)) e ∙ mul-div-cancel slot p)
+    let p : 0 < slotWidth g = omega arith in
+    ne (sym (mul-div-cancel other p) ∙ ap (λ (n : ℕ). n / slotWidth g) e ∙ mul-div-cancel slot p)
 
 -- ---- a bit set or cleared on the disk ----
 
@@ -99,29 +99,29 @@ module _ (g : Geometry) (f : Fits g) (disk : Bytes) (whole : length disk ≡ blo
   pub length-bitmapWith : (isSet : Bool) → length (bitmapWith g disk slot isSet) ≡ g .blockSize
   unfolding bitmapWith
   length-bitmapWith isSet =
-      length-setBit (bitPlace g slot) isSet (blockAt (g .blockSize) disk (bitAddress g slot))
-      ∙ length-blockAt (g .blockSize) disk (blockCount g) whole (bitAddress g slot) bitAddress-inside
+      length-setBit (bitPlace g slot) isSet (blockAt (blockWidth g) disk (bitAddress g slot))
+      ∙ length-blockAt (blockWidth g) disk (blockCount g) whole (bitAddress g slot) bitAddress-inside
 
   -- the disk with the slot's bit as asked
   abbrev pub marked : (isSet : Bool) → Bytes
-  marked isSet = setBlock (g .blockSize) disk (bitAddress g slot) (bitmapWith g disk slot isSet)
+  marked isSet = setBlock (blockWidth g) disk (bitAddress g slot) (bitmapWith g disk slot isSet)
 
-  pub blockAt-marked : (isSet : Bool) → blockAt (g .blockSize) (marked isSet) (bitAddress g slot) ≡
+  pub blockAt-marked : (isSet : Bool) → blockAt (blockWidth g) (marked isSet) (bitAddress g slot) ≡
       bitmapWith g disk slot isSet
   blockAt-marked isSet =
-      blockAt-setBlock-same (g .blockSize) disk (blockCount g) whole (bitAddress g slot) bitAddress-inside
+      blockAt-setBlock-same (blockWidth g) disk (blockCount g) whole (bitAddress g slot) bitAddress-inside
       (bitmapWith g disk slot isSet) (length-bitmapWith isSet)
 
-  bitPlace-inside : bitPlace g slot / 8 < length (blockAt (g .blockSize) disk (bitAddress g slot))
+  bitPlace-inside : bitPlace g slot / 8 < length (blockAt (blockWidth g) disk (bitAddress g slot))
   bitPlace-inside =
-      rw (length-blockAt (g .blockSize) disk (blockCount g) whole (bitAddress g slot) bitAddress-inside)
+      rw (length-blockAt (blockWidth g) disk (blockCount g) whole (bitAddress g slot) bitAddress-inside)
       (bitPlace-byte-lt g f slot)
 
   pub bitmapBit-marked-same : (isSet : Bool) → bitmapBit g (marked isSet) (areaPlace g slot) ≡ isSet
   unfolding bitmapBit bitmapWith
   bitmapBit-marked-same isSet =
       ap (bitAt (bitPlace g slot)) (blockAt-marked isSet)
-      ∙ bitAt-setBit-same (bitPlace g slot) isSet (blockAt (g .blockSize) disk (bitAddress g slot))
+      ∙ bitAt-setBit-same (bitPlace g slot) isSet (blockAt (blockWidth g) disk (bitAddress g slot))
       bitPlace-inside
 
   pub bitmapBit-marked-other :
@@ -141,19 +141,19 @@ module _ (g : Geometry) (f : Fits g) (disk : Bytes) (whole : length disk ≡ blo
           ∙ div-add-mod' (areaPlace g slot) (8 * g .blockSize))
 
       same-block : blockOfBit g place ≡ bitAddress g slot →
-          bitAt at (blockAt (g .blockSize) (marked isSet) (blockOfBit g place)) ≡
-          bitAt at (blockAt (g .blockSize) disk (blockOfBit g place))
+          bitAt at (blockAt (blockWidth g) (marked isSet) (blockOfBit g place)) ≡
+          bitAt at (blockAt (blockWidth g) disk (blockOfBit g place))
       same-block e =
-          ap (λ (n : ℕ). bitAt at (blockAt (g .blockSize) (marked isSet) n)) e
+          ap (λ (n : ℕ). bitAt at (blockAt (blockWidth g) (marked isSet) n)) e
           ∙ ap (bitAt at) (blockAt-marked isSet)
-          ∙ bitAt-setBit-other (bitPlace g slot) at isSet (blockAt (g .blockSize) disk (bitAddress g slot))
+          ∙ bitAt-setBit-other (bitPlace g slot) at isSet (blockAt (blockWidth g) disk (bitAddress g slot))
           bitPlace-inside (apart e)
-          ∙ ap (λ (n : ℕ). bitAt at (blockAt (g .blockSize) disk n)) (sym e)
+          ∙ ap (λ (n : ℕ). bitAt at (blockAt (blockWidth g) disk n)) (sym e)
 
       other-block : blockOfBit g place ≢ bitAddress g slot →
-          bitAt at (blockAt (g .blockSize) (marked isSet) (blockOfBit g place)) ≡
-          bitAt at (blockAt (g .blockSize) disk (blockOfBit g place))
+          bitAt at (blockAt (blockWidth g) (marked isSet) (blockOfBit g place)) ≡
+          bitAt at (blockAt (blockWidth g) disk (blockOfBit g place))
       other-block e =
           ap (bitAt at)
-          (blockAt-setBlock-other (g .blockSize) disk (blockCount g) whole (bitAddress g slot)
+          (blockAt-setBlock-other (blockWidth g) disk (blockCount g) whole (bitAddress g slot)
           bitAddress-inside (bitmapWith g disk slot isSet) (length-bitmapWith isSet) (blockOfBit g place) e)

@@ -8,8 +8,8 @@ use native.Mathlib.Omega.{arith}
 use lib.ListN.{length}
 use Rattle.laws.specs.Lists.{part, over}
 use Rattle.laws.proofs.Cases.{lt-cases}
-use Rattle.laws.proofs.Lists.{length-part, length-over, part-over-same, part-over-before}
-use Rattle.laws.proofs.Lists.{part-over-after, over-again}
+use Rattle.laws.proofs.Lists.{length-part, length-over, part-over-same, part-over-before, part-over-after}
+use Rattle.laws.proofs.Lists.{over-again}
 use Rattle.model.specs.Blocks.{Bytes, DiskAddress, blockAt, setBlock}
 
 -- ---- equations ----

@@ -12,7 +12,7 @@ use borrow.Author.Tests.{eq-eqb, ne-eqb}
 use Rattle.laws.specs.Checks.{firstOf}
 use Rattle.laws.proofs.Cases.{cond-false, cond-true, eq-cases}
 use Rattle.laws.proofs.Checks.{zero-of-passed}
-use Rattle.model.specs.Geometry.{Geometry}
+use Rattle.model.specs.Geometry.{Geometry, blockWidth}
 use Rattle.model.specs.Blocks.{Bytes, DiskAddress, blockAt}
 use Rattle.model.specs.Layout.{geometryIn, headIn, mapEntry}
 use Rattle.model.specs.HiddenTree.{walk, isDamaged}
@@ -30,7 +30,7 @@ use Rattle.model.proofs.Laws.Accepted.{passed-of-accepted, passed-of-hi
 
 -- what an entry shows: the caller's blank, or its block
 abbrev pub entryShown : Geometry → (disk blank : Bytes) → (entry : DiskAddress) → Bytes
-entryShown g disk blank entry = cond (eqb entry 0) blank (blockAt (g .blockSize) disk entry)
+entryShown g disk blank entry = cond (eqb entry 0) blank (blockAt (blockWidth g) disk entry)
 
 module _ (disk : Bytes) (number : ℕ) (blank : Bytes) where
   pub publicRead-done :

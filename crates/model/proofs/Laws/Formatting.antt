@@ -1,45 +1,43 @@
--- Laws of formatting (document 01, "The disk"): the front that it writes, the header that reads back, zeros
--- from the map to the root, and the data area as it was. Assumes nothing.
+-- Laws of formatting (document 01, "The disk"): the front that it writes, the header that reads back, and
+-- zeros from the map to the root. Assumes nothing.
 use mathlib.Core.Path.{_≡_, sym, ap, _∙_, subst}
 use mathlib.Core.Logic.{_≢_}
 use mathlib.Core.Bool.{false}
-use mathlib.Core.List.{[], _∷_}
-use Prim.Native.Nat.{ℕ, _+_, _*_, _-_, _%_, _≤_, _<_}
+use mathlib.Core.List.{[], _∷_, List, _++_, append-assoc}
+use Prim.Native.Nat.{ℕ, _+_, _*_, _-_, _%_, _≤_, _<_, _^_}
 use native.Mathlib.Nat.{mul-le-mul-right}
 use native.Mathlib.Omega.{arith}
-use lib.ListN.{length, take, drop, length-append, length-replicate}
-use lib.Seq.{drop-append-add}
+use lib.ListN.{length, length-append, length-replicate, getD}
 use borrow.Author.Tests.{eq-eqb, ne-eqb}
 use Rattle.laws.specs.Lists.{part, over}
-use Rattle.laws.specs.Numbers.{numberOf, littleEndian}
+use Rattle.laws.specs.Numbers.{numberOf}
 use Rattle.laws.specs.Bits.{bitAt}
 use Rattle.laws.proofs.Cases.{cond-true, cond-false}
-use Rattle.laws.proofs.Lists.{part-part, length-over, part-over-same, part-over-after, part-zeros}
-use Rattle.laws.proofs.Numbers.{numberOf-littleEndian}
+use Rattle.laws.proofs.Lists.{part-part, length-over, part-over-same, part-zeros, part-append-rest}
 use Rattle.laws.proofs.Bits.{bitAt-zeros}
 use Rattle.model.specs.Geometry.{Geometry, Fits, fanout, bitmapBlocks, rootAddress, areaStart}
-use Rattle.model.specs.Geometry.{blockCount, driveSize, isGeometry}
+use Rattle.model.specs.Geometry.{blockWidth, blockCount, driveSize, isGeometry}
 use Rattle.model.specs.Blocks.{Bytes, DiskAddress, blockAt, entryAt, packed, zeroBlock}
-use Rattle.model.specs.Layout.{geometryIn, headIn, areaPlace, isAllocated, mapAddress, mapEntry}
+use Rattle.model.specs.Layout.{geometryIn, headIn, mapAddress, mapEntry}
 use Rattle.model.specs.Refusals.{formatRefusal, driveRefusal}
 use Rattle.model.specs.Calls.{headerBlock, freshFront, formatted}
 use Rattle.model.specs.Invariants.{bitmapBit}
 use Rattle.model.proofs.Laws.Geometry.{mapAddress-lt}
-use Rattle.model.proofs.Laws.Entries.{length-packed, entryAt-replicate}
-use Rattle.model.proofs.Laws.Bitmap.{areaPlace-lt, isAllocated-bit, blockOfBit, blockOfBit-lt}
+use Rattle.model.proofs.Laws.Entries.{length-packed, entryAt-replicate, entryAt-packed}
+use Rattle.model.proofs.Laws.Bitmap.{blockOfBit, blockOfBit-lt}
 use Rattle.model.proofs.Laws.PublicMap.{mapEntry-is}
 use Rattle.model.proofs.Laws.Refusals.{Sized, sized-of-refusal, refusal-of-accepted}
 
 -- ---- the front ----
 
-pub length-headerBlock : (g : Geometry) → Fits g → length (headerBlock g) ≡ g .blockSize
+length-headerBlock : (g : Geometry) → Fits g → length (headerBlock g) ≡ g .blockSize
 unfolding headerBlock
 length-headerBlock g f =
     let entries = g .blockSize ∷ g .height ∷ g .publics ∷ g .hidden ∷ g .slots ∷ 0 ∷ [] in
     length-append (packed entries) (zeroBlock (g .blockSize - 24))
     ∙ omega (arith, length-packed entries, length-replicate {A = ℕ} (g .blockSize - 24) 0)
 
-pub length-freshFront : (g : Geometry) → Fits g → length (freshFront g) ≡ areaStart g * g .blockSize
+length-freshFront : (g : Geometry) → Fits g → length (freshFront g) ≡ areaStart g * g .blockSize
 unfolding freshFront
 length-freshFront g f =
     let rest = (areaStart g - 1) * g .blockSize in
@@ -70,10 +68,10 @@ module _ (disk : Bytes) (g : Geometry) (good : formatRefusal disk g ≡ 0) where
       let le : areaStart g ≤ blockCount g = omega arith in
       omega (arith, length-freshFront g fits-formatted, sized .whole, mul-le-mul-right (g .blockSize) le)
 
-  pub length-formatted : length (formatted disk g) ≡ length disk
+  length-formatted : length (formatted disk g) ≡ length disk
   length-formatted = rw formatted-is (length-over (freshFront g) disk 0 front-inside)
 
-  pub whole-formatted : length (formatted disk g) ≡ blockCount g * g .blockSize
+  whole-formatted : length (formatted disk g) ≡ blockCount g * g .blockSize
   whole-formatted = length-formatted ∙ sized .whole
 
   -- what lies within the front is the front's
@@ -90,21 +88,34 @@ module _ (disk : Bytes) (g : Geometry) (good : formatRefusal disk g ≡ 0) where
 
   -- ---- the header ----
 
+  abbrev header : List ℕ
+  header = g .blockSize ∷ g .height ∷ g .publics ∷ g .hidden ∷ g .slots ∷ 0 ∷ []
+
+  -- an entry of the header reads back
+  entry-formatted : (index : ℕ) → index < 6 → getD header index 0 < 2 ^ 32 →
+      entryAt index (formatted disk g) ≡ getD header index 0
+  unfolding entryAt freshFront headerBlock
+  entry-formatted index h small =
+      let zeros = zeroBlock (g .blockSize - 24) in
+      let rest = zeroBlock ((areaStart g - 1) * g .blockSize) in
+      let low : 1 ≤ areaStart g = omega arith in
+      ap numberOf
+      (part-formatted (4 * index) 4 (omega (arith, fits-formatted, mul-le-mul-right (g .blockSize) low))
+      ∙ ap (part (4 * index) 4) (append-assoc (packed header) zeros rest))
+      ∙ entryAt-packed header (zeros ++ rest) index h small
+
   pub geometry-formatted : geometryIn (formatted disk g) ≡ g
-  unfolding entryAt headerBlock freshFront over part packed littleEndian
   geometry-formatted =
-      ap geometryIn formatted-is
-      ∙ λ i. record {
-        blockSize = numberOf-littleEndian 4 (g .blockSize) (omega (arith, fits-formatted)) i;
-        height = numberOf-littleEndian 4 (g .height) (omega (arith, fits-formatted)) i;
-        publics = numberOf-littleEndian 4 (g .publics) (omega (arith, fits-formatted)) i;
-        hidden = numberOf-littleEndian 4 (g .hidden) (omega (arith, fits-formatted)) i;
-        slots = numberOf-littleEndian 4 (g .slots) (omega (arith, fits-formatted)) i;
+      λ i. record {
+        blockSize = entry-formatted 0 (omega arith) (omega (arith, fits-formatted)) i;
+        height = entry-formatted 1 (omega arith) (omega (arith, fits-formatted)) i;
+        publics = entry-formatted 2 (omega arith) (omega (arith, fits-formatted)) i;
+        hidden = entry-formatted 3 (omega arith) (omega (arith, fits-formatted)) i;
+        slots = entry-formatted 4 (omega arith) (omega (arith, fits-formatted)) i;
       }
 
-  pub head-formatted : headIn (formatted disk g) ≡ 0
-  unfolding entryAt headerBlock freshFront over part packed littleEndian numberOf
-  head-formatted = ap headIn formatted-is
+  head-formatted : headIn (formatted disk g) ≡ 0
+  head-formatted = entry-formatted 5 (omega arith) (omega arith)
 
   pub refusal-formatted : driveRefusal (formatted disk g) ≡ 0
   refusal-formatted =
@@ -116,10 +127,10 @@ module _ (disk : Bytes) (g : Geometry) (good : formatRefusal disk g ≡ 0) where
 
   -- ---- from the map to the root ----
 
-  pub blockAt-formatted-zeros :
+  blockAt-formatted-zeros :
       (address : DiskAddress) → 1 ≤ address → address < areaStart g →
-      blockAt (g .blockSize) (formatted disk g) address ≡ zeroBlock (g .blockSize)
-  unfolding blockAt part freshFront
+      blockAt (blockWidth g) (formatted disk g) address ≡ zeroBlock (g .blockSize)
+  unfolding blockAt freshFront
   blockAt-formatted-zeros address low high =
       let rest = (areaStart g - 1) * g .blockSize in
       let before = (address - 1) * g .blockSize in
@@ -129,12 +140,12 @@ module _ (disk : Bytes) (g : Geometry) (good : formatRefusal disk g ≡ 0) where
       omega (arith, length-headerBlock g fits-formatted, ap (λ (n : ℕ). n * g .blockSize) k) in
       part-formatted (address * g .blockSize) (g .blockSize)
       (omega (arith, mul-le-mul-right (g .blockSize) high))
-      ∙ ap (λ (n : ℕ). take (g .blockSize) (drop n (freshFront g))) split
-      ∙ ap (take (g .blockSize)) (drop-append-add (headerBlock g) (zeroBlock rest) before)
+      ∙ ap (λ (n : ℕ). part n (g .blockSize) (freshFront g)) split
+      ∙ part-append-rest (headerBlock g) (zeroBlock rest) before (g .blockSize)
       ∙ part-zeros before (g .blockSize) rest (omega (arith, mul-le-mul-right (g .blockSize) le))
 
   pub root-formatted :
-      (index : ℕ) → entryAt index (blockAt (g .blockSize) (formatted disk g) (rootAddress g)) ≡ 0
+      (index : ℕ) → entryAt index (blockAt (blockWidth g) (formatted disk g) (rootAddress g)) ≡ 0
   root-formatted index =
       ap (entryAt index) (blockAt-formatted-zeros (rootAddress g) (omega arith) (omega arith))
       ∙ entryAt-replicate (g .blockSize) index
@@ -154,19 +165,3 @@ module _ (disk : Bytes) (g : Geometry) (good : formatRefusal disk g ≡ 0) where
       (blockAt-formatted-zeros (blockOfBit g place) (omega arith)
       (omega (arith, blockOfBit-lt g fits-formatted place h)))
       ∙ bitAt-zeros (place % (8 * g .blockSize)) (g .blockSize)
-
-  pub isAllocated-formatted : (slot : ℕ) → slot < g .slots → isAllocated g (formatted disk g) slot ≡ false
-  isAllocated-formatted slot h =
-      isAllocated-bit g (formatted disk g) slot
-      ∙ bitmapBit-formatted (areaPlace g slot) (areaPlace-lt g fits-formatted slot h)
-
-  -- ---- the data area ----
-
-  pub blockAt-formatted-area :
-      (address : DiskAddress) → areaStart g ≤ address →
-      blockAt (g .blockSize) (formatted disk g) address ≡ blockAt (g .blockSize) disk address
-  unfolding blockAt
-  blockAt-formatted-area address h =
-      ap (part (address * g .blockSize) (g .blockSize)) formatted-is
-      ∙ part-over-after (freshFront g) disk 0 front-inside (address * g .blockSize) (g .blockSize)
-      (omega (arith, length-freshFront g fits-formatted, mul-le-mul-right (g .blockSize) h))

@@ -1,41 +1,44 @@
--- Laws of the geometry: what an accepted one says, where its areas lie, and when two disks state the same.
--- Assumes nothing.
+-- Laws of the geometry: what an accepted one says, its test case by case, where its areas lie, and when two
+-- disks state the same. Assumes nothing.
 use mathlib.Core.Path.{_≡_, refl, sym, subst}
 use mathlib.Core.Logic.{⊎-elim}
-use mathlib.Core.Bool.{true, _&&_}
+use mathlib.Core.Bool.{true, _&&_, false, and-false}
 use mathlib.Core.List.{List, [], _∷_}
 use Prim.Native.Nat.{ℕ, _+_, _*_, _-_, _/_, _^_, _≤_, _<_}
 use native.Mathlib.Nat.{mul-le-mul-right}
 use native.Mathlib.Omega.{arith}
 use lib.Dec.{leb, ltb, eqb}
-use borrow.Author.Tests.{ltb-true, leb-true, eqb-true}
+use borrow.Author.Tests.{ltb-true, leb-true, eqb-true, lt-ltb, le-ltb, le-leb, lt-leb}
 use Rattle.laws.proofs.Cases.{and-left, and-right, or-cases, true-is-not-false}
 use Rattle.laws.proofs.Division.{div-ceilDiv-lt}
 use Rattle.model.specs.Geometry.{Geometry, Fits, fanout, mapBlocks, areaBlocks, rootAddress, blockCount}
-use Rattle.model.specs.Geometry.{treeCapacity, blockSizes, isOneOf, isGeometry}
+use Rattle.model.specs.Geometry.{slotWidth, treeCapacity, blockSizes, isOneOf, isGeometry}
 use Rattle.model.specs.Blocks.{Bytes, entryAt}
 use Rattle.model.specs.Layout.{slotStart, areaPlace, bitAddress, mapAddress, geometryIn}
 
 -- ---- an accepted geometry ----
 
-record Size (n : ℕ) : Type 0 where
-  low : 32 ≤ n
-  high : n ≤ 4096
-  entries : n ≡ 4 * (n / 4)
+pub record BlockSize (n : ℕ) : Type 0 where
+  pub low : 32 ≤ n
+  pub high : n ≤ 4096
+  pub entries : n ≡ 4 * (n / 4)
 
 -- the facts of a block size from a list of numbers that have them
-abbrev AllSizes : List ℕ → Type 0
-AllSizes [] = Unit {0}
-AllSizes (m ∷ ms) = Size m × AllSizes ms
+abbrev AllBlockSizes : List ℕ → Type 0
+AllBlockSizes [] = Unit {0}
+AllBlockSizes (m ∷ ms) = BlockSize m × AllBlockSizes ms
 
-size-in : (n : ℕ) (ms : List ℕ) → AllSizes ms → isOneOf n ms ≡ true → Size n
+size-in : (n : ℕ) (ms : List ℕ) → AllBlockSizes ms → isOneOf n ms ≡ true → BlockSize n
 size-in n [] s e = true-is-not-false e refl
 size-in n (m ∷ ms) s e =
-    ⊎-elim (λ p. subst Size (sym (eqb-true n m p)) (s .0)) (λ p. size-in n ms (s .1) p)
+    ⊎-elim (λ p. subst BlockSize (sym (eqb-true n m p)) (s .0)) (λ p. size-in n ms (s .1) p)
     (or-cases (eqb n m) (isOneOf n ms) e)
 
-sizes : AllSizes blockSizes
+sizes : AllBlockSizes blockSizes
 sizes = omega arith
+
+pub size-of-isOneOf : (n : ℕ) → isOneOf n blockSizes ≡ true → BlockSize n
+size-of-isOneOf n e = size-in n blockSizes sizes e
 
 pub fits-of-isGeometry : (g : Geometry) → isGeometry g ≡ true → Fits g
 unfolding isGeometry
@@ -56,7 +59,7 @@ fits-of-isGeometry g e =
     let ec = and-left c (leb 1 (g .hidden)) ed in
     let eb = and-left b (leb 1 (g .publics)) ec in
     let ea = and-left a (leb (g .height) 4) eb in
-    let size = size-in (g .blockSize) blockSizes sizes (and-left h (leb 2 (g .height)) ea) in
+    let size = size-of-isOneOf (g .blockSize) (and-left h (leb 2 (g .height)) ea) in
     let most : blockCount g ≤ 2 ^ 31 - 1 = leb-true (blockCount g) (2 ^ 31 - 1) (and-right r last e) in
     record {
       size-low = size .low;
@@ -72,6 +75,60 @@ fits-of-isGeometry g e =
       blocks-high = omega arith;
     }
 
+-- ---- the test, case by case ----
+
+module _ (g : Geometry) where
+  pub refused-size : isOneOf (g .blockSize) blockSizes ≡ false → false ≡ isGeometry g
+  unfolding isGeometry
+  refused-size e = rw e
+
+  pub refused-low : g .height < 2 → false ≡ isGeometry g
+  unfolding isGeometry
+  refused-low h = simp (lt-leb _ _ h, and-false)
+
+  pub refused-high : 4 < g .height → false ≡ isGeometry g
+  unfolding isGeometry
+  refused-high h = simp (lt-leb _ _ h, and-false)
+
+  pub refused-publics : g .publics < 1 → false ≡ isGeometry g
+  unfolding isGeometry
+  refused-publics h = simp (lt-leb _ _ h, and-false)
+
+  pub refused-hidden : g .hidden < 1 → false ≡ isGeometry g
+  unfolding isGeometry
+  refused-hidden h = simp (lt-leb _ _ h, and-false)
+
+  pub refused-public-slots : g .slots ≤ g .publics → false ≡ isGeometry g
+  unfolding isGeometry
+  refused-public-slots h = simp (le-ltb _ _ h, and-false)
+
+  pub refused-hidden-slots : g .slots ≤ g .hidden → false ≡ isGeometry g
+  unfolding isGeometry
+  refused-hidden-slots h = simp (le-ltb _ _ h, and-false)
+
+  pub refused-tree : treeCapacity g < g .hidden → false ≡ isGeometry g
+  unfolding isGeometry
+  refused-tree h = simp (lt-leb (g .hidden) (treeCapacity g) h, and-false)
+
+  -- all tests but the last hold
+  pub left-to-blocks :
+      isOneOf (g .blockSize) blockSizes ≡ true → 2 ≤ g .height → g .height ≤ 4 → 1 ≤ g .publics →
+      1 ≤ g .hidden →
+      g .publics < g .slots → g .hidden < g .slots → g .hidden ≤ treeCapacity g →
+      leb (blockCount g) 2147483647 ≡ isGeometry g
+  unfolding isGeometry
+  left-to-blocks e a b c d p q r =
+      rw (
+        e,
+        le-leb 2 (g .height) a,
+        le-leb (g .height) 4 b,
+        le-leb 1 (g .publics) c,
+        le-leb 1 (g .hidden) d,
+        lt-ltb (g .publics) (g .slots) p,
+        lt-ltb (g .hidden) (g .slots) q,
+        le-leb (g .hidden) (treeCapacity g) r,
+      )
+
 -- ---- entries of a block ----
 
 pub fanout-low : (g : Geometry) → Fits g → 8 ≤ fanout g
@@ -86,8 +143,8 @@ mapAddress-lt g f number h =
 
 -- a slot's blocks, counted over the data area
 pub slot-place-lt : (g : Geometry) (slot place : ℕ) → slot < g .slots → place ≤ g .height →
-    slot * (g .height + 1) + place < areaBlocks g
-slot-place-lt g slot place h k = omega (arith, mul-le-mul-right (g .height + 1) h)
+    slot * slotWidth g + place < areaBlocks g
+slot-place-lt g slot place h k = omega (arith, mul-le-mul-right (slotWidth g) h)
 
 pub bitAddress-lt : (g : Geometry) → Fits g → (slot : ℕ) → slot < g .slots → bitAddress g slot < rootAddress g
 bitAddress-lt g f slot h =

@@ -9,13 +9,14 @@ use native.Mathlib.Omega.{arith}
 use lib.ListN.{length}
 use Rattle.laws.proofs.Cases.{cond-cases}
 use Rattle.laws.proofs.Members.{All}
-use Rattle.model.specs.Geometry.{Geometry, Fits, blockCount}
+use Rattle.model.specs.Geometry.{Geometry, Fits, blockCount, blockWidth}
 use Rattle.model.specs.Blocks.{Bytes, blockAt}
 use Rattle.model.specs.Layout.{levelAddress, isAllocated}
 use Rattle.model.specs.Table.{Row, keepPublic, writePublic, HiddenChoice, keepHidden, placeHidden}
 use Rattle.model.specs.Table.{fillHidden}
 use Rattle.model.specs.HiddenHalf.{HiddenWrite, HiddenState, HiddenHalf, isWaiting, isLive, isBlocked}
-use Rattle.model.specs.HiddenHalf.{ownerOf, hiddenBy, rowOf, hiddenHalf}
+use Rattle.model.specs.HiddenTree.{ownerOf}
+use Rattle.model.specs.HiddenHalf.{hiddenBy, rowOf, hiddenHalf}
 use Rattle.model.proofs.Laws.Geometry.{slot-block-lt}
 use Rattle.model.proofs.Laws.Table.{rowAt-ruled}
 use Rattle.model.proofs.Laws.Paths.{Hides, blockAt-whole, writtenBack-hides, dummyStores-hides}
@@ -62,7 +63,7 @@ module _ (g : Geometry) (f : Fits g) (disk : Bytes) (whole : length disk ≡ blo
       record {
         hides =
             currentPath-hides g f disk whole slot inside (ownerOf g disk slot)
-            (blockAt (g .blockSize) disk (levelAddress g slot 0))
+            (blockAt (blockWidth g) disk (levelAddress g slot 0))
             (blockAt-whole g f disk whole (levelAddress g slot 0)
             (slot-block-lt g slot (g .height) inside (omega arith)));
         waiting = kept;

@@ -10,7 +10,7 @@ use lib.ListN.{length}
 use borrow.Author.Tests.{eq-eqb}
 use Rattle.laws.proofs.Cases.{cond-cases}
 use Rattle.laws.proofs.Members.{All, all-map}
-use Rattle.model.specs.Geometry.{Geometry, Fits, mapBlocks, rootAddress, blockCount}
+use Rattle.model.specs.Geometry.{Geometry, Fits, mapBlocks, rootAddress, blockCount, blockWidth}
 use Rattle.model.specs.Blocks.{Bytes, DiskAddress, blockAt}
 use Rattle.model.specs.Layout.{slotStart, slotOf, bitAddress, isOneBlock, mapAddress, mapEntry}
 use Rattle.model.specs.Stores.{Trace, apply, addresses}
@@ -66,7 +66,7 @@ module _ (g : Geometry) (f : Fits g) (disk : Bytes) (whole : length disk ≡ blo
     all-map (InBitmap g) (InFront g) (addresses bits) (λ a h. (omega arith, h .1)) bits-inBitmap,
   )
 
-  mapStore-stored : Stored (g .blockSize) (blockCount g) (mapStore g disk number slot)
+  mapStore-stored : Stored (blockWidth g) (blockCount g) (mapStore g disk number slot)
   mapStore-stored = (
     omega (arith, mapAddress-lt g f number counted),
     length-mapBlockWith g f disk whole number counted (slotStart g slot),
@@ -74,7 +74,7 @@ module _ (g : Geometry) (f : Fits g) (disk : Bytes) (whole : length disk ≡ blo
 
   pub mapStores-stored :
       (choice : PublicChoice) →
-      All (Stored (g .blockSize) (blockCount g)) (mapStores choice g disk number slot)
+      All (Stored (blockWidth g) (blockCount g)) (mapStores choice g disk number slot)
   unfolding mapStores
   mapStores-stored keepPublic = tt
   mapStores-stored writePublic =
@@ -84,25 +84,25 @@ module _ (g : Geometry) (f : Fits g) (disk : Bytes) (whole : length disk ≡ blo
   pub lastAt-mapStores-map :
       (other : ℕ) → other < g .publics →
       lastAt (mapStores writePublic g disk number slot) (mapAddress g other)
-      (blockAt (g .blockSize) disk (mapAddress g other)) ≡
-      blockAt (g .blockSize) (mapped g f disk whole number counted (slotStart g slot)) (mapAddress g other)
+      (blockAt (blockWidth g) disk (mapAddress g other)) ≡
+      blockAt (blockWidth g) (mapped g f disk whole number counted (slotStart g slot)) (mapAddress g other)
   unfolding mapStores apply
   lastAt-mapStores-map other h =
       lastAt-append (mapStore g disk number slot ∷ []) bits (mapAddress g other) _
       ∙ lastAt-outside bits (mapAddress g other) _
       (all-map (InBitmap g) (λ (a : ℕ). mapAddress g other ≢ a) (addresses bits)
       (λ a l e. omega (arith, mapAddress-lt g f other h)) bits-inBitmap)
-      ∙ sym (blockAt-apply (g .blockSize) (blockCount g) (mapStore g disk number slot ∷ []) disk
+      ∙ sym (blockAt-apply (blockWidth g) (blockCount g) (mapStore g disk number slot ∷ []) disk
       (mapAddress g other) whole (mapStore-stored, tt))
 
   -- what they leave in a bitmap block
   pub lastAt-mapStores-bit :
       (address : DiskAddress) → 1 + mapBlocks g ≤ address →
-      lastAt (mapStores writePublic g disk number slot) address (blockAt (g .blockSize) disk address) ≡
-      blockAt (g .blockSize) (withBits g f disk whole slot inside (mapEntry g disk number) old) address
+      lastAt (mapStores writePublic g disk number slot) address (blockAt (blockWidth g) disk address) ≡
+      blockAt (blockWidth g) (withBits g f disk whole slot inside (mapEntry g disk number) old) address
   unfolding mapStores
   lastAt-mapStores-bit address h =
       lastAt-other (mapStore g disk number slot) bits address _
       (λ e. omega (arith, mapAddress-lt g f number counted))
-      ∙ sym (blockAt-apply (g .blockSize) (blockCount g) bits disk address whole
+      ∙ sym (blockAt-apply (blockWidth g) (blockCount g) bits disk address whole
       (bitStores-stored g f disk whole slot inside (mapEntry g disk number) old))

@@ -11,7 +11,7 @@ use lib.ListN.{length, drop, replicate, length-replicate, length-drop}
 use lib.Seq.{length-take-le}
 use Rattle.laws.proofs.Cases.{cond-cases}
 use Rattle.laws.proofs.Members.{All, all-append}
-use Rattle.model.specs.Geometry.{Geometry, Fits, fanout, rootAddress, blockCount}
+use Rattle.model.specs.Geometry.{Geometry, Fits, fanout, rootAddress, blockCount, blockWidth}
 use Rattle.model.specs.Blocks.{Bytes, DiskAddress, blockAt, entryAt, setEntry, zeroBlock}
 use Rattle.model.specs.Layout.{slotStart, levelAddress, isWellFormed}
 use Rattle.model.specs.HiddenTree.{branchAt, leafOf, Walk, walkFrom, walk}
@@ -51,7 +51,7 @@ pub addressesFrom-suc :
 unfolding addressesFrom
 addressesFrom-suc address count = refl
 
-pub addressesFrom-snoc :
+addressesFrom-snoc :
     (address : DiskAddress) (count : ℕ) →
     addressesFrom address (suc count) ≡ addressesFrom address count ++ ((address + count) ∷ [])
 unfolding addressesFrom
@@ -60,7 +60,7 @@ addressesFrom-snoc address (suc count) =
     let e : suc address + count ≡ address + suc count = omega arith in
     ap {B = List ℕ} (λ (rest : List ℕ). address ∷ rest) (addressesFrom-snoc (suc address) count ∙ rw e)
 
-pub addresses-keptBlocks :
+addresses-keptBlocks :
     (g : Geometry) (disk : Bytes) (address count : ℕ) →
     addresses (keptBlocks g disk address count) ≡ addressesFrom address count
 unfolding addresses keptBlocks addressesFrom
@@ -68,7 +68,7 @@ addresses-keptBlocks g disk address zero = refl
 addresses-keptBlocks g disk address (suc count) =
     ap {B = List ℕ} (λ (rest : List ℕ). address ∷ rest) (addresses-keptBlocks g disk (suc address) count)
 
-pub addresses-randomBlocks :
+addresses-randomBlocks :
     (g : Geometry) (address count : ℕ) (random : Bytes) →
     addresses (randomBlocks g address count random) ≡ addressesFrom address count
 unfolding addresses randomBlocks addressesFrom
@@ -77,7 +77,7 @@ addresses-randomBlocks g address (suc count) random =
     ap {B = List ℕ} (λ (rest : List ℕ). address ∷ rest)
     (addresses-randomBlocks g (suc address) count (drop (g .blockSize) random))
 
-pub addresses-nodeStores :
+addresses-nodeStores :
     (g : Geometry) (number slot : ℕ) (nodes : List Bytes) →
     addresses (nodeStores g number slot nodes) ≡ addressesFrom (slotStart g slot + 1) (length nodes)
 unfolding addresses nodeStores addressesFrom
@@ -101,7 +101,7 @@ module _ (g : Geometry) (f : Fits g) where
       let p : 0 < fanout g = omega (arith, fanout-low g f) in
       omega (arith, mod-lt (leafOf g number / fanout g ^ level) p, f .size-entries)
 
-  pub length-linkedNode :
+  length-linkedNode :
       (number slot level : ℕ) (node : Bytes) → WholeBlock g node →
       WholeBlock g (linkedNode g number slot level node)
   unfolding linkedNode
@@ -115,7 +115,7 @@ module _ (g : Geometry) (f : Fits g) where
       length-setEntry (branchAt g number (suc level)) (levelAddress g slot (suc level)) node
       (omega (arith, branchAt-fits number (suc level))) ∙ h
 
-  pub nodeStores-whole :
+  nodeStores-whole :
       (number slot : ℕ) (nodes : List Bytes) → All (WholeBlock g) nodes →
       All (WholeStore g) (nodeStores g number slot nodes)
   unfolding nodeStores
@@ -124,7 +124,7 @@ module _ (g : Geometry) (f : Fits g) where
       all-append (WholeStore g) (nodeStores g number slot below) _ (nodeStores-whole number slot below (h .1))
       (length-linkedNode number slot (length below) node (h .0), tt)
 
-  pub randomBlocks-whole :
+  randomBlocks-whole :
       (address count : ℕ) (random : Bytes) → count * g .blockSize ≤ length random →
       All (WholeStore g) (randomBlocks g address count random)
   unfolding randomBlocks
@@ -140,10 +140,10 @@ module _ (g : Geometry) (f : Fits g) where
 
   module _ (disk : Bytes) (whole : length disk ≡ blockCount g * g .blockSize) where
     pub blockAt-whole :
-        (address : DiskAddress) → address < blockCount g → WholeBlock g (blockAt (g .blockSize) disk address)
-    blockAt-whole address h = length-blockAt (g .blockSize) disk (blockCount g) whole address h
+        (address : DiskAddress) → address < blockCount g → WholeBlock g (blockAt (blockWidth g) disk address)
+    blockAt-whole address h = length-blockAt (blockWidth g) disk (blockCount g) whole address h
 
-    root-whole : WholeBlock g (blockAt (g .blockSize) disk (rootAddress g))
+    root-whole : WholeBlock g (blockAt (blockWidth g) disk (rootAddress g))
     root-whole = blockAt-whole (rootAddress g) (rootAddress-lt g)
 
     keptBlocks-whole :
@@ -165,7 +165,7 @@ module _ (g : Geometry) (f : Fits g) where
           whole = (h, zeroBlocks-whole level);
         }
 
-    pub walkFrom-nodes :
+    walkFrom-nodes :
         (number level : ℕ) (node : Bytes) → WholeBlock g node →
         Nodes g (suc level) (walkFrom g disk number level node .nodes)
     unfolding walkFrom
@@ -173,7 +173,7 @@ module _ (g : Geometry) (f : Fits g) where
     walkFrom-nodes number (suc level) node h =
         cond-cases Done (eqb entry 0) (λ _. ended-nodes node (suc level) h)
         (λ _. cond-cases Done (isWellFormed g (suc level) entry)
-        (λ e. inner (walkFrom-nodes number level (blockAt (g .blockSize) disk entry)
+        (λ e. inner (walkFrom-nodes number level (blockAt (blockWidth g) disk entry)
         (blockAt-whole entry (slotBlock-of g (suc level) entry e .address-inside))))
         (λ _. ended-nodes node (suc level) h))
       where
@@ -187,11 +187,11 @@ module _ (g : Geometry) (f : Fits g) where
         inner below = record { counted = ap suc (below .counted); whole = (h, below .whole) }
 
     -- a walk has a node for each level of the tree
-    pub walk-nodes : (number : ℕ) → Nodes g (g .height) (walk g disk number .nodes)
-    walk-nodes number =
+    pub walk-nodes-sized : (number : ℕ) → Nodes g (g .height) (walk g disk number .nodes)
+    walk-nodes-sized number =
         let e : suc (g .height - 1) ≡ g .height = omega (arith, f .height-low) in
         rw e at (walkFrom-nodes number (g .height - 1)
-        (blockAt (g .blockSize) disk (rootAddress g)) root-whole)
+        (blockAt (blockWidth g) disk (rootAddress g)) root-whole)
 
     module _ (slot : ℕ) (inside : slot < g .slots) where
       -- ---- the three kinds of trace ----
@@ -248,4 +248,4 @@ module _ (g : Geometry) (f : Fits g) where
           (number : ℕ) (content : Bytes) → WholeBlock g content →
           Hides g slot (currentPath g disk number slot content)
       currentPath-hides number content sized =
-          pathStores-hides number content (walk g disk number .nodes) sized (walk-nodes number)
+          pathStores-hides number content (walk g disk number .nodes) sized (walk-nodes-sized number)

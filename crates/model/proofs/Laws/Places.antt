@@ -1,15 +1,19 @@
--- Laws of the places of public blocks: what a place is, an entry that is 0 or one of the drive's slots, and a
--- number whose entry is 0 or a place. Assumes nothing.
-use mathlib.Core.Path.{_≡_, ap, _∙_}
+-- Laws of the places of public blocks: what a place is, the test of an entry case by case, an entry that is 0
+-- or one of the drive's slots, and a number whose entry is 0 or a place. Assumes nothing.
+use mathlib.Core.Path.{_≡_, ap, _∙_, sym}
 use mathlib.Core.Logic.{_≢_, _⊎_, inl, inr}
-use mathlib.Core.Bool.{true, false}
-use Prim.Native.Nat.{ℕ, _<_}
+use mathlib.Core.Bool.{true, false, not, _||_}
+use Prim.Native.Nat.{ℕ, _<_, _*_, _-_, _/_, _%_, _≤_}
 use native.Mathlib.Omega.{arith}
-use Rattle.laws.proofs.Cases.{and-left, and-right, and-both, true-is-not-false}
-use Rattle.model.specs.Geometry.{Geometry}
+use native.Mathlib.Nat.{div-lt-iff-lt-mul}
+use lib.Dec.{eqb}
+use borrow.Author.Tests.{eq-eqb, ne-eqb, not-false}
+use Rattle.laws.proofs.Cases.{and-left, and-right, and-both, true-is-not-false, and-false-left}
+use Rattle.model.specs.Geometry.{Geometry, slotWidth, areaStart, blockCount}
 use Rattle.model.specs.Blocks.{Bytes, DiskAddress}
 use Rattle.model.specs.Layout.{isAllocated, isPlace, isSlotBlock, mapEntry, slotOf, slotStart}
 use Rattle.model.proofs.Laws.Slots.{SlotBlock, isSlotBlock-slotStart, slotBlock-of, slotOf-slotStart}
+use Rattle.model.proofs.Laws.Slots.{isSlotBlock-below, isSlotBlock-past, isSlotBlock-inside}
 
 -- ---- an entry that is a place ----
 
@@ -19,12 +23,18 @@ pub record Place (g : Geometry) (disk : Bytes) (entry : DiskAddress) : Type 0 wh
   pub entry-is : entry ≡ slotStart g (slotOf g entry)
   pub allocated : isAllocated g disk (slotOf g entry) ≡ true
 
+pub isSlotBlock-of-isPlace :
+    (g : Geometry) (disk : Bytes) (entry : DiskAddress) → isPlace g disk entry ≡ true →
+    isSlotBlock g 0 entry ≡ true
+unfolding isPlace
+isSlotBlock-of-isPlace g disk entry e =
+    and-left (isSlotBlock g 0 entry) (isAllocated g disk (slotOf g entry)) e
+
 pub place-of-isPlace :
     (g : Geometry) (disk : Bytes) (entry : DiskAddress) → isPlace g disk entry ≡ true → Place g disk entry
 unfolding isPlace
 place-of-isPlace g disk entry e =
-    let block =
-    slotBlock-of g 0 entry (and-left (isSlotBlock g 0 entry) (isAllocated g disk (slotOf g entry)) e) in
+    let block = slotBlock-of g 0 entry (isSlotBlock-of-isPlace g disk entry e) in
     record {
       slot-inside = block .slot-inside;
       entry-is = omega (arith, block .address-is);
@@ -44,6 +54,49 @@ isPlace-of-place g disk entry place =
     ap (isPlace g disk) (place .entry-is)
     ∙ isPlace-slotStart g disk (slotOf g entry) (place .slot-inside) (place .allocated)
 
+-- ---- the test of an entry, by the start of the data area and a slot's width ----
+
+module _ (g : Geometry) (disk : Bytes) (entry : DiskAddress) (start : ℕ) (e : start ≡ areaStart g)
+    (width : ℕ) (w : width ≡ slotWidth g) where
+  no-place : isSlotBlock g 0 entry ≡ false → false ≡ isPlace g disk entry
+  unfolding isPlace
+  no-place p = sym (and-false-left (isAllocated g disk (slotOf g entry)) p)
+
+  pub isPlace-below : entry < start → false ≡ isPlace g disk entry
+  isPlace-below h = no-place (isSlotBlock-below g 0 entry (omega arith))
+
+  module _ (low : start ≤ entry) where
+    pub isPlace-past : g .slots * width ≤ entry - start → false ≡ isPlace g disk entry
+    isPlace-past h = no-place (isSlotBlock-past g 0 entry (omega (arith, rw w at h)))
+
+    module _ (high : entry - start < g .slots * width) where
+      -- within the data area the place in the slot decides
+      at-front : isSlotBlock g 0 entry ≡ eqb ((entry - start) % width) 0
+      at-front = rw (w, e) (isSlotBlock-inside g 0 entry (omega arith) (omega (arith, rw w at high)))
+
+      pub isPlace-inside-slot : (entry - start) % width ≢ 0 → false ≡ isPlace g disk entry
+      isPlace-inside-slot f = no-place (at-front ∙ ne-eqb ((entry - start) % width) 0 f)
+
+      pub isPlace-front :
+          (entry - start) % width ≡ 0 →
+          isAllocated g disk ((entry - start) / width) ≡ isPlace g disk entry
+      unfolding isPlace
+      isPlace-front z =
+          let front = at-front ∙ eq-eqb ((entry - start) % width) 0 z in
+          rw (front, w, e)
+
+      pub slot-inside : (entry - start) / width < g .slots
+      slot-inside = let some : 0 < width = omega arith in div-lt-iff-lt-mul some .1 high
+
+-- an entry that is not refused is on the drive
+pub place-inside :
+    (g : Geometry) (disk : Bytes) (entry : DiskAddress) → not (eqb entry 0 || isPlace g disk entry) ≡ false →
+    entry ≢ 0 → entry < blockCount g
+place-inside g disk entry p some =
+    let none : eqb entry 0 ≡ false = ne-eqb entry 0 some in
+    let place : isPlace g disk entry ≡ true = not-false (isPlace g disk entry) (rw none at p) in
+    slotBlock-of g 0 entry (isSlotBlock-of-isPlace g disk entry place) .address-inside
+
 -- ---- a number's entry ----
 
 -- 0, or block A of one of the drive's slots
@@ -59,11 +112,10 @@ Placed g disk number = (mapEntry g disk number ≡ 0) ⊎ (isPlace g disk (mapEn
 
 pub old-of-placed :
     (g : Geometry) (disk : Bytes) (number : ℕ) → Placed g disk number → OldPlace g (mapEntry g disk number)
-unfolding isPlace
 old-of-placed g disk number (inl e) = inl e
 old-of-placed g disk number (inr e) =
     let entry = mapEntry g disk number in
-    inr (slotBlock-of g 0 entry (and-left (isSlotBlock g 0 entry) (isAllocated g disk (slotOf g entry)) e))
+    inr (slotBlock-of g 0 entry (isSlotBlock-of-isPlace g disk entry e))
 
 -- it is not in a free slot
 pub placed-apart :

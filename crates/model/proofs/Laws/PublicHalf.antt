@@ -13,7 +13,7 @@ use borrow.Author.Tests.{eq-eqb, ne-eqb, eqb-true, eqb-false}
 use Rattle.laws.specs.Bits.{setBit}
 use Rattle.laws.proofs.Cases.{bool-cases}
 use Rattle.laws.proofs.Members.{All}
-use Rattle.model.specs.Geometry.{Geometry, Fits, blockCount}
+use Rattle.model.specs.Geometry.{Geometry, Fits, blockCount, blockWidth}
 use Rattle.model.specs.Blocks.{Bytes, DiskAddress, blockAt}
 use Rattle.model.specs.Layout.{slotOf, areaPlace, bitAddress, bitPlace, isShared, isOneBlock}
 use Rattle.model.specs.Layout.{bitmapWith, mapAddress, mapEntry}
@@ -27,8 +27,7 @@ use Rattle.model.proofs.Laws.Slots.{SlotBlock}
 use Rattle.model.proofs.Laws.Bitmap.{length-bitmapWith, marked, blockAt-marked, areaPlace-apart}
 use Rattle.model.proofs.Laws.Bitmap.{bitmapBit-marked-other, bitmapBit-marked-same}
 use Rattle.model.proofs.Laws.Stores.{Stored}
--- what it says of old places, and of each member of a list
-pub use Rattle.laws.proofs.Members.{all-map}
+-- what it says of old places
 pub use Rattle.model.proofs.Laws.Places.{OldPlace, entry-not-zero}
 
 -- ---- the bitmap's stores ----
@@ -41,7 +40,7 @@ module _ (g : Geometry) (f : Fits g) (disk : Bytes) (whole : length disk ≡ blo
 
   whole-new : length withNew ≡ blockCount g * g .blockSize
   whole-new =
-      length-setBlock (g .blockSize) disk (blockCount g) whole _
+      length-setBlock (blockWidth g) disk (blockCount g) whole _
       (omega (arith, bitAddress-lt g f slot inside)) _
       (length-bitmapWith g f disk whole slot inside true) ∙ whole
 
@@ -76,7 +75,7 @@ module _ (g : Geometry) (f : Fits g) (disk : Bytes) (whole : length disk ≡ blo
   bitStores-both entry ne e =
       let old = slotOf g entry in
       let same = eqb-true (bitAddress g slot) (bitAddress g old) e in
-      let block : blockAt (g .blockSize) withNew (bitAddress g old) ≡ bitmapWith g disk slot true =
+      let block : blockAt (blockWidth g) withNew (bitAddress g old) ≡ bitmapWith g disk slot true =
       rw (sym same) (blockAt-marked g f disk whole slot inside true) in
       bitStores-shared entry ne e ∙ rw (block, sym same)
 
@@ -87,9 +86,9 @@ module _ (g : Geometry) (f : Fits g) (disk : Bytes) (whole : length disk ≡ blo
   unfolding bitmapWith
   bitStores-each entry ne e =
       let old = slotOf g entry in
-      let block : blockAt (g .blockSize) withNew (bitAddress g old) ≡
-      blockAt (g .blockSize) disk (bitAddress g old) =
-      blockAt-setBlock-other (g .blockSize) disk (blockCount g) whole (bitAddress g slot)
+      let block : blockAt (blockWidth g) withNew (bitAddress g old) ≡
+      blockAt (blockWidth g) disk (bitAddress g old) =
+      blockAt-setBlock-other (blockWidth g) disk (blockCount g) whole (bitAddress g slot)
       (omega (arith, bitAddress-lt g f slot inside)) (bitmapWith g disk slot true)
       (length-bitmapWith g f disk whole slot inside true) (bitAddress g old)
       (λ same. eqb-false (bitAddress g slot) (bitAddress g old) e (sym same)) in
@@ -98,11 +97,11 @@ module _ (g : Geometry) (f : Fits g) (disk : Bytes) (whole : length disk ≡ blo
   module _ (entry : DiskAddress) (old : OldPlace g entry) where
     -- the disk with the bits as a round leaves them
     abbrev pub withBits : Bytes
-    withBits = apply (g .blockSize) (bitStores g disk entry slot) disk
+    withBits = apply (blockWidth g) (bitStores g disk entry slot) disk
 
     withBits-none : entry ≡ 0 → withBits ≡ withNew
     unfolding apply
-    withBits-none e = ap (λ (xs : Trace). apply (g .blockSize) xs disk) (bitStores-none entry e)
+    withBits-none e = ap (λ (xs : Trace). apply (blockWidth g) xs disk) (bitStores-none entry e)
 
     withBits-some :
         (block : SlotBlock g 0 entry) →
@@ -115,9 +114,9 @@ module _ (g : Geometry) (f : Fits g) (disk : Bytes) (whole : length disk ≡ blo
 
         shared : isShared g slot (slotOf g entry) ≡ true → withBits ≡ both
         shared e =
-            ap (λ (xs : Trace). apply (g .blockSize) xs disk)
+            ap (λ (xs : Trace). apply (blockWidth g) xs disk)
             (bitStores-shared entry (entry-not-zero g entry block) e)
-            ∙ sym (setBlock-again (g .blockSize) disk (blockCount g) whole (bitAddress g slot)
+            ∙ sym (setBlock-again (blockWidth g) disk (blockCount g) whole (bitAddress g slot)
             (omega (arith, bitAddress-lt g f slot inside)) (bitmapWith g disk slot true)
             (length-bitmapWith g f disk whole slot inside true) (bitAddress g (slotOf g entry))
             (eqb-true (bitAddress g slot) (bitAddress g (slotOf g entry)) e)
@@ -126,23 +125,23 @@ module _ (g : Geometry) (f : Fits g) (disk : Bytes) (whole : length disk ≡ blo
 
         apart : isShared g slot (slotOf g entry) ≡ false → withBits ≡ both
         apart e =
-            ap (λ (xs : Trace). apply (g .blockSize) xs disk)
+            ap (λ (xs : Trace). apply (blockWidth g) xs disk)
             (bitStores-apart entry (entry-not-zero g entry block) e)
 
-    pub bitStores-stored : All (Stored (g .blockSize) (blockCount g)) (bitStores g disk entry slot)
+    pub bitStores-stored : All (Stored (blockWidth g) (blockCount g)) (bitStores g disk entry slot)
     bitStores-stored = by old
       where
-        first : Stored (g .blockSize) (blockCount g) (bitStore g disk slot true)
+        first : Stored (blockWidth g) (blockCount g) (bitStore g disk slot true)
         first =
             (omega (arith, bitAddress-lt g f slot inside), length-bitmapWith g f disk whole slot inside true)
 
-        second : SlotBlock g 0 entry → Stored (g .blockSize) (blockCount g) (cleared entry)
+        second : SlotBlock g 0 entry → Stored (blockWidth g) (blockCount g) (cleared entry)
         second block = (
           omega (arith, bitAddress-lt g f (slotOf g entry) (block .slot-inside)),
           length-bitmapWith g f withNew whole-new (slotOf g entry) (block .slot-inside) false,
         )
 
-        by : OldPlace g entry → All (Stored (g .blockSize) (blockCount g)) (bitStores g disk entry slot)
+        by : OldPlace g entry → All (Stored (blockWidth g) (blockCount g)) (bitStores g disk entry slot)
         by (inl e) = rw (bitStores-none entry e) (first, tt)
         by (inr block) =
             let ne = entry-not-zero g entry block in
@@ -206,7 +205,7 @@ addresses-bitStores g disk entry slot =
     new = bitStore g disk slot true
 
     old : Store
-    old = bitStore g (apply (g .blockSize) (new ∷ []) disk) (slotOf g entry) false
+    old = bitStore g (apply (blockWidth g) (new ∷ []) disk) (slotOf g entry) false
 
     by : (isNew isOne : Bool) → (isOne ≡ true → bitAddress g slot ≡ bitAddress g (slotOf g entry)) →
         addresses (cond isNew (new ∷ []) (cond isOne (old ∷ []) (new ∷ old ∷ []))) ≡

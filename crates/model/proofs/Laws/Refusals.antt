@@ -1,18 +1,20 @@
--- Laws of the refusals: what a drive that is not refused gives, and the chains of the calls taken apart.
--- Assumes nothing.
+-- Laws of refusals 1 to 3: what a drive that is not refused gives, one law for each way through the tests,
+-- and the chains of the calls taken apart. Assumes nothing.
 use mathlib.Core.Path.{_∙_, _≡_, ap, sym}
 use mathlib.Core.Logic.{_≢_, ⊎-elim}
-use mathlib.Core.Bool.{true, not}
+use mathlib.Core.Bool.{true, not, false, _||_}
 use mathlib.Core.List.{List, [], _∷_, _++_}
 use Prim.Native.Nat.{ℕ, _≤_, _<_}
 use native.Mathlib.Omega.{arith}
 use lib.Dec.{ltb, leb, eqb}
 use lib.ListN.{length}
-use borrow.Author.Tests.{ltb-false, leb-false, eqb-true, not-false, le-ltb, lt-leb, eq-eqb}
+use borrow.Author.Tests.{ltb-false, leb-false, eqb-true, not-false, le-ltb, lt-leb, eq-eqb, lt-ltb, le-leb}
+use borrow.Author.Tests.{ne-eqb}
 use Rattle.laws.specs.Checks.{Check, check, firstOf}
-use Rattle.laws.proofs.Cases.{or-false-left, or-false-right, or-neither, eq-cases}
+use Rattle.laws.proofs.Cases.{or-false-left, or-false-right, or-neither, eq-cases, or-left, or-right}
 use Rattle.laws.proofs.Checks.{Numbered, Passed, passed-of-zero, zero-of-passed, passed-front, passed-rest}
-use Rattle.laws.proofs.Checks.{firstOf-append-pass, firstOf-append-stop}
+use Rattle.laws.proofs.Checks.{firstOf-append-pass, firstOf-append-stop, firstOf-nil, firstOf-stop}
+use Rattle.laws.proofs.Checks.{firstOf-pass}
 use Rattle.model.specs.Geometry.{Geometry, Fits, driveSize, isGeometry}
 use Rattle.model.specs.Blocks.{Bytes}
 use Rattle.model.specs.Layout.{Drive, geometryIn, headIn}
@@ -48,6 +50,31 @@ pub sized-of-refusal : (bytes : ℕ) (g : Geometry) → sizeRefusal bytes g ≡ 
 unfolding sizeRefusal
 sized-of-refusal bytes g e =
     sized-of-passed bytes g (passed-of-zero (sizeChecks bytes g) (numbered-size bytes g) e)
+
+-- one law for each way through
+module _ (bytes : ℕ) (g : Geometry) where
+  pub size-short : bytes < 24 → 1 ≡ sizeRefusal bytes g
+  unfolding sizeRefusal sizeChecks
+  size-short h = sym (firstOf-stop 1 _ (or-left (not (isGeometry g)) (lt-ltb bytes 24 h)))
+
+  pub size-outside : isGeometry g ≡ false → 1 ≡ sizeRefusal bytes g
+  unfolding sizeRefusal sizeChecks
+  size-outside e = sym (firstOf-stop 1 _ (or-right (ltb bytes 24) (ap not e)))
+
+  module _ (long : 24 ≤ bytes) (good : isGeometry g ≡ true) where
+    first-passes : (ltb bytes 24 || not (isGeometry g)) ≡ false
+    first-passes = or-neither (le-ltb bytes 24 long) (ap not good)
+
+    pub size-whole : bytes ≡ driveSize g → 0 ≡ sizeRefusal bytes g
+    unfolding sizeRefusal sizeChecks
+    size-whole e =
+        sym (firstOf-pass 1 _ first-passes ∙ firstOf-pass 2 [] (ap not (eq-eqb bytes (driveSize g) e))
+        ∙ firstOf-nil)
+
+    pub size-other : bytes ≢ driveSize g → 2 ≡ sizeRefusal bytes g
+    unfolding sizeRefusal sizeChecks
+    size-other f =
+        sym (firstOf-pass 1 _ first-passes ∙ firstOf-stop 2 [] (ap not (ne-eqb bytes (driveSize g) f)))
 
 -- ---- refusals 1 to 3 ----
 
@@ -94,6 +121,34 @@ refusal-of-accepted disk long good whole head =
         (lt-leb (geometryIn disk .slots) (headIn disk) head, tt),
       ),
     )
+
+-- one law for each way through
+module _ (disk : Bytes) where
+  pub drive-short : length disk < 24 → 1 ≡ driveRefusal disk
+  unfolding driveRefusal driveChecks sizeChecks
+  drive-short h = sym (firstOf-stop 1 _ (or-left (not (isGeometry (geometryIn disk)))
+      (lt-ltb (length disk) 24 h)))
+
+  pub drive-sized : (fault : ℕ) → fault ≡ sizeRefusal (length disk) (geometryIn disk) → fault ≢ 0 →
+      fault ≡ driveRefusal disk
+  unfolding sizeRefusal driveRefusal driveChecks
+  drive-sized fault e f =
+      e ∙ sym (firstOf-append-stop (sizeChecks (length disk) (geometryIn disk)) _ (λ z. f (e ∙ z)))
+
+  module _ (accepted : sizeRefusal (length disk) (geometryIn disk) ≡ 0) where
+    pub drive-good : headIn disk < geometryIn disk .slots → 0 ≡ driveRefusal disk
+    drive-good h =
+        let s = sized-of-refusal (length disk) (geometryIn disk) accepted in
+        sym (refusal-of-accepted disk (s .long) (s .accepted) (s .whole) h)
+
+    pub drive-head : geometryIn disk .slots ≤ headIn disk → 3 ≡ driveRefusal disk
+    unfolding driveRefusal driveChecks sizeChecks
+    drive-head h =
+        let s = sized-of-refusal (length disk) (geometryIn disk) accepted in
+        let first = or-neither (le-ltb (length disk) 24 (s .long)) (ap not (s .accepted)) in
+        let second = ap not (eq-eqb (length disk) (driveSize (geometryIn disk)) (s .whole)) in
+        let third = le-leb (geometryIn disk .slots) (headIn disk) h in
+        sym (firstOf-pass 1 _ first ∙ firstOf-pass 2 _ second ∙ firstOf-stop 3 [] third)
 
 -- ---- a call's chain after the drive's ----
 

@@ -59,12 +59,12 @@ unfolding addressesFrom
 length-addressesFrom address zero = refl
 length-addressesFrom address (suc count) = ap suc (length-addressesFrom (suc address) count)
 
-pub length-slotAddresses : (g : Geometry) (slot : ℕ) → length (slotAddresses g slot) ≡ g .height + 2
+length-slotAddresses : (g : Geometry) (slot : ℕ) → length (slotAddresses g slot) ≡ g .height + 2
 length-slotAddresses g slot =
     length-append (addressesFrom (slotStart g slot) (suc (g .height))) (rootAddress g ∷ [])
     ∙ omega (arith, length-addressesFrom (slotStart g slot) (suc (g .height)))
 
-pub length-keptRounds :
+length-keptRounds :
     (count : ℕ) (g : Geometry) (slot : ℕ) → length (keptRounds count g slot) ≡ count * (g .height + 3)
 unfolding keptRounds
 length-keptRounds zero g slot = omega arith
@@ -72,7 +72,7 @@ length-keptRounds (suc count) g slot =
     length-append (slotAddresses g slot) (0 ∷ keptRounds count g (nextSlot g slot))
     ∙ omega (arith, length-slotAddresses g slot, length-keptRounds count g (nextSlot g slot))
 
-pub length-lastRound :
+length-lastRound :
     (g : Geometry) (number : ℕ) (entry : DiskAddress) (slot : ℕ) →
     length (lastRound g number entry slot) ≡ g .height + 3 + cond (isOneBlock g entry slot) 2 3
 length-lastRound g number entry slot = by (isOneBlock g entry slot)

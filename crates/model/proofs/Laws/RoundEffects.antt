@@ -6,7 +6,7 @@ use mathlib.Core.Bool.{true, false}
 use Prim.Native.Nat.{ℕ, _*_, _<_}
 use native.Mathlib.Omega.{arith}
 use Rattle.laws.proofs.Cases.{eq-cases}
-use Rattle.model.specs.Geometry.{Geometry, bitmapBlocks}
+use Rattle.model.specs.Geometry.{Geometry, bitmapBlocks, blockWidth}
 use Rattle.model.specs.Blocks.{Bytes, DiskAddress, blockAt}
 use Rattle.model.specs.Layout.{slotStart, slotOf, areaPlace, mapAddress, mapEntry, isAllocated}
 use Rattle.model.specs.Stores.{Trace}
@@ -35,13 +35,13 @@ module _ {g : Geometry} {disk : Bytes} {number slot : ℕ} {content : Bytes} {hi
   kept = afterRound keepPublic g disk number slot content hidden
 
   -- every block of map and bitmap stays
-  pub blockAt-kept :
+  blockAt-kept :
       (address : DiskAddress) → InFront g address →
-      blockAt (g .blockSize) kept address ≡ blockAt (g .blockSize) disk address
+      blockAt (blockWidth g) kept address ≡ blockAt (blockWidth g) disk address
   unfolding mapStores
   blockAt-kept address h =
       blockAt-round-front round keepPublic address h
-      ∙ lastAt-nil address (blockAt (g .blockSize) disk address)
+      ∙ lastAt-nil address (blockAt (blockWidth g) disk address)
 
   map-front : (other : ℕ) → other < g .publics → InFront g (mapAddress g other)
   map-front other h = (omega arith, omega (arith, mapAddress-lt g (round .fits) other h))
@@ -65,18 +65,18 @@ module _ {g : Geometry} {disk : Bytes} {number slot : ℕ} {content : Bytes} {hi
   -- every public block stays
   pub blockAt-kept-start :
       (other : ℕ) →
-      blockAt (g .blockSize) kept (slotStart g other) ≡ blockAt (g .blockSize) disk (slotStart g other)
+      blockAt (blockWidth g) kept (slotStart g other) ≡ blockAt (blockWidth g) disk (slotStart g other)
   unfolding publicStore
   blockAt-kept-start other = ⊎-elim same apart (eq-cases other slot)
     where
       same :
           other ≡ slot →
-          blockAt (g .blockSize) kept (slotStart g other) ≡ blockAt (g .blockSize) disk (slotStart g other)
+          blockAt (blockWidth g) kept (slotStart g other) ≡ blockAt (blockWidth g) disk (slotStart g other)
       same e = rw e (blockAt-round-start-same round keepPublic)
 
       apart :
           other ≢ slot →
-          blockAt (g .blockSize) kept (slotStart g other) ≡ blockAt (g .blockSize) disk (slotStart g other)
+          blockAt (blockWidth g) kept (slotStart g other) ≡ blockAt (blockWidth g) disk (slotStart g other)
       apart = blockAt-round-start-other round keepPublic other
 
   -- ---- a last round ----
@@ -84,7 +84,7 @@ module _ {g : Geometry} {disk : Bytes} {number slot : ℕ} {content : Bytes} {hi
   abbrev last : Bytes
   last = afterRound writePublic g disk number slot content hidden
 
-  pub blockAt-last-start : blockAt (g .blockSize) last (slotStart g slot) ≡ content
+  pub blockAt-last-start : blockAt (blockWidth g) last (slotStart g slot) ≡ content
   unfolding publicStore
   blockAt-last-start = blockAt-round-start-same round writePublic
 

@@ -8,7 +8,7 @@ use native.Mathlib.Numerals.{add-one}
 use native.Mathlib.Omega.{arith}
 use lib.ListN.{length, take}
 use Rattle.laws.proofs.Members.{All, all-append, all-map, Distinct}
-use Rattle.model.specs.Geometry.{Geometry, Fits, rootAddress, blockCount}
+use Rattle.model.specs.Geometry.{Geometry, Fits, rootAddress, blockCount, blockWidth}
 use Rattle.model.specs.Blocks.{Bytes, DiskAddress, blockAt}
 use Rattle.model.specs.Layout.{slotStart, nextSlot, mapEntry}
 use Rattle.model.specs.Stores.{Trace, apply, addresses}
@@ -72,9 +72,9 @@ hides-addresses g slot hidden hides =
     (λ i h. inr (suc i, omega arith, omega arith, omega arith)))
     (inl refl, tt))
 
-pub stored-of-whole :
+stored-of-whole :
     (g : Geometry) (xs : Trace) → All (λ (a : ℕ). a < blockCount g) (addresses xs) → All (WholeStore g) xs →
-    All (Stored (g .blockSize) (blockCount g)) xs
+    All (Stored (blockWidth g) (blockCount g)) xs
 unfolding addresses
 stored-of-whole g [] h w = tt
 stored-of-whole g (x ∷ xs) h w = ((h .0, w .0), stored-of-whole g xs (h .1) (w .1))
@@ -122,7 +122,7 @@ addresses-last g disk number slot content hidden hides =
 -- the header has room for the head
 pub header-fits :
     (g : Geometry) → Fits g → (disk : Bytes) → length disk ≡ blockCount g * g .blockSize →
-    4 * 5 + 4 ≤ length (blockAt (g .blockSize) disk 0)
+    4 * 5 + 4 ≤ length (blockAt (blockWidth g) disk 0)
 header-fits g f disk whole = omega (arith, blockAt-whole g f disk whole 0 (omega arith), f .size-low)
 
 -- the disk after a round
@@ -130,14 +130,14 @@ abbrev pub afterRound :
     PublicChoice → Geometry → (disk : Bytes) → (number slot : ℕ) → (content : Bytes) →
     (hidden : Trace) → Bytes
 afterRound choice g disk number slot content hidden =
-    apply (g .blockSize) (roundTrace choice g disk number slot content hidden) disk
+    apply (blockWidth g) (roundTrace choice g disk number slot content hidden) disk
 
 -- the public block's store is of a whole block and inside the disk
 pub publicStore-stored :
     (g : Geometry) (f : Fits g) (disk : Bytes) (whole : length disk ≡ blockCount g * g .blockSize) (slot : ℕ)
     (inside : slot < g .slots) (content : Bytes) (sized : length content ≡ g .blockSize)
     (choice : PublicChoice) →
-    Stored (g .blockSize) (blockCount g) (publicStore choice g disk slot content)
+    Stored (blockWidth g) (blockCount g) (publicStore choice g disk slot content)
 unfolding publicStore
 publicStore-stored g f disk whole slot inside content sized choice =
     (rw (publicStore-address choice g disk slot content) (slotStart-lt g slot inside), by choice)
@@ -165,15 +165,15 @@ old-of-round {g} {disk} {number} round = old-of-placed g disk number (round .pla
 
 module _ {g : Geometry} {disk : Bytes} {number slot : ℕ} {content : Bytes} {hidden : Trace}
     (round : Round g disk number slot content hidden) (choice : PublicChoice) where
-  headerStore-stored : Stored (g .blockSize) (blockCount g) (headerStore g disk slot)
+  headerStore-stored : Stored (blockWidth g) (blockCount g) (headerStore g disk slot)
   headerStore-stored = (
     omega arith,
-    length-setEntry 5 (nextSlot g slot) (blockAt (g .blockSize) disk 0)
+    length-setEntry 5 (nextSlot g slot) (blockAt (blockWidth g) disk 0)
         (header-fits g (round .fits) disk (round .whole))
         ∙ blockAt-whole g (round .fits) disk (round .whole) 0 (omega arith),
   )
 
-  hidden-stored : All (Stored (g .blockSize) (blockCount g)) hidden
+  hidden-stored : All (Stored (blockWidth g) (blockCount g)) hidden
   hidden-stored =
       stored-of-whole g hidden
       (all-map (HiddenAddress g slot) (λ (a : ℕ). a < blockCount g) (addresses hidden) below
@@ -185,17 +185,17 @@ module _ {g : Geometry} {disk : Bytes} {number slot : ℕ} {content : Bytes} {hi
 
   -- every store is of a whole block and inside the disk
   pub round-stored :
-      All (Stored (g .blockSize) (blockCount g)) (roundTrace choice g disk number slot content hidden)
+      All (Stored (blockWidth g) (blockCount g)) (roundTrace choice g disk number slot content hidden)
   unfolding roundTrace
   round-stored = (
     publicStore-stored g (round .fits) disk (round .whole) slot (round .inside) content (round .sized) choice,
-    all-append (Stored (g .blockSize) (blockCount g)) hidden _ hidden-stored
-        (all-append (Stored (g .blockSize) (blockCount g)) (mapStores choice g disk number slot) _
+    all-append (Stored (blockWidth g) (blockCount g)) hidden _ hidden-stored
+        (all-append (Stored (blockWidth g) (blockCount g)) (mapStores choice g disk number slot) _
         (mapStores-stored g (round .fits) disk (round .whole) slot (round .inside) number (round .counted)
         (old-of-round round) choice) (headerStore-stored, tt)),
   )
 
   pub length-round : length (afterRound choice g disk number slot content hidden) ≡ length disk
   length-round =
-      length-apply (g .blockSize) (blockCount g)
+      length-apply (blockWidth g) (blockCount g)
       (roundTrace choice g disk number slot content hidden) disk (round .whole) round-stored

@@ -7,7 +7,7 @@ use mathlib.Core.List.{[], _∷_, _++_}
 use Prim.Native.Nat.{ℕ, _+_, _≤_, _<_}
 use native.Mathlib.Omega.{arith}
 use Rattle.laws.proofs.Members.{all-map}
-use Rattle.model.specs.Geometry.{Geometry, rootAddress, blockCount}
+use Rattle.model.specs.Geometry.{Geometry, rootAddress, blockCount, blockWidth}
 use Rattle.model.specs.Blocks.{Bytes, DiskAddress, blockAt, entryAt, setEntry}
 use Rattle.model.specs.Layout.{headIn, slotStart, slotOf, nextSlot}
 use Rattle.model.specs.Stores.{Store, Trace, addresses}
@@ -53,18 +53,18 @@ module _ {g : Geometry} {disk : Bytes} {number slot : ℕ} {content : Bytes} {hi
 
   blockAt-parts :
       (address : DiskAddress) →
-      blockAt (g .blockSize) after address ≡
+      blockAt (blockWidth g) after address ≡
       lastAt (headerStore g disk slot ∷ []) address
       (lastAt (mapStores choice g disk number slot) address
       (lastAt hidden address
-      (lastAt (publicStore choice g disk slot content ∷ []) address (blockAt (g .blockSize) disk address))))
+      (lastAt (publicStore choice g disk slot content ∷ []) address (blockAt (blockWidth g) disk address))))
   unfolding roundTrace
   blockAt-parts address =
-      blockAt-apply (g .blockSize) (blockCount g)
+      blockAt-apply (blockWidth g) (blockCount g)
       (roundTrace choice g disk number slot content hidden) disk address (round .whole)
       (round-stored round choice)
       ∙ lastAt-parts (publicStore choice g disk slot content) (headerStore g disk slot) hidden
-      (mapStores choice g disk number slot) address (blockAt (g .blockSize) disk address)
+      (mapStores choice g disk number slot) address (blockAt (blockWidth g) disk address)
 
   map-apart :
       (address : DiskAddress) → rootAddress g ≤ address → (block : Bytes) →
@@ -98,8 +98,8 @@ module _ {g : Geometry} {disk : Bytes} {number slot : ℕ} {content : Bytes} {hi
   -- map and bitmap are the public half's alone
   pub blockAt-round-front :
       (address : DiskAddress) → InFront g address →
-      blockAt (g .blockSize) after address ≡
-      lastAt (mapStores choice g disk number slot) address (blockAt (g .blockSize) disk address)
+      blockAt (blockWidth g) after address ≡
+      lastAt (mapStores choice g disk number slot) address (blockAt (blockWidth g) disk address)
   blockAt-round-front address h =
       blockAt-parts address ∙ header-apart address (h .0) _
       ∙ ap (lastAt (mapStores choice g disk number slot) address)
@@ -110,16 +110,16 @@ module _ {g : Geometry} {disk : Bytes} {number slot : ℕ} {content : Bytes} {hi
       below a (inr (place, low, high, e)) q = omega arith
 
   -- the hidden blocks and the root are the hidden half's alone
-  pub blockAt-round-hidden :
+  blockAt-round-hidden :
       (address : DiskAddress) → rootAddress g ≤ address → address ≢ slotStart g slot →
-      blockAt (g .blockSize) after address ≡ lastAt hidden address (blockAt (g .blockSize) disk address)
+      blockAt (blockWidth g) after address ≡ lastAt hidden address (blockAt (blockWidth g) disk address)
   blockAt-round-hidden address h ne =
       blockAt-parts address ∙ header-apart address (omega arith) _ ∙ map-apart address h _
       ∙ ap (lastAt hidden address) (public-apart address ne _)
 
   pub blockAt-round-root :
-      blockAt (g .blockSize) after (rootAddress g) ≡
-      lastAt hidden (rootAddress g) (blockAt (g .blockSize) disk (rootAddress g))
+      blockAt (blockWidth g) after (rootAddress g) ≡
+      lastAt hidden (rootAddress g) (blockAt (blockWidth g) disk (rootAddress g))
   blockAt-round-root = blockAt-round-hidden (rootAddress g) (omega arith) (λ e. omega arith)
 
   module _ (other place : ℕ) (low : 1 ≤ place) (high : place ≤ g .height) where
@@ -127,14 +127,14 @@ module _ {g : Geometry} {disk : Bytes} {number slot : ℕ} {content : Bytes} {hi
     start-apart e = place-apart g slot other 0 place (omega arith) high (λ z. omega arith) (omega arith)
 
     pub blockAt-round-place :
-        blockAt (g .blockSize) after (slotStart g other + place) ≡
-        lastAt hidden (slotStart g other + place) (blockAt (g .blockSize) disk (slotStart g other + place))
+        blockAt (blockWidth g) after (slotStart g other + place) ≡
+        lastAt hidden (slotStart g other + place) (blockAt (blockWidth g) disk (slotStart g other + place))
     blockAt-round-place = blockAt-round-hidden (slotStart g other + place) (omega arith) start-apart
 
     pub blockAt-round-place-other :
         other ≢ slot →
-        blockAt (g .blockSize) after (slotStart g other + place) ≡
-        blockAt (g .blockSize) disk (slotStart g other + place)
+        blockAt (blockWidth g) after (slotStart g other + place) ≡
+        blockAt (blockWidth g) disk (slotStart g other + place)
     blockAt-round-place-other ne = blockAt-round-place ∙ hidden-apart (slotStart g other + place) apart _
       where
         apart : (a : DiskAddress) → HiddenAddress g slot a → slotStart g other + place ≢ a
@@ -145,9 +145,9 @@ module _ {g : Geometry} {disk : Bytes} {number slot : ℕ} {content : Bytes} {hi
 
   blockAt-round-start :
       (other : ℕ) →
-      blockAt (g .blockSize) after (slotStart g other) ≡
+      blockAt (blockWidth g) after (slotStart g other) ≡
       lastAt (publicStore choice g disk slot content ∷ []) (slotStart g other)
-      (blockAt (g .blockSize) disk (slotStart g other))
+      (blockAt (blockWidth g) disk (slotStart g other))
   blockAt-round-start other =
       blockAt-parts (slotStart g other) ∙ header-apart (slotStart g other) (omega arith) _
       ∙ map-apart (slotStart g other) (omega arith) _ ∙ hidden-apart (slotStart g other) apart _
@@ -158,7 +158,7 @@ module _ {g : Geometry} {disk : Bytes} {number slot : ℕ} {content : Bytes} {hi
           place-apart g slot other at 0 above (omega arith) (λ z. omega arith) (omega arith)
 
   pub blockAt-round-start-same :
-      blockAt (g .blockSize) after (slotStart g slot) ≡ publicStore choice g disk slot content .content
+      blockAt (blockWidth g) after (slotStart g slot) ≡ publicStore choice g disk slot content .content
   blockAt-round-start-same =
       blockAt-round-start slot
       ∙ lastAt-one-same (publicStore choice g disk slot content) (slotStart g slot) _
@@ -166,7 +166,7 @@ module _ {g : Geometry} {disk : Bytes} {number slot : ℕ} {content : Bytes} {hi
 
   pub blockAt-round-start-other :
       (other : ℕ) → other ≢ slot →
-      blockAt (g .blockSize) after (slotStart g other) ≡ blockAt (g .blockSize) disk (slotStart g other)
+      blockAt (blockWidth g) after (slotStart g other) ≡ blockAt (blockWidth g) disk (slotStart g other)
   blockAt-round-start-other other ne =
       blockAt-round-start other
       ∙ public-apart (slotStart g other)
@@ -174,8 +174,8 @@ module _ {g : Geometry} {disk : Bytes} {number slot : ℕ} {content : Bytes} {hi
 
   -- ---- header ----
 
-  pub blockAt-round-header :
-      blockAt (g .blockSize) after 0 ≡ setEntry 5 (nextSlot g slot) (blockAt (g .blockSize) disk 0)
+  blockAt-round-header :
+      blockAt (blockWidth g) after 0 ≡ setEntry 5 (nextSlot g slot) (blockAt (blockWidth g) disk 0)
   blockAt-round-header = blockAt-parts 0 ∙ lastAt-one-same (headerStore g disk slot) 0 _ refl
 
   -- the five numbers of the geometry stay
@@ -183,7 +183,7 @@ module _ {g : Geometry} {disk : Bytes} {number slot : ℕ} {content : Bytes} {hi
   entryAt-round i h =
       entryAt-header (g .blockSize) after i (omega (arith, round .fits .size-low))
       ∙ ap (entryAt i) blockAt-round-header
-      ∙ entryAt-setEntry-other 5 (nextSlot g slot) (blockAt (g .blockSize) disk 0)
+      ∙ entryAt-setEntry-other 5 (nextSlot g slot) (blockAt (blockWidth g) disk 0)
       (header-fits g (round .fits) disk (round .whole)) i (omega arith)
       ∙ sym (entryAt-header (g .blockSize) disk i (omega (arith, round .fits .size-low)))
 
@@ -191,6 +191,6 @@ module _ {g : Geometry} {disk : Bytes} {number slot : ℕ} {content : Bytes} {hi
   headIn-round =
       entryAt-header (g .blockSize) after 5 (omega (arith, round .fits .size-low))
       ∙ ap (entryAt 5) blockAt-round-header
-      ∙ entryAt-setEntry-same 5 (nextSlot g slot) (blockAt (g .blockSize) disk 0)
+      ∙ entryAt-setEntry-same 5 (nextSlot g slot) (blockAt (blockWidth g) disk 0)
       (header-fits g (round .fits) disk (round .whole))
       (omega (arith, nextSlot-lt g slot (round .fits), round .fits .blocks-high))

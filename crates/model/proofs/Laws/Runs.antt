@@ -11,7 +11,7 @@ use lib.ListN.{drop, length}
 use Rattle.laws.proofs.Cases.{bool-cases}
 use Rattle.laws.proofs.Members.{All, all-append}
 use Rattle.laws.proofs.Joins.{append-between}
-use Rattle.model.specs.Geometry.{Geometry, Fits, blockCount}
+use Rattle.model.specs.Geometry.{Geometry, Fits, blockCount, blockWidth}
 use Rattle.model.specs.Blocks.{Bytes}
 use Rattle.model.specs.Layout.{nextSlot, roundSlot, mapEntry, isAllocated}
 use Rattle.model.specs.Stores.{Trace, apply, addresses}
@@ -36,8 +36,8 @@ pub record Ran (g : Geometry) (number : ℕ) (content : Bytes) (slot earlier : �
   pub listed :
       addresses (run .trace) ≡
       keptRounds earlier g slot ++ lastRound g number (mapEntry g disk number) (slotAfter g slot earlier)
-  pub stored : All (Stored (g .blockSize) (blockCount g)) (run .trace)
-  pub wrote : Wrote g number content (slotAfter g slot earlier) disk (apply (g .blockSize) (run .trace) disk)
+  pub stored : All (Stored (blockWidth g) (blockCount g)) (run .trace)
+  pub wrote : Wrote g number content (slotAfter g slot earlier) disk (apply (blockWidth g) (run .trace) disk)
 
 module _ (g : Geometry) (f : Fits g) (number : ℕ) (inside : number < g .publics) (content : Bytes)
     (sized : length content ≡ g .blockSize) where
@@ -86,12 +86,12 @@ module _ (g : Geometry) (f : Fits g) (number : ℕ) (inside : number < g .public
               (append-between (slotAddresses g slot) 0 (keptRounds earlier g (nextSlot g slot))
               (lastRound g number (mapEntry g disk number) (slotAfter g slot (suc earlier))));
           stored =
-              all-append (Stored (g .blockSize) (blockCount g)) round (run .trace)
+              all-append (Stored (blockWidth g) (blockCount g)) round (run .trace)
               (round-stored this keepPublic)
               (ran .stored);
           wrote =
               kept-wrote this (slotAfter g slot (suc earlier))
-              (apply (g .blockSize) (round ++ run .trace) disk)
+              (apply (blockWidth g) (round ++ run .trace) disk)
               (rw (← same, apply-append) (ran .wrote));
         }
 

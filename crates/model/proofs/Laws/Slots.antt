@@ -1,6 +1,6 @@
 -- Laws of slots: the slot and the place of each of a slot's blocks, blocks apart, which addresses are slot
 -- blocks, levels, and the slots after a slot. Assumes nothing.
-use mathlib.Core.Path.{_≡_, sym, ap, _∙_}
+use mathlib.Core.Path.{_≡_, sym, ap, _∙_, refl}
 use mathlib.Core.Logic.{_≢_}
 use mathlib.Core.Bool.{true, false, _&&_}
 use Prim.Native.Nat.{ℕ, zero, suc, _+_, _*_, _-_, _/_, _%_, _≤_, _<_}
@@ -10,7 +10,7 @@ use lib.Arith.{digits-mod, digits-div}
 use lib.Dec.{leb, ltb, eqb}
 use borrow.Author.Tests.{ltb-true, leb-true, eqb-true, lt-ltb, le-ltb, le-leb, lt-leb, eq-eqb, ne-eqb}
 use Rattle.laws.proofs.Cases.{and-left, and-right, and-both, and-false-left, and-false-right}
-use Rattle.model.specs.Geometry.{Geometry, Fits, areaStart, blockCount}
+use Rattle.model.specs.Geometry.{Geometry, Fits, areaStart, blockCount, slotWidth}
 use Rattle.model.specs.Blocks.{DiskAddress}
 use Rattle.model.specs.Layout.{slotStart, slotOf, nextSlot, levelPlace, levelAddress, isSlotBlock}
 use Rattle.model.specs.Layout.{roundSlot, isWellFormed}
@@ -19,32 +19,32 @@ use Rattle.model.proofs.Laws.Geometry.{slot-block-lt}
 -- ---- a slot's blocks ----
 
 module _ (g : Geometry) (slot place : ℕ) (inside : place ≤ g .height) where
-  pub place-of-slot-block : (slotStart g slot + place - areaStart g) % (g .height + 1) ≡ place
+  place-of-slot-block : (slotStart g slot + place - areaStart g) % slotWidth g ≡ place
   place-of-slot-block =
-      let e : slotStart g slot + place - areaStart g ≡ slot * (g .height + 1) + place = omega arith in
-      let l : place < g .height + 1 = omega arith in
-      ap (λ (n : ℕ). n % (g .height + 1)) e ∙ digits-mod slot l
+      let e : slotStart g slot + place - areaStart g ≡ slot * slotWidth g + place = omega arith in
+      let l : place < slotWidth g = omega arith in
+      ap (λ (n : ℕ). n % slotWidth g) e ∙ digits-mod slot l
 
-  pub slotOf-slot-block : slotOf g (slotStart g slot + place) ≡ slot
+  slotOf-slot-block : slotOf g (slotStart g slot + place) ≡ slot
   slotOf-slot-block =
-      let e : slotStart g slot + place - areaStart g ≡ slot * (g .height + 1) + place = omega arith in
-      let l : place < g .height + 1 = omega arith in
-      ap (λ (n : ℕ). n / (g .height + 1)) e ∙ digits-div slot l
+      let e : slotStart g slot + place - areaStart g ≡ slot * slotWidth g + place = omega arith in
+      let l : place < slotWidth g = omega arith in
+      ap (λ (n : ℕ). n / slotWidth g) e ∙ digits-div slot l
 
-  pub isSlotBlock-same : slot < g .slots → isSlotBlock g place (slotStart g slot + place) ≡ true
+  isSlotBlock-same : slot < g .slots → isSlotBlock g place (slotStart g slot + place) ≡ true
   unfolding isSlotBlock
   isSlotBlock-same h =
       and-both
       (and-both (le-leb (areaStart g) (slotStart g slot + place) (omega arith))
       (lt-ltb (slotStart g slot + place) (blockCount g) (slot-block-lt g slot place h inside)))
-      (eq-eqb ((slotStart g slot + place - areaStart g) % (g .height + 1)) place place-of-slot-block)
+      (eq-eqb ((slotStart g slot + place - areaStart g) % slotWidth g) place place-of-slot-block)
 
   pub isSlotBlock-other : (other : ℕ) → other ≢ place → isSlotBlock g other (slotStart g slot + place) ≡ false
   unfolding isSlotBlock
   isSlotBlock-other other ne =
       and-false-right (leb (areaStart g) (slotStart g slot + place) &&
       ltb (slotStart g slot + place) (blockCount g))
-      (ne-eqb ((slotStart g slot + place - areaStart g) % (g .height + 1)) other
+      (ne-eqb ((slotStart g slot + place - areaStart g) % slotWidth g) other
       (λ e. ne (sym e ∙ place-of-slot-block)))
 
 pub slotOf-slotStart : (g : Geometry) (slot : ℕ) → slotOf g (slotStart g slot) ≡ slot
@@ -69,7 +69,7 @@ pub place-apart :
     (g : Geometry) (slot other place at : ℕ) → place ≤ g .height → at ≤ g .height → at ≢ place →
     slotStart g other + at ≢ slotStart g slot + place
 place-apart g slot other place at h k ne e =
-    ne (sym (place-of-slot-block g other at k) ∙ ap (λ (n : ℕ). (n - areaStart g) % (g .height + 1)) e
+    ne (sym (place-of-slot-block g other at k) ∙ ap (λ (n : ℕ). (n - areaStart g) % slotWidth g) e
     ∙ place-of-slot-block g slot place h)
 
 -- ---- which addresses are slot blocks ----
@@ -85,17 +85,17 @@ pub slotBlock-of : (g : Geometry) (place : ℕ) (address : DiskAddress) → isSl
 unfolding isSlotBlock
 slotBlock-of g place address e =
     let front = leb (areaStart g) address && ltb address (blockCount g) in
-    let rest = eqb ((address - areaStart g) % (g .height + 1)) place in
+    let rest = eqb ((address - areaStart g) % slotWidth g) place in
     let low : areaStart g ≤ address =
     leb-true (areaStart g) address (and-left (leb (areaStart g) address) (ltb address (blockCount g))
     (and-left front rest e)) in
     let high : address < blockCount g =
     ltb-true address (blockCount g) (and-right (leb (areaStart g) address) (ltb address (blockCount g))
     (and-left front rest e)) in
-    let at : (address - areaStart g) % (g .height + 1) ≡ place =
-    eqb-true ((address - areaStart g) % (g .height + 1)) place (and-right front rest e) in
-    let positive : 0 < g .height + 1 = omega arith in
-    let whole = div-add-mod' (address - areaStart g) (g .height + 1) in
+    let at : (address - areaStart g) % slotWidth g ≡ place =
+    eqb-true ((address - areaStart g) % slotWidth g) place (and-right front rest e) in
+    let positive : 0 < slotWidth g = omega arith in
+    let whole = div-add-mod' (address - areaStart g) (slotWidth g) in
     record {
       slot-inside = div-lt-iff-lt-mul positive .1 (omega arith);
       address-is = omega arith;
@@ -106,20 +106,20 @@ pub isSlotBlock-below : (g : Geometry) (place : ℕ) (address : DiskAddress) →
     isSlotBlock g place address ≡ false
 unfolding isSlotBlock
 isSlotBlock-below g place address h =
-    and-false-left (eqb ((address - areaStart g) % (g .height + 1)) place)
+    and-false-left (eqb ((address - areaStart g) % slotWidth g) place)
     (and-false-left (ltb address (blockCount g)) (lt-leb (areaStart g) address h))
 
 pub isSlotBlock-past : (g : Geometry) (place : ℕ) (address : DiskAddress) → blockCount g ≤ address →
     isSlotBlock g place address ≡ false
 unfolding isSlotBlock
 isSlotBlock-past g place address h =
-    and-false-left (eqb ((address - areaStart g) % (g .height + 1)) place)
+    and-false-left (eqb ((address - areaStart g) % slotWidth g) place)
     (and-false-right (leb (areaStart g) address) (le-ltb address (blockCount g) h))
 
 -- within the data area the place decides
 pub isSlotBlock-inside :
     (g : Geometry) (place : ℕ) (address : DiskAddress) → areaStart g ≤ address → address < blockCount g →
-    isSlotBlock g place address ≡ eqb ((address - areaStart g) % (g .height + 1)) place
+    isSlotBlock g place address ≡ eqb ((address - areaStart g) % slotWidth g) place
 unfolding isSlotBlock
 isSlotBlock-inside g place address low high =
     rw (le-leb (areaStart g) address low, lt-ltb address (blockCount g) high)
@@ -143,6 +143,31 @@ isWellFormed-levelAddress g slot level h k =
 pub slotOf-levelAddress : (g : Geometry) (slot level : ℕ) → level < g .height →
     slotOf g (levelAddress g slot level) ≡ slot
 slotOf-levelAddress g slot level k = slotOf-slot-block g slot (levelPlace g level) (levelPlace-le g level k)
+
+pub levelAddress-data :
+    (g : Geometry) (slot level : ℕ) → level ≡ 0 → slotStart g slot + g .height ≡ levelAddress g slot level
+levelAddress-data g slot level e = rw e
+
+pub levelAddress-node :
+    (g : Geometry) (slot level : ℕ) → level ≢ 0 → slotStart g slot + level ≡ levelAddress g slot level
+levelAddress-node g slot zero h = absurd (h refl)
+levelAddress-node g slot (suc level) h = refl
+
+pub levelAddress-lt :
+    (g : Geometry) (slot level : ℕ) → slot < g .slots → level < g .height →
+    levelAddress g slot level < blockCount g
+levelAddress-lt g slot level h k = slot-block-lt g slot (levelPlace g level) h (levelPlace-le g level k)
+
+-- where a well-formed entry leads
+module _ (g : Geometry) (level : ℕ) (entry : DiskAddress) (formed : isWellFormed g level entry ≡ true) where
+  pub formed-in-area : areaStart g ≤ entry
+  formed-in-area = omega (arith, slotBlock-of g (levelPlace g level) entry formed .address-is)
+
+  pub formed-slot-lt : slotOf g entry < g .slots
+  formed-slot-lt = slotBlock-of g (levelPlace g level) entry formed .slot-inside
+
+  pub formed-inside : entry < blockCount g
+  formed-inside = slotBlock-of g (levelPlace g level) entry formed .address-inside
 
 -- ---- the next slot ----
 

@@ -22,7 +22,7 @@ ruledRows =
     ruledRow true false false ∷ ruledRow true false true ∷ ruledRow true true false ∷
     ruledRow true true true ∷ []
 
-pub table-ruled : table ≡ ruledRows
+table-ruled : table ≡ ruledRows
 unfolding table
 table-ruled = refl
 

@@ -1,25 +1,28 @@
 -- Laws of the whole-tree check: its tests, what is met at the places of a node and below an entry, the checks
--- of what is met, and the first fault by entries and by what is below. Assumes nothing.
+-- of what is met, the first fault by entries and by what is below, and the call. Assumes nothing.
 use mathlib.Core.Path.{_≡_, refl, sym, ap, _∙_}
 use mathlib.Core.Logic.{_≢_}
-use mathlib.Core.Bool.{true}
-use mathlib.Core.List.{List, [], _∷_, _++_, append-assoc}
-use Prim.Native.Nat.{ℕ, zero, suc, _+_, _<_}
+use mathlib.Core.Bool.{true, Bool, false, not}
+use mathlib.Core.List.{List, [], _∷_, _++_, append-assoc, append-nil}
+use Prim.Native.Nat.{ℕ, zero, suc, _+_, _<_, _≤_}
 use native.Mathlib.Omega.{arith}
-use borrow.Author.Tests.{leb-false, eqb-true, eq-eqb, ne-eqb, not-false}
+use borrow.Author.Tests.{leb-false, eqb-true, eq-eqb, ne-eqb, not-false, le-leb, lt-leb}
 use Rattle.laws.specs.Checks.{Check, firstOf}
 use Rattle.laws.proofs.Cases.{true-is-not-false, cond-true}
 use Rattle.laws.proofs.Checks.{Numbered, numbered-append, passed-of-zero, firstOf-nil, firstOf-append-stop}
-use Rattle.laws.proofs.Checks.{firstOf-append-zero}
+use Rattle.laws.proofs.Checks.{firstOf-append-zero, firstOf-stop, firstOf-pass}
 use Rattle.laws.proofs.Decides.{Decides, decides-and, decides-le, decides-lt}
-use Rattle.model.specs.Geometry.{Geometry}
+use Rattle.model.specs.Geometry.{Geometry, blockWidth}
 use Rattle.model.specs.Blocks.{Bytes, DiskAddress, blockAt}
-use Rattle.model.specs.Layout.{isWellFormed}
-use Rattle.model.specs.HiddenTree.{End, found, unmapped, damaged, isFoundAt}
+use Rattle.model.specs.Layout.{isWellFormed, slotOf, levelAddress, geometryIn}
+use Rattle.model.specs.HiddenTree.{ownerOf, End, found, unmapped, damaged, isFoundAt, walk}
 use Rattle.model.specs.Invariants.{entriesIn}
-use Rattle.model.specs.TreeCheck.{MetEntry, metInTurn, metWith, metBelow, metAt, entryChecks}
-use Rattle.model.specs.TreeCheck.{isBelow, metChecks, firstFault}
+use Rattle.model.specs.TreeCheck.{MetEntry, metInTurn, metWith, metBelow, metAt, entryChecks, isBelow}
+use Rattle.model.specs.TreeCheck.{metChecks, firstFault, metEntry, isOwned, treeChecks, treeRefusal}
+use Rattle.model.specs.TreeCheck.{metEntries}
 use Rattle.model.specs.TreeConditions.{Below}
+use Rattle.model.specs.Refusals.{driveRefusal}
+use Rattle.model.proofs.Laws.Refusals.{after-drive-stop, after-drive-pass}
 
 -- ---- tests ----
 
@@ -40,12 +43,57 @@ pub decides-below : (g : Geometry) (level first number : ℕ) →
     Decides (isBelow g level first number) (Below g level first number)
 decides-below g level first number = decides-and (decides-le first number) (decides-lt number _)
 
+-- ---- an entry's owner ----
+
+module _ (g : Geometry) (disk : Bytes) (level first : ℕ) (entry : DiskAddress) (slot owner : ℕ)
+    (s : slot ≡ slotOf g entry) (o : owner ≡ ownerOf g disk slot) where
+  pub isOwned-not-below :
+      isBelow g level first owner ≡ false → false ≡ isOwned g disk (metEntry level first entry)
+  unfolding isOwned
+  isOwned-not-below z = rw (← s, ← o, z)
+
+  pub isOwned-below :
+      isBelow g level first owner ≡ true → (ends : Bool) →
+      ends ≡ isFoundAt (levelAddress g slot 0) (walk g disk owner .end) →
+      ends ≡ isOwned g disk (metEntry level first entry)
+  unfolding isOwned
+  isOwned-below z ends q = rw (← s, ← o, z, q)
+
+-- ---- an entry's three faults, in their order ----
+
+module _ (g : Geometry) (disk : Bytes) (met : MetEntry) (isFormed : Bool)
+    (f : isFormed ≡ isWellFormed g (met .level) (met .entry)) where
+  pub fault-thirteen : isFormed ≡ false → 13 ≡ firstOf (entryChecks g disk met)
+  unfolding entryChecks
+  fault-thirteen z = sym (firstOf-stop 13 _ (ap not (sym f ∙ z)))
+
+  module _ (formed : isFormed ≡ true) where
+    pub fault-fourteen : g .hidden ≤ met .first → 14 ≡ firstOf (entryChecks g disk met)
+    unfolding entryChecks
+    fault-fourteen h =
+        sym (firstOf-pass 13 _ (ap not (sym f ∙ formed))
+        ∙ firstOf-stop 14 _ (le-leb (g .hidden) (met .first) h))
+
+    module _ (h : met .first < g .hidden) (owned : Bool) (o : owned ≡ isOwned g disk met) where
+      pub fault-fifteen : owned ≡ false → 15 ≡ firstOf (entryChecks g disk met)
+      unfolding entryChecks
+      fault-fifteen z =
+          sym (firstOf-pass 13 _ (ap not (sym f ∙ formed))
+          ∙ firstOf-pass 14 _ (lt-leb (g .hidden) (met .first) h) ∙ firstOf-stop 15 _ (ap not (sym o ∙ z)))
+
+      pub fault-none : owned ≡ true → 0 ≡ firstOf (entryChecks g disk met)
+      unfolding entryChecks
+      fault-none z =
+          sym (firstOf-pass 13 _ (ap not (sym f ∙ formed))
+          ∙ firstOf-pass 14 _ (lt-leb (g .hidden) (met .first) h) ∙ firstOf-pass 15 _ (ap not (sym o ∙ z))
+          ∙ firstOf-nil)
+
 -- ---- what is met ----
 
 -- what is met below an entry
 abbrev pub belowEntry : Geometry → (disk : Bytes) → MetEntry → List MetEntry
 belowEntry g disk met =
-    metBelow g disk (met .level) (met .first) (blockAt (g .blockSize) disk (met .entry))
+    metBelow g disk (met .level) (met .first) (blockAt (blockWidth g) disk (met .entry))
 
 module _ (g : Geometry) (disk : Bytes) where
   pub metBelow-zero : (first : ℕ) (block : Bytes) → metBelow g disk 0 first block ≡ []
@@ -72,6 +120,10 @@ metInTurn-add at (suc front) rest place =
     (ap (λ (mets : List MetEntry). at place ++ mets) (metInTurn-add at front rest (suc place))
     ∙ sym (append-assoc (at place) (metInTurn at front (suc place))
     (metInTurn at rest (suc place + front))))
+
+pub metInTurn-one : (at : ℕ → List MetEntry) (place : ℕ) → metInTurn at 1 place ≡ at place
+unfolding metInTurn
+metInTurn-one at place = append-nil (at place)
 
 module _ (g : Geometry) (met : MetEntry) (below : List MetEntry) where
   pub metWith-zero : met .entry ≡ 0 → metWith g met below ≡ []
@@ -155,3 +207,18 @@ module _ (g : Geometry) (disk : Bytes) where
       firstFault-below z =
           ap (firstFault g disk) (metWith-formed g met below some (formed-of-faultless met z))
           ∙ firstOf-append-zero (entryChecks g disk met) (metChecks g disk below) (numbered-entry met) z
+
+-- ---- the call ----
+
+module _ (disk : Bytes) where
+  -- a refused drive answers
+  pub treeRefusal-drive : driveRefusal disk ≢ 0 → treeRefusal disk ≡ driveRefusal disk
+  unfolding treeRefusal
+  treeRefusal-drive ne = after-drive-stop disk (treeChecks (geometryIn disk) disk) ne
+
+  -- any other leaves the answer to the root's entries
+  pub treeRefusal-tree :
+      driveRefusal disk ≡ 0 →
+      treeRefusal disk ≡ firstFault (geometryIn disk) disk (metEntries (geometryIn disk) disk)
+  unfolding treeRefusal
+  treeRefusal-tree e = after-drive-pass disk (treeChecks (geometryIn disk) disk) e

@@ -7,6 +7,7 @@ use Prim.Native.Nat.{ℕ, _*_, _<_}
 use native.Mathlib.Omega.{arith}
 use lib.ListN.{length}
 use Rattle.model.specs.Geometry.{Geometry, Fits, bitmapBlocks, blockCount, driveSize, isGeometry}
+use Rattle.model.specs.Geometry.{blockWidth}
 use Rattle.model.specs.Blocks.{Bytes, blockAt, entryAt}
 use Rattle.model.specs.Layout.{headIn, slotStart, slotOf, nextSlot, areaPlace, mapEntry, isAllocated}
 use Rattle.model.specs.Layout.{isPlace, geometryIn}
@@ -45,10 +46,10 @@ pub record Wrote (g : Geometry) (number : ℕ) (content : Bytes) (last : ℕ) (d
       (place : ℕ) → place < bitmapBlocks g * (8 * g .blockSize) → place ≢ areaPlace g last →
       (mapEntry g disk number ≢ 0 → place ≢ areaPlace g (slotOf g (mapEntry g disk number))) →
       bitmapBit g final place ≡ bitmapBit g disk place
-  pub block-new : blockAt (g .blockSize) final (slotStart g last) ≡ content
+  pub block-new : blockAt (blockWidth g) final (slotStart g last) ≡ content
   pub block-other :
       (slot : ℕ) → slot ≢ last →
-      blockAt (g .blockSize) final (slotStart g slot) ≡ blockAt (g .blockSize) disk (slotStart g slot)
+      blockAt (blockWidth g) final (slotStart g slot) ≡ blockAt (blockWidth g) disk (slotStart g slot)
 
 module _ {g : Geometry} {disk : Bytes} {number slot : ℕ} {content : Bytes} {hidden : Trace}
     (round : Round g disk number slot content hidden) where

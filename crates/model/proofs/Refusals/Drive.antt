@@ -102,7 +102,7 @@ decides-tested g =
     (decides-le (g .hidden) (treeCapacity g)))
     (decides-le (blockCount g) (2 ^ 31 - 1))
 
-pub decides-isGeometry : (g : Geometry) → Decides (isGeometry g) (InsideLimits g)
+decides-isGeometry : (g : Geometry) → Decides (isGeometry g) (InsideLimits g)
 decides-isGeometry g = decides-same (decides-tested g) to from
   where
     to : Tested g → InsideLimits g

@@ -12,11 +12,10 @@ use Rattle.laws.proofs.Cases.{true-is-not-false}
 use Rattle.laws.proofs.Checks.{zero-of-passed}
 use Rattle.laws.proofs.Decides.{Decides, decides-le, decides-same, decides-not-and}
 use Rattle.laws.proofs.Members.{All, all-append, all-map}
-use Rattle.model.specs.Geometry.{Geometry, Fits, rootAddress}
+use Rattle.model.specs.Geometry.{Geometry, Fits, rootAddress, blockWidth}
 use Rattle.model.specs.Blocks.{Bytes, blockAt}
 use Rattle.model.specs.Layout.{geometryIn, slotOf, levelPlace, levelAddress, isWellFormed}
-use Rattle.model.specs.HiddenTree.{found, walk}
-use Rattle.model.specs.HiddenHalf.{ownerOf}
+use Rattle.model.specs.HiddenTree.{ownerOf, found, walk}
 use Rattle.model.specs.Refusals.{driveChecks, driveRefusal}
 use Rattle.model.specs.Conditions.{Answers, driveConditions}
 use Rattle.model.specs.TreeCheck.{MetEntry, metInTurn, metWith, entryIn, metBelow, metEntries, metAt}
@@ -112,7 +111,7 @@ module _ (g : Geometry) (disk : Bytes) where
       all-with (λ met. met .level < suc level) met (belowEntry g disk met) (omega arith)
       (all-map (λ met. met .level < level) (λ met. met .level < suc level) (belowEntry g disk met)
       (λ lower h. omega arith)
-      (all-lower level (met .first) (blockAt (g .blockSize) disk (met .entry)))))
+      (all-lower level (met .first) (blockAt (blockWidth g) disk (met .entry)))))
       (entriesIn g level) 0
 
   judges-met : Fits g → (mets : List MetEntry) → All (λ met. met .level < g .height) mets →
@@ -134,4 +133,4 @@ answers-tree disk =
     (judges-append (driveChecks disk) (treeChecks g disk) (driveConditions disk) (treeConditions g disk)
     (judges-drive disk)
     (λ p. judges-met g disk (accepted-of-refusal disk (zero-of-passed (driveChecks disk) p) .sized .fits)
-    (metEntries g disk) (all-lower g disk (g .height) 0 (blockAt (g .blockSize) disk (rootAddress g)))))
+    (metEntries g disk) (all-lower g disk (g .height) 0 (blockAt (blockWidth g) disk (rootAddress g)))))

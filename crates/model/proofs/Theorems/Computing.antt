@@ -1,31 +1,27 @@
 -- One name that opens every definition that the figures and limits compute with. Assumes nothing.
-use Rattle.laws.proofs.Lists.{isSame}
-use Rattle.laws.specs.Checks.{firstOf}
-use Rattle.laws.specs.Lists.{part, over}
-use Rattle.laws.specs.Numbers.{numberOf, littleEndian}
-use Rattle.laws.specs.Bits.{bitOf, withBit, bitAt, setBit}
+use Rattle.laws.proofs.Computing.{computingBytes}
 use Rattle.model.specs.Geometry.{isGeometry}
 use Rattle.model.specs.Blocks.{blockAt, setBlock, entryAt, setEntry, packed}
 use Rattle.model.specs.Layout.{isSlotBlock, isAllocated, bitmapWith, mapEntry, isPlace}
-use Rattle.model.specs.HiddenTree.{branchAt, walkFrom}
+use Rattle.model.specs.HiddenTree.{ownerOf, branchAt, walkFrom}
 use Rattle.model.specs.Stores.{apply, addresses}
 use Rattle.model.specs.Table.{table, rowAt}
 use Rattle.model.specs.Paths.{linkedNode, nodeStores, pathStores, keptBlocks, randomBlocks}
-use Rattle.model.specs.HiddenHalf.{ownerOf, isLive, isOwnerDamaged, isNextDamaged, hiddenBy, hiddenHalf}
+use Rattle.model.specs.HiddenHalf.{isLive, isOwnerDamaged, isNextDamaged, hiddenBy, hiddenHalf}
 use Rattle.model.specs.Rounds.{publicStore, movedStores, bitStores, mapStores, roundTrace, runFrom}
 use Rattle.model.specs.Refusals.{sizeChecks, sizeRefusal, driveChecks, placeChecks, roundsTo}
 use Rattle.model.specs.Refusals.{roundChecks, hiddenChecks, walkChecks, driveRefusal, publicReadRefusal}
 use Rattle.model.specs.Refusals.{writeRefusal, hiddenReadRefusal, hiddenWriteRefusal}
-use Rattle.model.specs.Calls.{headerBlock, freshFront, formatted, publicRead, hiddenRead, outcomeOf}
+use Rattle.model.specs.Calls.{headerBlock, freshFront, formatted, publicRead, hiddenRead, offerOutcome}
 use Rattle.model.specs.Calls.{offerRefusal, offeredWrites, writeRun, written}
 
 -- to unfold it is to unfold all that its own line names
 unfoldable pub computing : Type 0
-unfolding isSame firstOf part over numberOf littleEndian bitOf withBit bitAt setBit isGeometry blockAt
-    setBlock entryAt setEntry packed isSlotBlock isAllocated bitmapWith mapEntry isPlace branchAt walkFrom
-    apply addresses table rowAt ownerOf isLive isOwnerDamaged isNextDamaged linkedNode nodeStores
-    pathStores keptBlocks randomBlocks hiddenBy hiddenHalf publicStore movedStores bitStores mapStores
-    roundTrace runFrom sizeChecks sizeRefusal driveChecks placeChecks roundsTo roundChecks hiddenChecks
-    walkChecks driveRefusal publicReadRefusal writeRefusal hiddenReadRefusal hiddenWriteRefusal headerBlock
-    freshFront formatted publicRead hiddenRead outcomeOf offerRefusal offeredWrites writeRun written
+unfolding computingBytes isGeometry blockAt setBlock entryAt setEntry packed isSlotBlock isAllocated
+    bitmapWith mapEntry isPlace branchAt walkFrom apply addresses table rowAt ownerOf isLive isOwnerDamaged
+    isNextDamaged linkedNode nodeStores pathStores keptBlocks randomBlocks hiddenBy hiddenHalf publicStore
+    movedStores bitStores mapStores roundTrace runFrom sizeChecks sizeRefusal driveChecks placeChecks
+    roundsTo roundChecks hiddenChecks walkChecks driveRefusal publicReadRefusal writeRefusal
+    hiddenReadRefusal hiddenWriteRefusal headerBlock freshFront formatted publicRead hiddenRead offerOutcome
+    offerRefusal offeredWrites writeRun written
 computing = Unit {0}

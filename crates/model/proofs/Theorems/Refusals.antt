@@ -8,6 +8,7 @@ use Prim.Native.Nat.{ℕ, _+_, _≤_}
 use native.Mathlib.Omega.{arith}
 use lib.ListN.{length}
 use Rattle.laws.proofs.Lists.{over-nil, length-over, getD-over-after}
+use Rattle.model.specs.Geometry.{blockWidth}
 use Rattle.model.specs.Blocks.{Bytes, DiskAddress}
 use Rattle.model.specs.Layout.{geometryIn}
 use Rattle.model.specs.Stores.{apply, addresses}
@@ -68,14 +69,14 @@ module _ (disk : Bytes) (number : ℕ) (content random : Bytes) (list : List Dis
             ∙ sym (stores-done disk number content random (length list) none e));
         bad-offer = λ f.
             written-same disk number content random (length list) offer none (λ w. writtenDisk w disk)
-            (λ e. ap (λ (run : Run). apply (geometryIn disk .blockSize) (run .trace) disk)
+            (λ e. ap (λ (run : Run). apply (blockWidth (geometryIn disk)) (run .trace) disk)
             (writeRun-bad (geometryIn disk) disk number content random offer f));
         refused-rounds = λ f. ap (λ (w : Written). w .rounds) (result-refused f);
         refused-stores = λ f. ap (λ (w : Written). w .trace) (result-refused f);
         refused-outcome = λ f. ap (λ (w : Written). outcomeNumber (w .outcome)) (result-refused f);
         refused-disk = λ f.
             ap (λ (w : Written). writtenDisk w disk) (result-refused f)
-            ∙ apply-nil (geometryIn disk .blockSize) disk;
+            ∙ apply-nil (blockWidth (geometryIn disk)) disk;
         refused-list = λ f.
             ap (λ (w : Written). writtenList w list) (result-refused f) ∙ over-nil 0 list (omega arith);
         list-length = length-over (addresses (result .trace)) list 0 stores-fit;

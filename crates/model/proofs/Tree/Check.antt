@@ -13,14 +13,13 @@ use borrow.Author.Tests.{leb-false, lt-leb, not-false}
 use Rattle.laws.proofs.Cases.{and-left, and-right, and-both, true-is-not-false}
 use Rattle.laws.proofs.Checks.{Passed}
 use Rattle.laws.proofs.Decides.{test-of}
-use Rattle.model.specs.Geometry.{Geometry, Fits, rootAddress}
+use Rattle.model.specs.Geometry.{Geometry, Fits, rootAddress, blockWidth}
 use Rattle.model.specs.Blocks.{Bytes, DiskAddress, blockAt, entryAt}
 use Rattle.model.specs.Layout.{slotOf, levelAddress, isWellFormed}
-use Rattle.model.specs.HiddenTree.{span, walk}
-use Rattle.model.specs.HiddenHalf.{ownerOf}
+use Rattle.model.specs.HiddenTree.{ownerOf, span, walk}
 use Rattle.model.specs.Invariants.{entriesIn, Met, inRoot, inNode, GoodEntry, HiddenInvariant}
-use Rattle.model.specs.TreeCheck.{MetEntry, metEntry, metWith, metBelow, metEntries, metAt}
-use Rattle.model.specs.TreeCheck.{isBelow, isOwned, entryChecks, metChecks}
+use Rattle.model.specs.TreeCheck.{MetEntry, metEntry, metWith, metBelow, metEntries, metAt, isBelow}
+use Rattle.model.specs.TreeCheck.{isOwned, entryChecks, metChecks}
 use Rattle.model.proofs.Laws.Slots.{isSlotBlock-below}
 use Rattle.model.proofs.Laws.TreeCheck.{decides-found, decides-below, belowEntry, metBelow-zero}
 use Rattle.model.proofs.Laws.TreeCheck.{metBelow-suc}
@@ -143,7 +142,7 @@ module _ (g : Geometry) (f : Fits g) (disk : Bytes) where
 
   -- the root's numbers begin with 0
   abbrev root : Bytes
-  root = blockAt (g .blockSize) disk (rootAddress g)
+  root = blockAt (blockWidth g) disk (rootAddress g)
 
   root-is : (level : ℕ) → suc level ≡ g .height →
       metEntries g disk ≡ metBelow g disk (suc level) (0 * span g (suc level)) root
@@ -166,8 +165,8 @@ module _ (g : Geometry) (f : Fits g) (disk : Bytes) where
         let at = indexed g (suc level) above node in
         subst (λ (address : ℕ). Passes g disk (metOf level index address)) (sym p)
         (subst
-        (λ (n : ℕ). Passes g disk (metOf level n (entryAt place (blockAt (g .blockSize) disk node)))) (sym e)
-        (passes-node level above place (blockAt (g .blockSize) disk node)
+        (λ (n : ℕ). Passes g disk (metOf level n (entryAt place (blockAt (blockWidth g) disk node)))) (sym e)
+        (passes-node level above place (blockAt (blockWidth g) disk node)
         (passes-below g disk at (belowEntry g disk at) some formed
         (passes-met (suc level) above node met)) h))
 
@@ -214,7 +213,7 @@ module _ (g : Geometry) (f : Fits g) (disk : Bytes) where
         let index = above * entriesIn g (suc level) + place in
         let entry = entryAt place node in
         met-passes (suc level) index entry (all place h)
-        (λ formed. all-pass level index (blockAt (g .blockSize) disk entry)
+        (λ formed. all-pass level index (blockAt (blockWidth g) disk entry)
         (λ lower k. inNode (all place h) formed k refl refl)))
 
     pub passes-of-sound : Passes g disk (metEntries g disk)

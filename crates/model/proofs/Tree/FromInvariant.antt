@@ -10,11 +10,10 @@ use native.Mathlib.Omega.{arith}
 use lib.Dec.{eqb}
 use borrow.Author.Tests.{eq-eqb, ne-eqb}
 use Rattle.laws.proofs.Cases.{cond-true, cond-false, eq-cases, none-is-not-some, some-inj}
-use Rattle.model.specs.Geometry.{Geometry, Fits, rootAddress, treeCapacity}
+use Rattle.model.specs.Geometry.{Geometry, Fits, rootAddress, treeCapacity, blockWidth}
 use Rattle.model.specs.Blocks.{Bytes, DiskAddress, blockAt, entryAt, zeroBlock}
 use Rattle.model.specs.Layout.{slotOf, levelPlace, levelAddress, isWellFormed}
-use Rattle.model.specs.HiddenTree.{span, isFoundAt}
-use Rattle.model.specs.HiddenHalf.{ownerOf}
+use Rattle.model.specs.HiddenTree.{ownerOf, span, isFoundAt}
 use Rattle.model.specs.Invariants.{entriesIn, Met, inRoot, inNode, GoodEntry, HiddenInvariant}
 use Rattle.model.proofs.Laws.Entries.{entryAt-replicate}
 use Rattle.model.proofs.Laws.Slots.{slotBlock-of}
@@ -28,19 +27,19 @@ use Rattle.model.proofs.Tree.Walks.{walk-end, some-of-endIn}
 
 -- the block that an entry leads to, zeros for none
 abbrev blockTo : Geometry → (disk : Bytes) → (entry : DiskAddress) → Bytes
-blockTo g disk entry = cond (eqb entry 0) (zeroBlock (g .blockSize)) (blockAt (g .blockSize) disk entry)
+blockTo g disk entry = cond (eqb entry 0) (zeroBlock (g .blockSize)) (blockAt (blockWidth g) disk entry)
 
 -- the node with a level and a key, so many steps below the root
-unfoldable pub nodeOf : Geometry → (disk : Bytes) → (depth level key : ℕ) → Bytes
-nodeOf g disk zero level key = blockAt (g .blockSize) disk (rootAddress g)
-nodeOf g disk (suc depth) level key =
+unfoldable pub nodeByKey : Geometry → (disk : Bytes) → (depth level key : ℕ) → Bytes
+nodeByKey g disk zero level key = blockAt (blockWidth g) disk (rootAddress g)
+nodeByKey g disk (suc depth) level key =
     blockTo g disk
-    (entryAt (key % entriesIn g level) (nodeOf g disk depth (suc level) (key / entriesIn g level)))
+    (entryAt (key % entriesIn g level) (nodeByKey g disk depth (suc level) (key / entriesIn g level)))
 
 -- the entry with a level and a key, in a node so many steps below the root
 abbrev entryOf : Geometry → (disk : Bytes) → (depth level key : ℕ) → DiskAddress
 entryOf g disk depth level key =
-    entryAt (key % entriesIn g level) (nodeOf g disk depth (suc level) (key / entriesIn g level))
+    entryAt (key % entriesIn g level) (nodeByKey g disk depth (suc level) (key / entriesIn g level))
 
 -- the slot that an entry leads to
 abbrev slotIn : Geometry → (entry : DiskAddress) → Option ℕ
@@ -66,12 +65,12 @@ module _ (g : Geometry) (disk : Bytes) (level : ℕ) (entry : DiskAddress)
   nodeIn-slotIn = ⊎-elim
       (λ e.
       ap (nodeIn g disk level) (cond-true none (some (slotOf g entry)) (eq-eqb entry 0 e))
-      ∙ sym (cond-true (zeroBlock (g .blockSize)) (blockAt (g .blockSize) disk entry) (eq-eqb entry 0 e)))
+      ∙ sym (cond-true (zeroBlock (g .blockSize)) (blockAt (blockWidth g) disk entry) (eq-eqb entry 0 e)))
       (λ e.
       ap (nodeIn g disk level) (cond-false none (some (slotOf g entry)) (ne-eqb entry 0 e))
-      ∙ ap (blockAt (g .blockSize) disk)
+      ∙ ap (blockAt (blockWidth g) disk)
       (sym (slotBlock-of g (levelPlace g level) entry (formed e) .address-is))
-      ∙ sym (cond-false (zeroBlock (g .blockSize)) (blockAt (g .blockSize) disk entry) (ne-eqb entry 0 e)))
+      ∙ sym (cond-false (zeroBlock (g .blockSize)) (blockAt (blockWidth g) disk entry) (ne-eqb entry 0 e)))
       (eq-cases entry 0)
 
   some-of-slotIn : (slot : ℕ) → slotIn g entry ≡ some slot → (entry ≢ 0) × (slotOf g entry ≡ slot)
@@ -102,7 +101,7 @@ module _ (g : Geometry) (f : Fits g) (disk : Bytes) (sound : HiddenInvariant g d
   -- every entry that the tree spells is met, unless it is 0
   reached-step : (depth level key : ℕ) → Reached depth (suc level) (key / entriesIn g level) →
       Reached (suc depth) level key
-  unfolding nodeOf
+  unfolding nodeByKey
   reached-step depth level key higher ne =
       inNode met (sound .good-entries (suc level) above node met there .well-formed)
       (mod-lt key (entriesIn-positive g f level)) (sym (div-add-mod' key (entriesIn g level)))
@@ -124,11 +123,11 @@ module _ (g : Geometry) (f : Fits g) (disk : Bytes) (sound : HiddenInvariant g d
 
   reached : (depth level number : ℕ) → suc (level + depth) ≡ g .height → number < treeCapacity g →
       Reached depth level (keyOf g level number)
-  unfolding nodeOf
+  unfolding nodeByKey
   reached zero level number e h ne =
       let top : suc level ≡ g .height = omega arith in
       let l : keyOf g level number < entriesIn g level = below-root level number top h in
-      inRoot top l (ap (λ (n : ℕ). entryAt n (blockAt (g .blockSize) disk (rootAddress g))) (mod-eq-of-lt l))
+      inRoot top l (ap (λ (n : ℕ). entryAt n (blockAt (blockWidth g) disk (rootAddress g))) (mod-eq-of-lt l))
   reached (suc depth) level number e h ne =
       reached-step depth level (keyOf g level number)
       (subst (Reached depth (suc level)) (keyOf-suc g level number)
@@ -153,22 +152,22 @@ module _ (g : Geometry) (f : Fits g) (disk : Bytes) (sound : HiddenInvariant g d
 
   nodeAt-treeOf : (number level : ℕ) → number < treeCapacity g → level < g .height →
       nodeAt g disk (treeOf g disk) (suc level) number ≡
-      nodeOf g disk (g .height - 1 - level) (suc level) (keyOf g (suc level) number)
-  unfolding nodeOf
+      nodeByKey g disk (g .height - 1 - level) (suc level) (keyOf g (suc level) number)
+  unfolding nodeByKey
   nodeAt-treeOf number level low high = ⊎-elim top below (eq-cases (suc level) (g .height))
     where
       top : suc level ≡ g .height →
           nodeAt g disk (treeOf g disk) (suc level) number ≡
-          nodeOf g disk (g .height - 1 - level) (suc level) (keyOf g (suc level) number)
+          nodeByKey g disk (g .height - 1 - level) (suc level) (keyOf g (suc level) number)
       top e =
           let z : g .height - 1 - level ≡ 0 = omega arith in
           ap (λ (l : ℕ). nodeAt g disk (treeOf g disk) l number) e
           ∙ nodeAt-height g disk (treeOf g disk) number
-          ∙ ap (λ (depth : ℕ). nodeOf g disk depth (suc level) (keyOf g (suc level) number)) (sym z)
+          ∙ ap (λ (depth : ℕ). nodeByKey g disk depth (suc level) (keyOf g (suc level) number)) (sym z)
 
       below : suc level ≢ g .height →
           nodeAt g disk (treeOf g disk) (suc level) number ≡
-          nodeOf g disk (g .height - 1 - level) (suc level) (keyOf g (suc level) number)
+          nodeByKey g disk (g .height - 1 - level) (suc level) (keyOf g (suc level) number)
       below e =
           let l : suc level < g .height = omega arith in
           let z : g .height - 1 - level ≡ suc (g .height - 1 - suc level) = omega arith in
@@ -176,7 +175,7 @@ module _ (g : Geometry) (f : Fits g) (disk : Bytes) (sound : HiddenInvariant g d
           ∙ ap (nodeIn g disk (suc level)) (slotAt-treeOf number (suc level) low l)
           ∙ nodeIn-slotIn g disk (suc level) (entryFor number (suc level) low l)
           (formed number (suc level) low l)
-          ∙ ap (λ (depth : ℕ). nodeOf g disk depth (suc level) (keyOf g (suc level) number)) (sym z)
+          ∙ ap (λ (depth : ℕ). nodeByKey g disk depth (suc level) (keyOf g (suc level) number)) (sym z)
 
   linked-treeOf : Linked g disk (treeOf g disk)
   linked-treeOf =
@@ -184,7 +183,7 @@ module _ (g : Geometry) (f : Fits g) (disk : Bytes) (sound : HiddenInvariant g d
         linked = λ number level h k.
             ap₂ (λ (index : ℕ) (node : Bytes). entryAt index node) (branchAt-keyOf g number level)
             (nodeAt-treeOf number level h k
-            ∙ ap (nodeOf g disk (g .height - 1 - level) (suc level)) (keyOf-suc g level number))
+            ∙ ap (nodeByKey g disk (g .height - 1 - level) (suc level)) (keyOf-suc g level number))
             ∙ sym (ap (entryTo g level) (slotAt-treeOf number level h k)
             ∙ entryTo-slotIn g disk level (entryFor number level h k) (formed number level h k));
         inside = λ number level slot h k e.

@@ -11,11 +11,10 @@ use lib.Dec.{eqb}
 use lib.ListN.{length, length-replicate}
 use borrow.Author.Tests.{eq-eqb, ne-eqb}
 use Rattle.laws.proofs.Cases.{cond-true, cond-false, eq-cases, none-is-not-some}
-use Rattle.model.specs.Geometry.{Geometry, rootAddress, blockCount, treeCapacity}
+use Rattle.model.specs.Geometry.{Geometry, rootAddress, blockCount, treeCapacity, blockWidth}
 use Rattle.model.specs.Blocks.{Bytes, DiskAddress, blockAt, entryAt, zeroBlock}
 use Rattle.model.specs.Layout.{levelAddress}
-use Rattle.model.specs.HiddenTree.{branchAt}
-use Rattle.model.specs.HiddenHalf.{ownerOf}
+use Rattle.model.specs.HiddenTree.{ownerOf, branchAt}
 use Rattle.model.proofs.Laws.Geometry.{rootAddress-lt, slot-block-lt}
 use Rattle.model.proofs.Laws.Blocks.{length-blockAt}
 use Rattle.model.proofs.Laws.Entries.{entryAt-replicate}
@@ -40,12 +39,12 @@ entryTo g level (some slot) = levelAddress g slot level
 -- a slot's node of a level, zeros where there is none
 abbrev pub nodeIn : Geometry → (disk : Bytes) → (level : ℕ) → Option ℕ → Bytes
 nodeIn g disk level none = zeroBlock (g .blockSize)
-nodeIn g disk level (some slot) = blockAt (g .blockSize) disk (levelAddress g slot level)
+nodeIn g disk level (some slot) = blockAt (blockWidth g) disk (levelAddress g slot level)
 
 -- the current node of a level on a number's way down, the root at the height
 unfoldable pub nodeAt : Geometry → (disk : Bytes) → Tree → (level number : ℕ) → Bytes
 nodeAt g disk tree level number =
-    cond (eqb level (g .height)) (blockAt (g .blockSize) disk (rootAddress g))
+    cond (eqb level (g .height)) (blockAt (blockWidth g) disk (rootAddress g))
     (nodeIn g disk level (slotAt g tree level number))
 
 -- the current nodes from a level down
@@ -82,7 +81,7 @@ pub record Ghost (g : Geometry) (disk : Bytes) (tree : Tree) : Type 0 where
 -- what a number shows by it: the block in its slot
 abbrev pub blockIn : Geometry → (disk : Bytes) → Option ℕ → Option Bytes
 blockIn g disk none = none
-blockIn g disk (some slot) = some (blockAt (g .blockSize) disk (levelAddress g slot 0))
+blockIn g disk (some slot) = some (blockAt (blockWidth g) disk (levelAddress g slot 0))
 
 abbrev pub valueOf : Geometry → (disk : Bytes) → Tree → (number : ℕ) → Option Bytes
 valueOf g disk tree number = blockIn g disk (slotAt g tree 0 number)
@@ -93,8 +92,8 @@ valueOf g disk tree number = blockIn g disk (slotAt g tree 0 number)
 pub nodeIn-same :
     (g : Geometry) (disk after : Bytes) (level : ℕ) (held : Option ℕ) →
     ((slot : ℕ) → held ≡ some slot →
-    blockAt (g .blockSize) after (levelAddress g slot level) ≡
-    blockAt (g .blockSize) disk (levelAddress g slot level)) →
+    blockAt (blockWidth g) after (levelAddress g slot level) ≡
+    blockAt (blockWidth g) disk (levelAddress g slot level)) →
     nodeIn g after level held ≡ nodeIn g disk level held
 nodeIn-same g disk after level none same = refl
 nodeIn-same g disk after level (some slot) same = same slot refl
@@ -102,15 +101,15 @@ nodeIn-same g disk after level (some slot) same = same slot refl
 pub blockIn-same :
     (g : Geometry) (disk after : Bytes) (held : Option ℕ) →
     ((slot : ℕ) → held ≡ some slot →
-    blockAt (g .blockSize) after (levelAddress g slot 0) ≡
-    blockAt (g .blockSize) disk (levelAddress g slot 0)) →
+    blockAt (blockWidth g) after (levelAddress g slot 0) ≡
+    blockAt (blockWidth g) disk (levelAddress g slot 0)) →
     blockIn g after held ≡ blockIn g disk held
 blockIn-same g disk after none same = refl
 blockIn-same g disk after (some slot) same = ap {B = Option Bytes} some (same slot refl)
 
 module _ (g : Geometry) (disk : Bytes) (tree : Tree) where
   pub nodeAt-height :
-      (number : ℕ) → nodeAt g disk tree (g .height) number ≡ blockAt (g .blockSize) disk (rootAddress g)
+      (number : ℕ) → nodeAt g disk tree (g .height) number ≡ blockAt (blockWidth g) disk (rootAddress g)
   unfolding nodeAt
   nodeAt-height number = cond-true _ _ (eq-eqb (g .height) (g .height) refl)
 
@@ -126,7 +125,7 @@ module _ (g : Geometry) (disk : Bytes) (tree : Tree) where
   unfolding nodeAt
   nodeAt-same level n m e =
       ap (λ (key : ℕ).
-      cond (eqb level (g .height)) (blockAt (g .blockSize) disk (rootAddress g))
+      cond (eqb level (g .height)) (blockAt (blockWidth g) disk (rootAddress g))
       (nodeIn g disk level (tree level key))) e
 
   pub length-nodesFrom : (number level : ℕ) → length (nodesFrom g disk tree number level) ≡ level
@@ -137,7 +136,7 @@ module _ (g : Geometry) (disk : Bytes) (tree : Tree) where
   -- what holds of the root and of every node below it holds of every node
   pub nodeAt-cases :
       (P : ℕ → Bytes → Type 0) (level number : ℕ) → level ≤ g .height →
-      P (g .height) (blockAt (g .blockSize) disk (rootAddress g)) →
+      P (g .height) (blockAt (blockWidth g) disk (rootAddress g)) →
       (level < g .height → P level (nodeIn g disk level (slotAt g tree level number))) →
       P level (nodeAt g disk tree level number)
   nodeAt-cases P level number h p q =
@@ -156,14 +155,14 @@ module _ (g : Geometry) (disk : Bytes) (tree : Tree) where
       level ≤ g .height → number < treeCapacity g → length (nodeAt g disk tree level number) ≡ g .blockSize
   length-nodeAt whole links level number h k =
       nodeAt-cases (λ (l : ℕ) (node : Bytes). length node ≡ g .blockSize) level number h
-      (length-blockAt (g .blockSize) disk (blockCount g) whole (rootAddress g) (rootAddress-lt g))
+      (length-blockAt (blockWidth g) disk (blockCount g) whole (rootAddress g) (rootAddress-lt g))
       (λ l. below l (slotAt g tree level number) refl)
     where
       below : level < g .height → (slot : Option ℕ) → slotAt g tree level number ≡ slot →
           length (nodeIn g disk level slot) ≡ g .blockSize
       below l none e = length-replicate (g .blockSize) 0
       below l (some slot) e =
-          length-blockAt (g .blockSize) disk (blockCount g) whole (levelAddress g slot level)
+          length-blockAt (blockWidth g) disk (blockCount g) whole (levelAddress g slot level)
           (slot-block-lt g slot _ (links .inside number level slot k l e) (levelPlace-le g level l))
 
 -- ---- the empty tree ----
@@ -174,7 +173,7 @@ emptyTree level key = none
 -- a disk whose root entries are all 0 has it
 pub ghost-empty :
     (g : Geometry) (disk : Bytes) →
-    ((index : ℕ) → entryAt index (blockAt (g .blockSize) disk (rootAddress g)) ≡ 0) → Ghost g disk emptyTree
+    ((index : ℕ) → entryAt index (blockAt (blockWidth g) disk (rootAddress g)) ≡ 0) → Ghost g disk emptyTree
 ghost-empty g disk zeros =
     record {
       links = record { linked = zero-linked; inside = λ number level slot h k e. none-is-not-some slot e };

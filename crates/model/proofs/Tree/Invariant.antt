@@ -9,11 +9,10 @@ use native.Mathlib.Nat.{mod-eq-of-lt, div-eq-of-lt, div-mul-le-self}
 use native.Mathlib.Omega.{arith}
 use lib.Arith.{digits-mod, digits-div}
 use Rattle.laws.proofs.Cases.{true-is-not-false}
-use Rattle.model.specs.Geometry.{Geometry, Fits, rootAddress, treeCapacity}
+use Rattle.model.specs.Geometry.{Geometry, Fits, rootAddress, treeCapacity, blockWidth}
 use Rattle.model.specs.Blocks.{Bytes, DiskAddress, blockAt, entryAt}
 use Rattle.model.specs.Layout.{slotOf, levelAddress, isWellFormed}
-use Rattle.model.specs.HiddenTree.{span, walk, found}
-use Rattle.model.specs.HiddenHalf.{ownerOf}
+use Rattle.model.specs.HiddenTree.{ownerOf, span, walk, found}
 use Rattle.model.specs.Invariants.{entriesIn, Met, inRoot, inNode, GoodEntry, HiddenInvariant}
 use Rattle.model.proofs.Laws.Slots.{isSlotBlock-below, isWellFormed-levelAddress, slotOf-levelAddress}
 use Rattle.model.proofs.Tree.Keys.{keyOf, keyOf-suc, branchAt-keyOf, keyOf-first, lt-of-keyOf-height}
@@ -50,7 +49,7 @@ module _ (g : Geometry) (f : Fits g) (disk : Bytes) (tree : Tree) (ghost : Ghost
       ∙ ap (λ (n : ℕ). n / entriesIn g level) (keyOf-first g f level index)
 
   in-root : (level index : ℕ) (entry : DiskAddress) → suc level ≡ g .height → index < entriesIn g level →
-      entry ≡ entryAt index (blockAt (g .blockSize) disk (rootAddress g)) → MetBy level index entry
+      entry ≡ entryAt index (blockAt (blockWidth g) disk (rootAddress g)) → MetBy level index entry
   in-root level index entry e h p =
       let l : level < g .height = omega arith in
       let k : firstBelow level index < treeCapacity g =
@@ -71,7 +70,7 @@ module _ (g : Geometry) (f : Fits g) (disk : Bytes) (tree : Tree) (ghost : Ghost
   in-node : (level index above place : ℕ) (entry node : DiskAddress) → MetBy (suc level) above node →
       isWellFormed g (suc level) node ≡ true → place < entriesIn g level →
       index ≡ above * entriesIn g level + place →
-      entry ≡ entryAt place (blockAt (g .blockSize) disk node) → MetBy level index entry
+      entry ≡ entryAt place (blockAt (blockWidth g) disk node) → MetBy level index entry
   in-node level index above place entry node met formed h e p =
       let l : level < g .height = omega (arith, met .level-lt) in
       record {
@@ -95,7 +94,7 @@ module _ (g : Geometry) (f : Fits g) (disk : Bytes) (tree : Tree) (ghost : Ghost
           (omega (arith, met .level-lt)) (up ∙ sym (keyOf-first g f (suc level) above)) (met .first-lt)
 
       block : (slot : Option ℕ) → tree (suc level) above ≡ slot →
-          nodeAt g disk tree (suc level) (firstBelow level index) ≡ blockAt (g .blockSize) disk node
+          nodeAt g disk tree (suc level) (firstBelow level index) ≡ blockAt (blockWidth g) disk node
       block none q =
           let z : node ≡ 0 = met .entry-is ∙ ap (entryTo g (suc level)) q in
           true-is-not-false formed (isSlotBlock-below g (suc level) node (omega arith))
@@ -103,7 +102,7 @@ module _ (g : Geometry) (f : Fits g) (disk : Bytes) (tree : Tree) (ghost : Ghost
           nodeAt-below g disk tree (suc level) (firstBelow level index) (met .level-lt)
           ∙ ap (λ (n : ℕ). nodeIn g disk (suc level) (tree (suc level) n)) up
           ∙ ap (nodeIn g disk (suc level)) q
-          ∙ ap (blockAt (g .blockSize) disk) (sym (met .entry-is ∙ ap (entryTo g (suc level)) q))
+          ∙ ap (blockAt (blockWidth g) disk) (sym (met .entry-is ∙ ap (entryTo g (suc level)) q))
 
   met-by : (level index : ℕ) (entry : DiskAddress) → Met g disk level index entry → MetBy level index entry
   met-by level index entry (inRoot e h p) = in-root level index entry e h p

@@ -98,7 +98,7 @@ module _ (g : Geometry) (f : Fits g) where
   pub lt-treeCapacity : (number : ℕ) → number < g .hidden → number < treeCapacity g
   lt-treeCapacity number h = omega (arith, f .hidden-fits)
 
-  pub span-height : span g (g .height) ≡ treeCapacity g
+  span-height : span g (g .height) ≡ treeCapacity g
   unfolding span
   span-height = let e : suc (g .height - 1) ≡ g .height = omega (arith, f .height-low) in ap (span g) (sym e)
 

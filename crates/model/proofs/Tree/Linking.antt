@@ -7,7 +7,7 @@ use Prim.Native.Nat.{ℕ, suc, _*_, _≤_, _<_}
 use native.Mathlib.Omega.{arith}
 use lib.ListN.{length}
 use Rattle.laws.proofs.Cases.{eq-cases, lt-cases}
-use Rattle.model.specs.Geometry.{Geometry, Fits, rootAddress, blockCount, treeCapacity}
+use Rattle.model.specs.Geometry.{Geometry, Fits, rootAddress, blockCount, treeCapacity, blockWidth}
 use Rattle.model.specs.Blocks.{Bytes, blockAt, entryAt}
 use Rattle.model.specs.Layout.{levelAddress}
 use Rattle.model.specs.HiddenTree.{branchAt}
@@ -52,9 +52,9 @@ module _ (g : Geometry) (f : Fits g) (disk after : Bytes) (tree : Tree)
           let shared = path .ours other (suc level) h k mine in
           ⊎-elim
           (λ l.
-          ap (λ (n : ℕ). blockAt (g .blockSize) after (levelAddress g n (suc level))) q
+          ap (λ (n : ℕ). blockAt (blockWidth g) after (levelAddress g n (suc level))) q
           ∙ path .above (suc level) l k (ap (tree (suc level)) (sym shared) ∙ mine)
-          ∙ ap (λ (n : ℕ). blockAt (g .blockSize) disk (levelAddress g n (suc level))) (sym q))
+          ∙ ap (λ (n : ℕ). blockAt (blockWidth g) disk (levelAddress g n (suc level))) (sym q))
           (λ ne. absurd (ne shared)) unstored
 
   abbrev pub LinkedAt : (other level : ℕ) → Type 0
@@ -115,7 +115,7 @@ module _ (g : Geometry) (f : Fits g) (disk after : Bytes) (tree : Tree)
 
   -- a node above what was stored, the root as it was
   nodeAt-above : (other level : ℕ) → other < treeCapacity g → level < g .height → top < suc level →
-      blockAt (g .blockSize) after (rootAddress g) ≡ blockAt (g .blockSize) disk (rootAddress g) →
+      blockAt (blockWidth g) after (rootAddress g) ≡ blockAt (blockWidth g) disk (rootAddress g) →
       nodeAt g after new (suc level) other ≡ nodeAt g disk tree (suc level) other
   nodeAt-above other level h k l kept = ⊎-elim
       (λ e.

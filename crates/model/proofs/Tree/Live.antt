@@ -15,8 +15,8 @@ use Rattle.laws.proofs.Members.{All}
 use Rattle.model.specs.Geometry.{Geometry, Fits, treeCapacity}
 use Rattle.model.specs.Blocks.{Bytes}
 use Rattle.model.specs.Layout.{levelAddress}
-use Rattle.model.specs.HiddenTree.{isDamaged, isFoundAt, walk}
-use Rattle.model.specs.HiddenHalf.{HiddenWrite, ownerOf, isLive, isOwnerDamaged, isNextDamaged}
+use Rattle.model.specs.HiddenTree.{ownerOf, isDamaged, isFoundAt, walk}
+use Rattle.model.specs.HiddenHalf.{HiddenWrite, isLive, isOwnerDamaged, isNextDamaged}
 use Rattle.model.specs.HiddenHalf.{isBlocked}
 use Rattle.model.proofs.Laws.Accepted.{GoodWrite}
 use Rattle.model.proofs.Tree.Keys.{lt-treeCapacity}
@@ -62,7 +62,7 @@ module _ (g : Geometry) (f : Fits g) (disk : Bytes) (tree : Tree) (ghost : Ghost
 
   -- ---- no damage ----
 
-  pub isOwnerDamaged-false : (slot : ℕ) → isOwnerDamaged g disk slot ≡ false
+  isOwnerDamaged-false : (slot : ℕ) → isOwnerDamaged g disk slot ≡ false
   unfolding isOwnerDamaged
   isOwnerDamaged-false slot = ⊎-elim owned free (bool-cases (ltb (ownerOf g disk slot) (g .hidden)))
     where
@@ -79,7 +79,7 @@ module _ (g : Geometry) (f : Fits g) (disk : Bytes) (tree : Tree) (ghost : Ghost
           false
       free e = and-false-left (isDamaged (walk g disk (ownerOf g disk slot) .end)) e
 
-  pub isNextDamaged-false :
+  isNextDamaged-false :
       (waiting : List HiddenWrite) → All (GoodWrite g) waiting → isNextDamaged g disk waiting ≡ false
   unfolding isNextDamaged
   isNextDamaged-false [] h = refl

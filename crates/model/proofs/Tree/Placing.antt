@@ -8,11 +8,13 @@ use Prim.Native.Nat.{ℕ, suc, _*_, _-_, _<_}
 use native.Mathlib.Omega.{arith}
 use lib.ListN.{length}
 use Rattle.model.specs.Geometry.{Geometry, Fits, fanout, rootAddress, blockCount, treeCapacity}
+use Rattle.model.specs.Geometry.{blockWidth}
 use Rattle.model.specs.Blocks.{Bytes, blockAt, entryAt}
 use Rattle.model.specs.Layout.{levelAddress}
 use Rattle.model.specs.Stores.{Trace}
 use Rattle.model.specs.Paths.{linkedNode, pathStores, currentPath, dummyStores}
-use Rattle.model.specs.HiddenHalf.{ownerOf, isLive}
+use Rattle.model.specs.HiddenTree.{ownerOf}
+use Rattle.model.specs.HiddenHalf.{isLive}
 use Rattle.model.proofs.Tree.Keys.{keyOf, keyOf-zero, lt-treeCapacity}
 use Rattle.model.proofs.Tree.Ghost.{Tree, slotAt, nodeAt, nodesFrom, Ghost, blockIn, valueOf}
 use Rattle.model.proofs.Tree.Ghost.{blockIn-same, length-nodeAt}
@@ -64,7 +66,7 @@ module _ (g : Geometry) (f : Fits g) (disk after : Bytes) (tree : Tree)
       ∙ ap (keyOf g level) (mine (isLive-of-used g f disk tree ghost other level slot h k e))
 
   nodes : (level : ℕ) → level < g .height - 1 →
-      blockAt (g .blockSize) after (levelAddress g slot (suc level)) ≡
+      blockAt (blockWidth g) after (levelAddress g slot (suc level)) ≡
       linkedNode g number slot level (nodeAt g disk tree (suc level) number)
   nodes level h =
       on-path .in-slot (suc level) (omega arith) (omega arith)
@@ -141,7 +143,7 @@ module _ (g : Geometry) (f : Fits g) (disk after : Bytes) (tree : Tree)
 module _ (g : Geometry) (f : Fits g) (disk after : Bytes) (tree : Tree) (ghost : Ghost g disk tree)
     (slot : ℕ) (random : Bytes) (free : isLive g disk slot ≡ false)
     (stored : StoredBy g slot disk after (dummyStores g disk slot random)) where
-  root-kept : blockAt (g .blockSize) after (rootAddress g) ≡ blockAt (g .blockSize) disk (rootAddress g)
+  root-kept : blockAt (blockWidth g) after (rootAddress g) ≡ blockAt (blockWidth g) disk (rootAddress g)
   root-kept = stored .in-root ∙ dummy-root g disk slot random
 
   pub ghost-dummy : Ghost g after tree

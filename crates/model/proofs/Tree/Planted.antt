@@ -8,10 +8,10 @@ use Prim.Native.Nat.{ℕ, suc, _+_, _-_, _≤_, _<_}
 use lib.Dec.{eqb, leb}
 use borrow.Author.Tests.{eq-eqb, ne-eqb, le-leb, lt-leb}
 use Rattle.laws.proofs.Cases.{cond-true, cond-false, and-both, and-false-left, and-false-right}
-use Rattle.model.specs.Geometry.{Geometry, rootAddress, treeCapacity}
+use Rattle.model.specs.Geometry.{Geometry, rootAddress, treeCapacity, blockWidth}
 use Rattle.model.specs.Blocks.{Bytes, blockAt}
 use Rattle.model.specs.Layout.{slotStart, levelAddress}
-use Rattle.model.specs.HiddenHalf.{ownerOf}
+use Rattle.model.specs.HiddenTree.{ownerOf}
 use Rattle.model.specs.Paths.{linkedNode}
 use Rattle.model.proofs.Tree.Keys.{keyOf}
 use Rattle.model.proofs.Tree.Ghost.{Tree, slotAt, nodeAt}
@@ -29,8 +29,8 @@ placedTree g tree number slot = planted g tree number slot (g .height - 1)
 abbrev pub Apart : Geometry → (disk after : Bytes) → (slot : ℕ) → Type 0
 Apart g disk after slot =
     (other place : ℕ) → other < g .slots → other ≢ slot → 1 ≤ place → place ≤ g .height →
-    blockAt (g .blockSize) after (slotStart g other + place) ≡
-    blockAt (g .blockSize) disk (slotStart g other + place)
+    blockAt (blockWidth g) after (slotStart g other + place) ≡
+    blockAt (blockWidth g) disk (slotStart g other + place)
 
 -- a number's path stands in a slot up to a level, on a disk that was another one before
 pub record Planted (g : Geometry) (disk after : Bytes) (tree : Tree) (number slot top : ℕ) : Type 0 where
@@ -42,21 +42,21 @@ pub record Planted (g : Geometry) (disk after : Bytes) (tree : Tree) (number slo
   -- the path's nodes below the level
   pub nodes :
       (level : ℕ) → level < top →
-      blockAt (g .blockSize) after (levelAddress g slot (suc level)) ≡
+      blockAt (blockWidth g) after (levelAddress g slot (suc level)) ≡
       linkedNode g number slot level (nodeAt g disk tree (suc level) number)
   -- the slot's nodes above it, if they are current
   pub above :
       (level : ℕ) → top < level → level < g .height → slotAt g tree level number ≡ some slot →
-      blockAt (g .blockSize) after (levelAddress g slot level) ≡
-      blockAt (g .blockSize) disk (levelAddress g slot level)
+      blockAt (blockWidth g) after (levelAddress g slot level) ≡
+      blockAt (blockWidth g) disk (levelAddress g slot level)
   pub apart : Apart g disk after slot
   pub owner : ownerOf g after slot ≡ number
   -- the whole path with the root, or a path that was in this slot before
   pub joined :
       ((suc top ≡ g .height) ×
-      (blockAt (g .blockSize) after (rootAddress g) ≡
+      (blockAt (blockWidth g) after (rootAddress g) ≡
       linkedNode g number slot top (nodeAt g disk tree (g .height) number))) ⊎
-      ((blockAt (g .blockSize) after (rootAddress g) ≡ blockAt (g .blockSize) disk (rootAddress g)) ×
+      ((blockAt (blockWidth g) after (rootAddress g) ≡ blockAt (blockWidth g) disk (rootAddress g)) ×
       (slotAt g tree top number ≡ some slot) × (slotAt g tree 0 number ≡ some slot))
 
 -- ---- the planted tree ----

@@ -9,7 +9,7 @@ use lib.ListN.{length}
 use Rattle.laws.proofs.Cases.{eq-cases, lt-cases, some-inj}
 use Rattle.model.specs.Geometry.{Geometry, Fits, fanout, blockCount, treeCapacity}
 use Rattle.model.specs.Blocks.{Bytes, entryAt}
-use Rattle.model.specs.HiddenHalf.{ownerOf}
+use Rattle.model.specs.HiddenTree.{ownerOf}
 use Rattle.model.proofs.Tree.Keys.{keyOf, keyOf-zero}
 use Rattle.model.proofs.Tree.Ghost.{Tree, slotAt, Owned, Ghost}
 use Rattle.model.proofs.Tree.Planted.{planted, Planted, planted-same, planted-above, planted-other}

@@ -6,7 +6,7 @@ use mathlib.Core.List.{[], _∷_}
 use Prim.Native.Nat.{ℕ, zero, suc, _+_, _≤_, _<_}
 use native.Mathlib.Omega.{arith}
 use Rattle.laws.proofs.Cases.{eq-cases}
-use Rattle.model.specs.Geometry.{Geometry, rootAddress}
+use Rattle.model.specs.Geometry.{Geometry, rootAddress, blockWidth}
 use Rattle.model.specs.Blocks.{Bytes, DiskAddress, blockAt}
 use Rattle.model.specs.Layout.{slotStart, levelAddress}
 use Rattle.model.specs.Stores.{Store, Trace, store}
@@ -18,12 +18,12 @@ use Rattle.model.proofs.Tree.Planted.{Apart}
 -- a disk whose hidden blocks and root are those that a trace for a slot leaves of another disk
 pub record StoredBy (g : Geometry) (slot : ℕ) (disk after : Bytes) (trace : Trace) : Type 0 where
   pub in-root :
-      blockAt (g .blockSize) after (rootAddress g) ≡
-      lastAt trace (rootAddress g) (blockAt (g .blockSize) disk (rootAddress g))
+      blockAt (blockWidth g) after (rootAddress g) ≡
+      lastAt trace (rootAddress g) (blockAt (blockWidth g) disk (rootAddress g))
   pub in-slot :
       (place : ℕ) → 1 ≤ place → place ≤ g .height →
-      blockAt (g .blockSize) after (slotStart g slot + place) ≡
-      lastAt trace (slotStart g slot + place) (blockAt (g .blockSize) disk (slotStart g slot + place))
+      blockAt (blockWidth g) after (slotStart g slot + place) ≡
+      lastAt trace (slotStart g slot + place) (blockAt (blockWidth g) disk (slotStart g slot + place))
   pub apart : Apart g disk after slot
 
 -- ---- a path ----
@@ -97,8 +97,8 @@ module _ (g : Geometry) (disk : Bytes) (tree : Tree) (number slot : ℕ) where
 -- ---- random blocks ----
 
 pub dummy-root : (g : Geometry) (disk : Bytes) (slot : ℕ) (random : Bytes) →
-    lastAt (dummyStores g disk slot random) (rootAddress g) (blockAt (g .blockSize) disk (rootAddress g)) ≡
-    blockAt (g .blockSize) disk (rootAddress g)
+    lastAt (dummyStores g disk slot random) (rootAddress g) (blockAt (blockWidth g) disk (rootAddress g)) ≡
+    blockAt (blockWidth g) disk (rootAddress g)
 dummy-root g disk slot random =
     lastAt-append (randomBlocks g (slotStart g slot + 1) (g .height) random)
     (keptBlock g disk (rootAddress g) ∷ []) (rootAddress g) _

@@ -9,12 +9,13 @@ use Prim.Native.Nat.{ℕ, _*_, _<_}
 use lib.ListN.{length}
 use Rattle.laws.proofs.Cases.{true-is-not-false, bool-cases, eq-cases, cond-false, cond-true}
 use Rattle.laws.proofs.Members.{All}
-use Rattle.model.specs.Geometry.{Geometry, Fits, blockCount, treeCapacity}
+use Rattle.model.specs.Geometry.{Geometry, Fits, blockCount, treeCapacity, blockWidth}
 use Rattle.model.specs.Blocks.{Bytes, blockAt}
 use Rattle.model.specs.Layout.{levelAddress}
 use Rattle.model.specs.Table.{HiddenChoice, keepHidden, placeHidden, fillHidden}
 use Rattle.model.specs.Paths.{currentPath, writtenBack, dummyStores}
-use Rattle.model.specs.HiddenHalf.{HiddenWrite, HiddenState, HiddenHalf, half, isWaiting, ownerOf}
+use Rattle.model.specs.HiddenTree.{ownerOf}
+use Rattle.model.specs.HiddenHalf.{HiddenWrite, HiddenState, HiddenHalf, half, isWaiting}
 use Rattle.model.specs.HiddenHalf.{isLive, placedState, blockedState, hiddenBy, rowOf, hiddenHalf}
 use Rattle.model.proofs.Laws.Accepted.{GoodWrite}
 use Rattle.model.proofs.Laws.HiddenHalf.{rowOf-hidden}
@@ -52,7 +53,7 @@ module _ (g : Geometry) (f : Fits g) (disk : Bytes) (tree : Tree)
   turns-live : isLive g disk slot ≡ true →
       Turns
       (half (currentPath g disk (ownerOf g disk slot) slot
-      (blockAt (g .blockSize) disk (levelAddress g slot 0))) state)
+      (blockAt (blockWidth g) disk (levelAddress g slot 0))) state)
   turns-live live after stored =
       let placed = placement g f disk after tree whole start owner slot _ low here (λ e. refl) stored in
       record {

@@ -5,11 +5,10 @@ use mathlib.Core.Logic.{_≢_}
 use mathlib.Core.Option.{Option, some}
 use Prim.Native.Nat.{ℕ, suc, _+_, _-_, _≤_, _<_}
 use native.Mathlib.Omega.{arith}
-use Rattle.model.specs.Geometry.{Geometry, Fits, fanout, rootAddress, treeCapacity}
+use Rattle.model.specs.Geometry.{Geometry, Fits, fanout, rootAddress, treeCapacity, blockWidth}
 use Rattle.model.specs.Blocks.{Bytes, blockAt, entryAt}
 use Rattle.model.specs.Layout.{slotStart, levelPlace}
-use Rattle.model.specs.HiddenTree.{branchAt}
-use Rattle.model.specs.HiddenHalf.{ownerOf}
+use Rattle.model.specs.HiddenTree.{ownerOf, branchAt}
 use Rattle.model.proofs.Laws.Slots.{levelPlace-le, levelPlace-ge}
 use Rattle.model.proofs.Tree.Keys.{keyOf}
 use Rattle.model.proofs.Tree.Ghost.{Tree, slotAt, nodeAt, Owned, Ghost, valueOf, nodeIn-same}
@@ -19,7 +18,7 @@ use Rattle.model.proofs.Tree.Planted.{Apart}
 module _ (g : Geometry) (f : Fits g) (disk after : Bytes) (tree : Tree) (ghost : Ghost g disk tree) (slot : ℕ)
     (unused : (number level : ℕ) → number < treeCapacity g → level < g .height →
     slotAt g tree level number ≢ some slot)
-    (root : blockAt (g .blockSize) after (rootAddress g) ≡ blockAt (g .blockSize) disk (rootAddress g))
+    (root : blockAt (blockWidth g) after (rootAddress g) ≡ blockAt (blockWidth g) disk (rootAddress g))
     (apart : Apart g disk after slot) where
   positive : 0 < g .height
   positive = omega (arith, f .height-low)
@@ -28,8 +27,8 @@ module _ (g : Geometry) (f : Fits g) (disk after : Bytes) (tree : Tree) (ghost :
   block-kept : (number level held : ℕ) → number < treeCapacity g → level < g .height →
       slotAt g tree level number ≡ some held →
       (place : ℕ) → 1 ≤ place → place ≤ g .height →
-      blockAt (g .blockSize) after (slotStart g held + place) ≡
-      blockAt (g .blockSize) disk (slotStart g held + place)
+      blockAt (blockWidth g) after (slotStart g held + place) ≡
+      blockAt (blockWidth g) disk (slotStart g held + place)
   block-kept number level held h k e place low high =
       apart held place (ghost .links .inside number level held h k e)
       (λ z. unused number level h k (e ∙ ap {B = Option ℕ} some z)) low high

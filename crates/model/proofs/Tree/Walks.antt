@@ -11,7 +11,7 @@ use lib.Dec.{eqb}
 use lib.ListN.{replicate}
 use borrow.Author.Tests.{ne-eqb, eqb-true}
 use Rattle.laws.proofs.Cases.{true-is-not-false, cond-true, cond-false}
-use Rattle.model.specs.Geometry.{Geometry, Fits, treeCapacity}
+use Rattle.model.specs.Geometry.{Geometry, Fits, treeCapacity, blockWidth}
 use Rattle.model.specs.Blocks.{Bytes, DiskAddress, blockAt, entryAt, zeroBlock}
 use Rattle.model.specs.Layout.{slotOf, levelAddress, isWellFormed}
 use Rattle.model.specs.HiddenTree.{branchAt, End, found, unmapped, damaged, isDamaged, isFoundAt, Walk}
@@ -82,7 +82,7 @@ module _ (g : Geometry) (disk : Bytes) (tree : Tree) (links : Linked g disk tree
       cond-false _ _ (ne-eqb (levelAddress g slot level) 0 (λ z. omega arith))
       ∙ cond-true _ _ (isWellFormed-levelAddress g slot level k h)
 
-  pub walkFrom-nodeAt : (level : ℕ) → level < g .height →
+  walkFrom-nodeAt : (level : ℕ) → level < g .height →
       walkFrom g disk number level (nodeAt g disk tree (suc level) number) ≡ walkBy (suc level)
   unfolding walkFrom nodesFrom
   walkFrom-nodeAt zero h =
@@ -109,7 +109,7 @@ module _ (g : Geometry) (disk : Bytes) (tree : Tree) (links : Linked g disk tree
       node = nodeAt g disk tree (suc (suc level)) number
 
       on : (entry : DiskAddress) → Walk
-      on entry = passing node (walkFrom g disk number level (blockAt (g .blockSize) disk entry))
+      on entry = passing node (walkFrom g disk number level (blockAt (blockWidth g) disk entry))
 
       step : (entry : DiskAddress) → Walk
       step entry =
@@ -129,7 +129,7 @@ module _ (g : Geometry) (disk : Bytes) (tree : Tree) (links : Linked g disk tree
           ∙ ap (passing node) below
 
   -- a walk from the root
-  pub walk-is : Fits g → walk g disk number ≡ walkBy (g .height)
+  walk-is : Fits g → walk g disk number ≡ walkBy (g .height)
   walk-is f =
       let e : suc (g .height - 1) ≡ g .height = omega (arith, f .height-low) in
       ap (walkFrom g disk number (g .height - 1))

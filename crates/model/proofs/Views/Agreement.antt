@@ -4,8 +4,8 @@
 use mathlib.Core.Path.{_≡_, sym, _∙_}
 use mathlib.Core.Logic.{_≢_, _⊎_, inl, inr}
 use mathlib.Core.List.{[], _∷_, _++_}
-use Prim.Native.Nat.{ℕ, suc, zero, _*_, _<_}
-use lib.ListN.{length, take}
+use Prim.Native.Nat.{ℕ, _*_, _<_}
+use lib.ListN.{length}
 use Rattle.laws.proofs.Cases.{eq-cases}
 use Rattle.model.specs.Blocks.{Bytes, DiskAddress, blockAt, setBlock}
 use Rattle.model.specs.Stores.{Store, Trace, apply}
@@ -36,12 +36,6 @@ module _ (shows : DiskAddress → Bytes → Bytes) (width count : ℕ) where
   pub along-append : {xs ys us vs : Trace} → Along xs ys → Along us vs → Along (xs ++ us) (ys ++ vs)
   along-append none k = k
   along-append (more b h) k = more b (along-append h k)
-
-  -- both cut after so many stores
-  pub along-take : {xs ys : Trace} (n : ℕ) → Along xs ys → Along (take n xs) (take n ys)
-  along-take zero h = none
-  along-take (suc n) none = none
-  along-take (suc n) (more b h) = more b (along-take n h)
 
   -- ---- disks after them ----
 

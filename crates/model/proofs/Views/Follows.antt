@@ -12,6 +12,7 @@ use borrow.Author.Tests.{eq-eqb, ne-eqb}
 use Rattle.laws.specs.Lists.{over}
 use Rattle.laws.proofs.Cases.{cond-true, cond-false}
 use Rattle.laws.proofs.Lists.{take-over}
+use Rattle.model.specs.Geometry.{blockWidth}
 use Rattle.model.specs.Blocks.{Bytes, DiskAddress}
 use Rattle.model.specs.Layout.{geometryIn, headIn}
 use Rattle.model.specs.Stores.{addresses}
@@ -85,7 +86,7 @@ module _ (disk : Bytes) (accepted : driveRefusal disk ≡ 0) (number : ℕ) (con
   refused-follows ne =
       let no : isDone (trackerOf disk) call ≡ false =
       ne-eqb (simulatedAnswer (trackerOf disk) call) 0 (λ e. ne (sym answer-is ∙ e)) in
-      let same = apply-nil (geometryIn disk .blockSize) disk in
+      let same = apply-nil (blockWidth (geometryIn disk)) disk in
       record {
         told-same = told-ext (sym answer-is) refl refl refl ∙ sym (toldOf-refused (trackerOf disk) call no);
         accepted-after = ap driveRefusal same ∙ accepted;

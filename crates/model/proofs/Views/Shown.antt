@@ -9,7 +9,7 @@ use lib.Dec.{ltb}
 use borrow.Author.Tests.{lt-ltb, le-ltb}
 use Rattle.laws.proofs.Cases.{or-left, or-right, or-neither, cond-true, cond-false}
 use Rattle.laws.proofs.Members.{All}
-use Rattle.model.specs.Geometry.{Geometry, rootAddress, blockCount}
+use Rattle.model.specs.Geometry.{Geometry, rootAddress, blockCount, blockWidth}
 use Rattle.model.specs.Blocks.{Bytes, DiskAddress, blockAt}
 use Rattle.model.specs.Layout.{slotStart, isSlotBlock}
 use Rattle.model.specs.Stores.{Store, Trace, addresses}
@@ -86,10 +86,10 @@ TraceSame g xs ys = Along (shownOf g) (g .blockSize) (blockCount g) xs ys
 pub blockAt-alike :
     (g : Geometry) (disk other : Bytes) → ShowSame g disk other → (address : DiskAddress) →
     isShown g address ≡ true →
-    blockAt (g .blockSize) disk address ≡ blockAt (g .blockSize) other address
+    blockAt (blockWidth g) disk address ≡ blockAt (blockWidth g) other address
 blockAt-alike g disk other a address e =
-    sym (shownOf-shown g address (blockAt (g .blockSize) disk address) e) ∙ a .same-shown address
-    ∙ shownOf-shown g address (blockAt (g .blockSize) other address) e
+    sym (shownOf-shown g address (blockAt (blockWidth g) disk address) e) ∙ a .same-shown address
+    ∙ shownOf-shown g address (blockAt (blockWidth g) other address) e
 
 -- an address on the disk that is not shown
 abbrev pub Hidden : Geometry → DiskAddress → Type 0

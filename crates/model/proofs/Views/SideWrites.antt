@@ -9,7 +9,7 @@ use Prim.Native.Nat.{ℕ}
 use native.Mathlib.Omega.{arith}
 use lib.ListN.{length}
 use Rattle.laws.proofs.Cases.{eq-cases}
-use Rattle.model.specs.Geometry.{Geometry, blockCount}
+use Rattle.model.specs.Geometry.{Geometry, blockCount, blockWidth}
 use Rattle.model.specs.Blocks.{Bytes, DiskAddress}
 use Rattle.model.specs.Layout.{geometryIn, headIn}
 use Rattle.model.specs.Stores.{apply}
@@ -99,11 +99,11 @@ module _ (disk other : Bytes) (twins : Twins disk other) (number : ℕ) (content
 
     -- the disks that the two runs leave
     final-alike :
-        ShowSame g (apply (g .blockSize) (run .trace) disk)
-        (apply (geometryIn other .blockSize) (runOther .trace) other)
+        ShowSame g (apply (blockWidth g) (run .trace) disk)
+        (apply (blockWidth (geometryIn other)) (runOther .trace) other)
     final-alike =
-        subst (λ (h : Geometry). ShowSame g (apply (g .blockSize) (run .trace) disk)
-        (apply (h .blockSize) (runOther .trace) other))
+        subst (λ (h : Geometry). ShowSame g (apply (blockWidth g) (run .trace) disk)
+        (apply (blockWidth h) (runOther .trace) other))
         (geometryIn-twins disk other twins)
         (agree-apply (shownOf g) (g .blockSize) (blockCount g) trace-alike (twins .show-same))
 
@@ -155,7 +155,7 @@ module _ (disk other : Bytes) (twins : Twins disk other) (number : ℕ) (content
           rw (
             written-refused disk number content random (length list) offer ne,
             written-refused other number content others (length lists) offerOther (λ e. ne (refusals ∙ e)),
-            apply-nil (geometryIn disk .blockSize) disk,
-            apply-nil (geometryIn other .blockSize) other,
+            apply-nil (blockWidth (geometryIn disk)) disk,
+            apply-nil (blockWidth (geometryIn other)) other,
           )
           (twins .show-same)

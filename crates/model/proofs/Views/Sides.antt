@@ -10,10 +10,10 @@ use lib.Dec.{eqb}
 use lib.ListN.{length}
 use borrow.Author.Tests.{eq-eqb}
 use Rattle.laws.proofs.Members.{all-map}
-use Rattle.model.specs.Geometry.{Geometry, Fits, fanout, rootAddress, blockCount}
+use Rattle.model.specs.Geometry.{Geometry, Fits, fanout, rootAddress, blockCount, blockWidth}
 use Rattle.model.specs.Blocks.{Bytes, DiskAddress, blockAt, entryAt, setEntry}
-use Rattle.model.specs.Layout.{slotStart, slotOf, nextSlot, mapAddress, mapEntry, bitAddress}
-use Rattle.model.specs.Layout.{isShared, isAllocated, bitmapWith}
+use Rattle.model.specs.Layout.{slotStart, slotOf, nextSlot, mapAddress, mapEntry, bitAddress, isShared}
+use Rattle.model.specs.Layout.{isAllocated, bitmapWith}
 use Rattle.model.specs.Stores.{Trace, store, apply, addresses}
 use Rattle.model.specs.Table.{PublicChoice, keepPublic, writePublic}
 use Rattle.model.specs.Rounds.{publicStore, mapStore, bitStore, movedStores, bitStores, headerStore}
@@ -66,7 +66,7 @@ store-alike g address content other h sized e =
 module _ (g : Geometry) (f : Fits g) (disk other : Bytes) (same : ShowSame g disk other) where
   below-alike :
       (address : DiskAddress) → address < rootAddress g →
-      blockAt (g .blockSize) disk address ≡ blockAt (g .blockSize) other address
+      blockAt (blockWidth g) disk address ≡ blockAt (blockWidth g) other address
   below-alike address h = blockAt-alike g disk other same address (isShown-below g address h)
 
   pub entryAt-alike : (index : ℕ) → index < 6 → entryAt index disk ≡ entryAt index other
@@ -98,7 +98,7 @@ module _ (g : Geometry) (f : Fits g) (disk other : Bytes) (same : ShowSame g dis
   headerStore-alike slot =
       let sized = blockAt-whole g f disk (same .whole) 0 (omega arith) in
       store-alike g 0 _ _ (omega arith)
-      (length-setEntry 5 (nextSlot g slot) (blockAt (g .blockSize) disk 0) (omega (arith, f .size-low))
+      (length-setEntry 5 (nextSlot g slot) (blockAt (blockWidth g) disk 0) (omega (arith, f .size-low))
       ∙ sized)
       (ap (setEntry 5 (nextSlot g slot)) (below-alike 0 (omega arith)))
 
@@ -138,7 +138,7 @@ module _ (g : Geometry) (f : Fits g) (disk other : Bytes) (same : ShowSame g dis
       new = bitStore-alike g f disk other same slot true inside
 
       withNew : Bytes → Bytes
-      withNew bytes = apply (g .blockSize) (bitStore g bytes slot true ∷ []) bytes
+      withNew bytes = apply (blockWidth g) (bitStore g bytes slot true ∷ []) bytes
 
       after : ShowSame g (withNew disk) (withNew other)
       after = agree-apply (shownOf g) (g .blockSize) (blockCount g) (more new none) same

@@ -7,11 +7,11 @@ use mathlib.Core.List.{[], _++_}
 use Prim.Native.Nat.{ℕ, zero, suc, _+_, _*_, _≤_, _<_}
 use native.Mathlib.Omega.{arith}
 use lib.ListN.{length}
-use lib.Seq.{take-at, drop-append-add}
 use Rattle.laws.specs.Lists.{part}
 use Rattle.laws.proofs.Cases.{lt-cases, eq-cases}
 use Rattle.laws.proofs.Joins.{append-split}
-use Rattle.model.specs.Geometry.{Geometry, rootAddress, blockCount}
+use Rattle.laws.proofs.Lists.{part-append-front, part-append-rest}
+use Rattle.model.specs.Geometry.{Geometry, rootAddress, blockCount, blockWidth}
 use Rattle.model.specs.Blocks.{Bytes, DiskAddress, blockAt, entryAt}
 use Rattle.model.specs.Layout.{Drive, geometryIn, mapAddress, mapEntry, bitAddress, isAllocated}
 use Rattle.model.specs.View.{isShown, shownOf, viewFrom, viewOf}
@@ -25,7 +25,7 @@ use Rattle.model.proofs.Views.Shown.{ShowSame}
 
 -- what an address shows of a disk
 abbrev shownAt : Geometry → (disk : Bytes) → DiskAddress → Bytes
-shownAt g disk address = shownOf g address (blockAt (g .blockSize) disk address)
+shownAt g disk address = shownOf g address (blockAt (blockWidth g) disk address)
 
 -- ---- one disk ----
 
@@ -35,8 +35,8 @@ module _ (g : Geometry) (disk : Bytes) (whole : length disk ≡ blockCount g * g
       length (shownAt g disk address) ≡ cond (isShown g address) (g .blockSize) 0
   unfolding shownOf
   length-shownAt address h =
-      by (isShown g address) (blockAt (g .blockSize) disk address)
-      (length-blockAt (g .blockSize) disk (blockCount g) whole address h)
+      by (isShown g address) (blockAt (blockWidth g) disk address)
+      (length-blockAt (blockWidth g) disk (blockCount g) whole address h)
     where
       by : (b : Bool) (block : Bytes) → length block ≡ g .blockSize →
           length (cond b block []) ≡ cond b (g .blockSize) 0
@@ -46,31 +46,32 @@ module _ (g : Geometry) (disk : Bytes) (whole : length disk ≡ blockCount g * g
   -- before the root the view stands as the disk does
   blockAt-viewFrom :
       (count address index : ℕ) → index < count → address + index < rootAddress g →
-      blockAt (g .blockSize) (viewFrom g disk address count) index ≡
-      blockAt (g .blockSize) disk (address + index)
-  unfolding viewFrom blockAt part
+      blockAt (blockWidth g) (viewFrom g disk address count) index ≡
+      blockAt (blockWidth g) disk (address + index)
+  unfolding viewFrom blockAt
   blockAt-viewFrom zero address index h l = absurd (omega arith)
   blockAt-viewFrom (suc count) address zero h l =
-      let block = blockAt (g .blockSize) disk address in
+      let block = blockAt (blockWidth g) disk address in
       let e : address + 0 ≡ address = omega arith in
       let z : 0 * g .blockSize ≡ 0 = omega arith in
       let s : isShown g address ≡ true = isShown-below g address (omega arith) in
-      let sized = length-blockAt (g .blockSize) disk (blockCount g) whole address (omega arith) in
+      let sized = length-blockAt (blockWidth g) disk (blockCount g) whole address (omega arith) in
+      let later = viewFrom g disk (suc address) count in
       rw (e, z, shownOf-shown g address block s)
-      (take-at block (viewFrom g disk (suc address) count) (g .blockSize) sized)
+      (ap (λ (size : ℕ). part 0 size (block ++ later)) (sym sized) ∙ part-append-front block later)
   blockAt-viewFrom (suc count) address (suc index) h l =
-      let block = blockAt (g .blockSize) disk address in
+      let block = blockAt (blockWidth g) disk address in
       let e : suc address + index ≡ address + suc index = omega arith in
       let s : isShown g address ≡ true = isShown-below g address (omega arith) in
-      let sized = length-blockAt (g .blockSize) disk (blockCount g) whole address (omega arith) in
+      let sized = length-blockAt (blockWidth g) disk (blockCount g) whole address (omega arith) in
       let z : suc index * g .blockSize ≡ length block + index * g .blockSize = omega arith in
       rw (
         z,
         shownOf-shown g address block s,
-        drop-append-add block (viewFrom g disk (suc address) count) (index * g .blockSize),
+        part-append-rest block (viewFrom g disk (suc address) count) (index * g .blockSize) (g .blockSize),
       )
       (blockAt-viewFrom count (suc address) index (omega arith) (omega arith)
-      ∙ ap (blockAt (g .blockSize) disk) e)
+      ∙ ap (blockAt (blockWidth g) disk) e)
 
 -- ---- two disks ----
 
@@ -117,21 +118,21 @@ module _ (g : Geometry) (disk other : Bytes) where
         nothing :
             (bytes : Bytes) (address : DiskAddress) → blockCount g ≤ address → shownAt g bytes address ≡ []
         nothing bytes address h =
-            shownOf-hidden g address (blockAt (g .blockSize) bytes address) (isShown-past g address h)
+            shownOf-hidden g address (blockAt (blockWidth g) bytes address) (isShown-past g address h)
 
 -- ---- what the view reads ----
 
 module _ (disk : Bytes) (drive : Drive (geometryIn disk) disk) where
-  pub blockAt-viewOf :
+  blockAt-viewOf :
       (address : DiskAddress) → address < rootAddress (geometryIn disk) →
-      blockAt (geometryIn disk .blockSize) (viewOf disk) address ≡
-      blockAt (geometryIn disk .blockSize) disk address
+      blockAt (blockWidth (geometryIn disk)) (viewOf disk) address ≡
+      blockAt (blockWidth (geometryIn disk)) disk address
   unfolding viewOf
   blockAt-viewOf address h =
       let e : 0 + address ≡ address = omega arith in
       blockAt-viewFrom (geometryIn disk) disk (drive .whole) (blockCount (geometryIn disk)) 0 address
       (omega arith) (omega arith)
-      ∙ ap (blockAt (geometryIn disk .blockSize) disk) e
+      ∙ ap (blockAt (blockWidth (geometryIn disk)) disk) e
 
   pub entryAt-viewOf : (index : ℕ) → index < 6 → entryAt index (viewOf disk) ≡ entryAt index disk
   entryAt-viewOf index h =

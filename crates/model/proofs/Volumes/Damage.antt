@@ -19,8 +19,8 @@ use Rattle.model.specs.HiddenTree.{walk, isDamaged}
 use Rattle.model.specs.HiddenHalf.{HiddenWrite, HiddenState, isWaiting}
 use Rattle.model.specs.Refusals.{driveChecks, placeChecks, roundChecks, hiddenChecks, walkChecks}
 use Rattle.model.specs.Refusals.{driveRefusal, publicReadRefusal, hiddenReadRefusal}
-use Rattle.model.specs.Calls.{noWrite, placed, waiting, badNumber, badSize}
-use Rattle.model.specs.Calls.{outcomeNumber, outcomeOf, Written, written}
+use Rattle.model.specs.Calls.{noWrite, placed, waiting, badNumber, badSize, outcomeNumber, offerOutcome}
+use Rattle.model.specs.Calls.{Written, written}
 use Rattle.model.specs.Invariants.{HiddenInvariant}
 use Rattle.model.specs.Runs.{Call, diskAfter, diskAfterAll}
 use Rattle.model.specs.Promises.ReadAfterWrite.{Sound}
@@ -69,8 +69,8 @@ module _ (g : Geometry) where
 
 -- without damage no outcome says so
 outcome-undamaged : (refusal : ℕ) (state : HiddenState) → state .metDamage ≡ false →
-    outcomeNumber (outcomeOf refusal state) ≢ 12
-unfolding outcomeOf
+    outcomeNumber (offerOutcome refusal state) ≢ 12
+unfolding offerOutcome
 outcome-undamaged refusal state e =
     rw e (by (eqb refusal 10) (eqb refusal 11) (not (eqb (state .placed) 0)) (isWaiting (state .waiting)))
   where

@@ -6,7 +6,7 @@ use mathlib.Core.List.{append-nil}
 use Prim.Native.Nat.{_*_, ℕ, zero, suc, _<_}
 use lib.ListN.{drop, length}
 use Rattle.laws.proofs.Cases.{bool-cases}
-use Rattle.model.specs.Geometry.{Geometry, Fits}
+use Rattle.model.specs.Geometry.{Geometry, Fits, blockWidth}
 use Rattle.model.specs.Blocks.{Bytes}
 use Rattle.model.specs.Layout.{isAllocated, nextSlot}
 use Rattle.model.specs.Stores.{Trace, apply}
@@ -24,7 +24,7 @@ use Rattle.model.proofs.Volumes.Growth.{Grew, grew-then, round-grew}
 abbrev Grows : Geometry → (disk : Bytes) → HiddenState → Run → Type 0
 Grows g disk state run =
     (tree : Tree) → Ghost g disk tree →
-    Grew g disk (apply (g .blockSize) (run .trace) disk) tree state (run .state)
+    Grew g disk (apply (blockWidth g) (run .trace) disk) tree state (run .state)
 
 module _ (g : Geometry) (f : Fits g) (number : ℕ) (counted : number < g .publics) (content : Bytes)
     (sized : length content ≡ g .blockSize) where
@@ -60,13 +60,13 @@ module _ (g : Geometry) (f : Fits g) (number : ℕ) (counted : number < g .publi
     grows-kept run grows tree ghost =
         let first = one keepPublic tree ghost in
         subst (λ (final : Bytes). Grew g disk final tree state (run .state))
-        (sym (apply-append (g .blockSize) (round keepPublic) (run .trace) disk))
-        (grew-then g disk (after keepPublic) (apply (g .blockSize) (run .trace) (after keepPublic)) tree
+        (sym (apply-append (blockWidth g) (round keepPublic) (run .trace) disk))
+        (grew-then g disk (after keepPublic) (apply (blockWidth g) (run .trace) (after keepPublic)) tree
         state (now .state) (run .state) first (grows (first .grown) (first .ghost)))
 
     grows-last : Grows g disk state (followedBy (round writePublic) (stopped (now .state)))
     grows-last tree ghost =
-        subst (λ (trace : Trace). Grew g disk (apply (g .blockSize) trace disk) tree state (now .state))
+        subst (λ (trace : Trace). Grew g disk (apply (blockWidth g) trace disk) tree state (now .state))
         (sym (append-nil (round writePublic))) (one writePublic tree ghost)
 
     grows-by : Grows g disk state (runFrom (suc most) g number content slot random disk state)

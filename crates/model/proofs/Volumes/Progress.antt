@@ -17,7 +17,7 @@ use Rattle.model.specs.Blocks.{Bytes}
 use Rattle.model.specs.HiddenHalf.{HiddenWrite, HiddenState, isWaiting}
 use Rattle.model.specs.Refusals.{hiddenWriteRefusal}
 use Rattle.model.specs.Calls.{Outcome, noWrite, placed, waiting, damagedWalk, badNumber, badSize}
-use Rattle.model.specs.Calls.{outcomeNumber, outcomeOf, offerRefusal, offeredWrites, startState}
+use Rattle.model.specs.Calls.{outcomeNumber, offerOutcome, offerRefusal, offeredWrites, startState}
 use Rattle.model.specs.Promises.ReadAfterWrite.{offeredUnder}
 
 -- ---- progress ----
@@ -68,8 +68,8 @@ saysPlaced outcome = eqb (outcomeNumber outcome) 1
 
 -- nothing placed is not said to be placed
 outcome-unplaced :
-    (refusal : ℕ) (state : HiddenState) → state .placed ≡ 0 → saysPlaced (outcomeOf refusal state) ≡ false
-unfolding outcomeOf
+    (refusal : ℕ) (state : HiddenState) → state .placed ≡ 0 → saysPlaced (offerOutcome refusal state) ≡ false
+unfolding offerOutcome
 outcome-unplaced refusal state e =
     rw e (by (eqb refusal 10) (eqb refusal 11) (state .metDamage) (isWaiting (state .waiting)))
   where
@@ -81,8 +81,8 @@ outcome-unplaced refusal state e =
     by false false false true = refl
     by false false false false = refl
 
-outcome-placed : (state : HiddenState) → state .placed ≢ 0 → outcomeOf 0 state ≡ placed
-unfolding outcomeOf
+outcome-placed : (state : HiddenState) → state .placed ≢ 0 → offerOutcome 0 state ≡ placed
+unfolding offerOutcome
 outcome-placed state ne = rw (ne-eqb (state .placed) 0 ne)
 
 -- ---- a whole call ----
@@ -92,7 +92,7 @@ module _ (g : Geometry) (result : HiddenState) (old new : ℕ → Option Bytes) 
   -- what the number shows by the outcome: the hidden write's block where it says placed, else the old one
   abbrev shownBy : (refusal : ℕ) → Option HiddenWrite → Option Bytes
   shownBy refusal offer =
-      cond (saysPlaced (outcomeOf refusal result)) (offeredUnder number (old number) offer) (old number)
+      cond (saysPlaced (offerOutcome refusal result)) (offeredUnder number (old number) offer) (old number)
 
   module _ (writes : List HiddenWrite) (progress : Progress g (startState writes) result old new) where
     shows-unplaced :
@@ -108,7 +108,8 @@ module _ (g : Geometry) (result : HiddenState) (old new : ℕ → Option Bytes) 
     unfolding shownAfter
     shows-placed write e =
         let l : length (progress .done) ≡ 1 = ap length e in
-        let said : outcomeOf 0 result ≡ placed = outcome-placed result (omega (arith, progress .placed-is)) in
+        let said : offerOutcome 0 result ≡ placed =
+        outcome-placed result (omega (arith, progress .placed-is)) in
         progress .shows number counted
         ∙ ap (λ (done : List HiddenWrite). shownAfter done number (old number)) e
         ∙ sym (cond-true _ _ (ap saysPlaced said))

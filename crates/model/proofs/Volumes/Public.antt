@@ -8,7 +8,7 @@ use native.Mathlib.Omega.{arith}
 use lib.Dec.{eqb}
 use borrow.Author.Tests.{eq-eqb, ne-eqb}
 use Rattle.laws.proofs.Cases.{eq-cases, cond-true, cond-false}
-use Rattle.model.specs.Geometry.{Geometry, Fits}
+use Rattle.model.specs.Geometry.{Geometry, Fits, blockWidth}
 use Rattle.model.specs.Blocks.{Bytes, DiskAddress, blockAt}
 use Rattle.model.specs.Layout.{slotStart, slotOf, isAllocated, mapEntry, isPlace}
 use Rattle.model.specs.Invariants.{PublicInvariant}
@@ -19,7 +19,7 @@ use Rattle.model.proofs.Laws.Wrote.{Wrote, isAllocated-wrote-new, isAll
 -- what a number shows: the block at its entry, nothing at 0
 abbrev pub publicValue : Geometry → (disk : Bytes) → (number : ℕ) → Option Bytes
 publicValue g disk number =
-    cond (eqb (mapEntry g disk number) 0) none (some (blockAt (g .blockSize) disk (mapEntry g disk number)))
+    cond (eqb (mapEntry g disk number) 0) none (some (blockAt (blockWidth g) disk (mapEntry g disk number)))
 
 -- ---- after a write ----
 
@@ -101,7 +101,7 @@ module _ (g : Geometry) (f : Fits g) (disk after : Bytes) (number slot : ℕ) (c
   pub publicValue-same : publicValue g after number ≡ some content
   publicValue-same =
       cond-false _ _ (ne-eqb (mapEntry g after number) 0 (λ z. omega (arith, wrote .map-same, z)))
-      ∙ ap {B = Option Bytes} some (ap (blockAt (g .blockSize) after) (wrote .map-same) ∙ wrote .block-new)
+      ∙ ap {B = Option Bytes} some (ap (blockAt (blockWidth g) after) (wrote .map-same) ∙ wrote .block-new)
 
   pub publicValue-other :
       (other : ℕ) → other < g .publics → other ≢ number → publicValue g after other ≡ publicValue g disk other
@@ -118,8 +118,8 @@ module _ (g : Geometry) (f : Fits g) (disk after : Bytes) (number slot : ℕ) (c
       placed : mapEntry g disk other ≢ 0 → publicValue g after other ≡ publicValue g disk other
       placed p =
           let place = place-at other h p in
-          ap (λ (entry : DiskAddress). cond (eqb entry 0) none (some (blockAt (g .blockSize) after entry))) e
+          ap (λ (entry : DiskAddress). cond (eqb entry 0) none (some (blockAt (blockWidth g) after entry))) e
           ∙ ap (λ (block : Bytes). cond (eqb (mapEntry g disk other) 0) none (some block))
-          (ap (blockAt (g .blockSize) after) (place .entry-is)
+          (ap (blockAt (blockWidth g) after) (place .entry-is)
           ∙ wrote .block-other (home other) (home-not-new other h p)
-          ∙ ap (blockAt (g .blockSize) disk) (sym (place .entry-is)))
+          ∙ ap (blockAt (blockWidth g) disk) (sym (place .entry-is)))

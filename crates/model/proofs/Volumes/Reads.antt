@@ -8,7 +8,7 @@ use Prim.Native.Nat.{ℕ, _<_}
 use lib.Dec.{eqb}
 use lib.ListN.{length}
 use Rattle.laws.proofs.Cases.{eq-cases}
-use Rattle.model.specs.Geometry.{Geometry, Fits, treeCapacity}
+use Rattle.model.specs.Geometry.{Geometry, Fits, treeCapacity, blockWidth}
 use Rattle.model.specs.Blocks.{Bytes, blockAt}
 use Rattle.model.specs.Layout.{geometryIn, mapEntry}
 use Rattle.model.specs.HiddenTree.{walk}
@@ -47,7 +47,7 @@ module _ (g : Geometry) (disk : Bytes) (states : geometryIn disk ≡ g) (accepte
     publicRead-shows =
         publicRead-done disk number blank public-read-accepted
         ∙ ap (λ (stated : Geometry). entryShown stated disk blank (mapEntry stated disk number)) states
-        ∙ by (eqb (mapEntry g disk number) 0) (blockAt (g .blockSize) disk (mapEntry g disk number))
+        ∙ by (eqb (mapEntry g disk number) 0) (blockAt (blockWidth g) disk (mapEntry g disk number))
       where
         by : (isNone : Bool) (block : Bytes) →
             cond isNone blank block ≡ orElse (cond isNone none (some block)) blank

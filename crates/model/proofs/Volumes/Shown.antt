@@ -14,7 +14,7 @@ use Rattle.model.specs.Blocks.{Bytes}
 use Rattle.model.specs.HiddenHalf.{HiddenWrite}
 use Rattle.model.specs.Rounds.{Run}
 use Rattle.model.specs.Refusals.{writeRefusal}
-use Rattle.model.specs.Calls.{publicRead, hiddenRead, outcomeOf, offerRefusal, Written, doneWrite}
+use Rattle.model.specs.Calls.{publicRead, hiddenRead, offerOutcome, offerRefusal, Written, doneWrite}
 use Rattle.model.specs.Calls.{written, writtenDisk}
 use Rattle.model.specs.Promises.ReadAfterWrite.{offeredUnder, isPlaced, orElse, Sound}
 use Rattle.model.proofs.Tree.Ghost.{Tree, Ghost, valueOf}
@@ -131,7 +131,7 @@ module _ (g : Geometry) (disk : Bytes) (sound : Sound g disk) (number : ℕ) (co
         ∙ ap (λ (value : Option Bytes). orElse value blank)
         (shows-of-progress g (run .state) (valueOf g disk tree)
         (valueOf g (finalDisk g disk run) (grew .grown)) other h offer (grew .progress))
-        ∙ carries-offer (saysPlaced (outcomeOf (offerRefusal g offer) (run .state))) offer other
+        ∙ carries-offer (saysPlaced (offerOutcome (offerRefusal g offer) (run .state))) offer other
         (valueOf g disk tree other) before blank otherwise
         (sym (hiddenRead-shows g disk (sound .geometry) (sound .accepted) other blank sized f tree ghost h)
         ∙ e)

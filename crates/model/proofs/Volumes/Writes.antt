@@ -5,7 +5,7 @@ use mathlib.Core.Logic.{_≢_}
 use mathlib.Core.Option.{Option}
 use Prim.Native.Nat.{ℕ, _-_, _<_}
 use lib.ListN.{length}
-use Rattle.model.specs.Geometry.{Geometry, Fits}
+use Rattle.model.specs.Geometry.{Geometry, Fits, blockWidth}
 use Rattle.model.specs.Blocks.{Bytes}
 use Rattle.model.specs.Layout.{geometryIn, headIn}
 use Rattle.model.specs.Stores.{apply}
@@ -26,7 +26,7 @@ use Rattle.model.proofs.Volumes.Hidden.{runFrom-grows}
 
 -- the disk after a run
 abbrev pub finalDisk : Geometry → (disk : Bytes) → Run → Bytes
-finalDisk g disk run = apply (g .blockSize) (run .trace) disk
+finalDisk g disk run = apply (blockWidth g) (run .trace) disk
 
 -- what the run of a write that is not refused leaves
 pub record Leaves (g : Geometry) (disk : Bytes) (number : ℕ) (content : Bytes) (offer : Option HiddenWrite)

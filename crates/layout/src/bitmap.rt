@@ -2,6 +2,7 @@
 use crate::blocks::block_at;
 use crate::geometry::Geometry;
 use crate::geometry::map_blocks;
+use crate::geometry::slot_width;
 use crate::numbers::DiskAddress;
 ghost use mathlib.Core.Path.{_≡_};
 ghost use Prim.Native.Nat.{_/_, _<_};
@@ -10,6 +11,7 @@ ghost use Rattle.laws.specs.Bits.{bitOf, withBit, bitAt, setBit};
 ghost use Rattle.model.specs.Geometry.{Fits};
 ghost use Rattle.model.specs.Layout.{Drive, areaPlace, bitAddress, bitPlace, isShared, isAllocated};
 ghost use Rattle.layout.specs.Geometries.{geometryOf};
+ghost use Rattle.layout.specs.Slots.{TwoSlots};
 
 // ---- bits of a byte ----
 
@@ -61,7 +63,7 @@ fn area_place(g: Geometry, slot: u32) -> usize
     requires { ⌜ slot < g .slots ⌝ }
     ensures { λ r. ⌜ r ≡ areaPlace (geometryOf g) slot ⌝ }
 {
-    (slot as usize) * (g.height as usize + 1)
+    (slot as usize) * (slot_width(g) as usize)
 }
 
 // That bit's place within its bitmap block: below 8B, so at most 32,767.
@@ -85,8 +87,7 @@ pub fn bit_address(g: Geometry, slot: u32) -> DiskAddress
 
 // Whether two slots' bits lie in one bitmap block.
 pub fn is_shared(g: Geometry, slot: u32, other: u32) -> bool
-    requires { ⌜ Fits (geometryOf g) ⌝ }
-    requires { ⌜ (slot < g .slots) × (other < g .slots) ⌝ }
+    requires { ⌜ TwoSlots (geometryOf g) slot other ⌝ }
     ensures { λ r. ⌜ r ≡ isShared (geometryOf g) slot other ⌝ }
 {
     let block = bit_address(g, slot).0;

@@ -7,10 +7,11 @@ ghost use mathlib.Core.Bool.{true};
 ghost use Prim.Native.Nat.{_+_, _*_, _-_, _/_, _≤_, _<_, _^_};
 ghost use lib.ListN.{length};
 ghost use Rattle.laws.specs.Division.{ceilDiv};
-ghost use Rattle.model.specs.Geometry.{Fits, mapBlocks, areaBlocks, bitmapBlocks, rootAddress, areaStart};
-ghost use Rattle.model.specs.Geometry.{blockCount, treeCapacity, blockSizes, isOneOf, isGeometry};
+ghost use Rattle.model.specs.Geometry.{Fits, slotWidth, fanout, mapBlocks, areaBlocks, bitmapBlocks};
+ghost use Rattle.model.specs.Geometry.{rootAddress, areaStart, blockCount, treeCapacity, blockSizes, isOneOf};
+ghost use Rattle.model.specs.Geometry.{isGeometry};
 ghost use Rattle.model.specs.Layout.{geometryIn, headIn, slotStart, slotOf};
-ghost use Rattle.layout.specs.Geometries.{geometryOf, Bounded};
+ghost use Rattle.layout.specs.Geometries.{geometryOf, Bounded, Shaped};
 
 // Block size B in bytes, height k of the hidden tree with its root, P public and H hidden blocks, M slots.
 pub struct Geometry {
@@ -43,6 +44,21 @@ pub fn head_in(disk: &[u8]) -> u32
     entry_at(disk, 5)
 }
 
+// Entries of four bytes in a block.
+pub fn fanout(g: Geometry) -> u32
+    ensures { λ r. ⌜ r ≡ fanout (geometryOf g) ⌝ }
+{
+    g.block_size / 4
+}
+
+// Blocks of a slot.
+pub fn slot_width(g: Geometry) -> u32
+    requires { ⌜ g .height ≤ 4 ⌝ }
+    ensures { λ r. ⌜ r ≡ slotWidth (geometryOf g) ⌝ }
+{
+    g.height + 1
+}
+
 // ---- limits ----
 
 // Whether a number is one of the block sizes.
@@ -60,7 +76,7 @@ fn tree_capacity(g: Geometry) -> u64
     requires { ⌜ Bounded (geometryOf g) ⌝ }
     ensures { λ r. ⌜ r ≡ treeCapacity (geometryOf g) ⌝ }
 {
-    let fanout = (g.block_size / 4) as u64;
+    let fanout = fanout(g) as u64;
     let height = g.height;
     if height == 2 {
         return (fanout - 1) * fanout;
@@ -73,8 +89,7 @@ fn tree_capacity(g: Geometry) -> u64
 
 // Whether a geometry with a good block size and height is inside the other limits.
 fn has_room(g: Geometry) -> bool
-    requires { ⌜ isOneOf (g .«block_size») blockSizes ≡ true ⌝ }
-    requires { ⌜ (2 ≤ g .height) × (g .height ≤ 4) ⌝ }
+    requires { ⌜ Shaped (geometryOf g) ⌝ }
     ensures { λ r. ⌜ r ≡ isGeometry (geometryOf g) ⌝ }
 {
     let publics = g.publics;
@@ -130,7 +145,7 @@ pub fn map_blocks(g: Geometry) -> u64
     requires { ⌜ Bounded (geometryOf g) ⌝ }
     ensures { λ r. ⌜ r ≡ mapBlocks (geometryOf g) ⌝ }
 {
-    ceil_div(g.publics as u64, (g.block_size / 4) as u64)
+    ceil_div(g.publics as u64, fanout(g) as u64)
 }
 
 // Blocks of the data area.
@@ -138,7 +153,7 @@ fn area_blocks(g: Geometry) -> u64
     requires { ⌜ Bounded (geometryOf g) ⌝ }
     ensures { λ r. ⌜ r ≡ areaBlocks (geometryOf g) ⌝ }
 {
-    (g.slots as u64) * (g.height as u64 + 1)
+    (g.slots as u64) * (slot_width(g) as u64)
 }
 
 // Blocks of the bitmap.
@@ -180,7 +195,7 @@ pub fn slot_start(g: Geometry, slot: u32) -> DiskAddress
     ensures { λ r. ⌜ r .0 ≡ slotStart (geometryOf g) slot ⌝ }
 {
     let start = area_start(g);
-    DiskAddress(start.0 + slot * (g.height + 1))
+    DiskAddress(start.0 + slot * slot_width(g))
 }
 
 // The slot that a block of the data area belongs to.
@@ -190,5 +205,5 @@ pub fn slot_of(g: Geometry, address: DiskAddress) -> u32
     ensures { λ r. ⌜ r ≡ slotOf (geometryOf g) (address .0) ⌝ }
 {
     let start = area_start(g);
-    (address.0 - start.0) / (g.height + 1)
+    (address.0 - start.0) / slot_width(g)
 }

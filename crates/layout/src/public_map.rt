@@ -1,6 +1,7 @@
 // The public map: P entries, one after another from block 1 on.
 use crate::entries::entry_at;
 use crate::geometry::Geometry;
+use crate::geometry::fanout;
 use crate::numbers::DiskAddress;
 use crate::numbers::PublicNumber;
 ghost use mathlib.Core.Path.{_≡_};
@@ -14,6 +15,6 @@ pub fn map_entry(disk: &[u8], g: Geometry, number: PublicNumber) -> DiskAddress
     requires { ⌜ number .0 < g .publics ⌝ }
     ensures { λ r. ⌜ r .0 ≡ mapEntry (geometryOf g) (now (disk .entry)) (number .0) ⌝ }
 {
-    let index = (g.block_size / 4) as usize + number.0 as usize;
+    let index = fanout(g) as usize + number.0 as usize;
     DiskAddress(entry_at(disk, index))
 }

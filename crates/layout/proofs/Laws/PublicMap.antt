@@ -5,21 +5,17 @@ use mathlib.Core.Logic.{_≢_, inl, inr}
 use mathlib.Core.Bool.{true}
 use Prim.Native.Nat.{ℕ, _≤_, _<_}
 use native.Mathlib.Omega.{arith}
-use Rattle.laws.proofs.Cases.{and-left}
 use Rattle.model.specs.Geometry.{Geometry, areaStart}
 use Rattle.model.specs.Blocks.{Bytes, DiskAddress}
-use Rattle.model.specs.Layout.{slotOf, isSlotBlock, isAllocated, mapEntry, isPlace}
-use Rattle.model.proofs.Laws.Places.{Placed}
+use Rattle.model.specs.Layout.{slotOf, isSlotBlock, mapEntry}
+use Rattle.model.proofs.Laws.Places.{Placed, isSlotBlock-of-isPlace}
 use Rattle.model.proofs.Laws.Slots.{slotBlock-of}
 use Rattle.layout.specs.PublicMap.{OldEntry}
 
 pub entry-of-placed : (g : Geometry) (disk : Bytes) (number : ℕ) → Placed g disk number →
     OldEntry g (mapEntry g disk number)
-unfolding isPlace
 entry-of-placed g disk number (inl e) = inl e
-entry-of-placed g disk number (inr e) =
-    let entry = mapEntry g disk number in
-    inr (and-left (isSlotBlock g 0 entry) (isAllocated g disk (slotOf g entry)) e)
+entry-of-placed g disk number (inr e) = inr (isSlotBlock-of-isPlace g disk (mapEntry g disk number) e)
 
 -- an entry that is not 0 is block A of one of the slots
 old-block : (g : Geometry) (entry : DiskAddress) → OldEntry g entry → entry ≢ 0 →

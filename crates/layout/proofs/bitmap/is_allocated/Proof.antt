@@ -9,7 +9,7 @@ use Rattle.model.proofs.Laws.Bitmap.{isAllocated-is, bitPlace-byte-lt}
 use Rattle.model.proofs.Laws.Blocks.{length-blockAt}
 use Rattle.model.proofs.Laws.Geometry.{bitAddress-lt}
 use Rattle.model.specs.Blocks.{blockAt}
-use Rattle.model.specs.Geometry.{blockCount}
+use Rattle.model.specs.Geometry.{blockCount, blockWidth}
 use Rattle.model.specs.Layout.{bitAddress}
 use Rattle.layout.specs.Geometries.{geometryOf}
 use Rattle.layout.proofs.bitmap.is_allocated.Statement.{statement}
@@ -52,7 +52,7 @@ bit-at-requires c κs =
     rw (
       c .bit-place .ensures,
       shown (c .before),
-      length-blockAt (g .blockSize) (s .args .disk .now)
+      length-blockAt (blockWidth g) (s .args .disk .now)
           (blockCount g) (s .pre .0 .whole)
           (bitAddress g (s .args .slot)) (address-inside s),
     ) (bitPlace-byte-lt g (s .pre .0 .fits) (s .args .slot))

@@ -3,7 +3,7 @@ use mathlib.Core.Path.{ap}
 use Prim.Native.Nat.{ℕ, _/_}
 use lib.ListN.{set}
 use borrow.Author.Needs.{needs}
-use Rattle.laws.specs.Bits.{setBit}
+use Rattle.laws.proofs.Bits.{setBit-is}
 use Rattle.layout.proofs.bitmap.set_bit.Statement.{statement}
 use Rattle.layout.proofs.bitmap.set_bit.Tie as tie
 
@@ -23,10 +23,9 @@ same-length : tie.Need-same-length
 same-length c = search needs
 
 returns : tie.Need-returns
-unfolding setBit
 returns c =
     let s = c .before .before .before .args in
-    ap (λ (byte : ℕ). set (s .block .now) (s .place / 8) byte) (c .with-bit .ensures)
+    rw setBit-is (ap (λ (byte : ℕ). set (s .block .now) (s .place / 8) byte) (c .with-bit .ensures))
 
 pub set-bit-spec : {M : Type 1} → statement M
 set-bit-spec =

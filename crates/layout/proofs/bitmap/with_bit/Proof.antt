@@ -5,8 +5,8 @@ use mathlib.Core.Path.{_≡_, sym, _∙_}
 use native.Mathlib.Omega.{arith}
 use borrow.Author.Needs.{needs}
 use Rattle.laws.proofs.Bits.{withBit-set, withBit-set-already, withBit-clear, withBit-clear-already}
+use Rattle.laws.proofs.Bits.{weight-is, room-of-bitOf, weight-le-of-bitOf}
 use Rattle.laws.specs.Bits.{bitOf}
-use Rattle.layout.proofs.Laws.Bits.{weight-is, room-of-bitOf, weight-le-of-bitOf}
 use Rattle.layout.proofs.bitmap.with_bit.Statement.{statement}
 use Rattle.layout.proofs.bitmap.with_bit.Tie as tie
 

@@ -6,7 +6,7 @@ use lib.ListN.{length}
 use borrow.Author.Needs.{needs}
 use Rattle.laws.proofs.Lists.{part-is}
 use Rattle.model.proofs.Laws.Blocks.{blockAt-is, block-inside}
-use Rattle.model.specs.Geometry.{blockCount}
+use Rattle.model.specs.Geometry.{blockCount, blockWidth}
 use Rattle.layout.specs.Geometries.{geometryOf}
 use Rattle.layout.proofs.blocks.block_at.Statement.{statement}
 use Rattle.layout.proofs.blocks.block_at.Tie as tie
@@ -16,7 +16,7 @@ inside :
     s .args .address .0 * s .args .g .«block_size» + s .args .g .«block_size» ≤ length (s .args .disk .now)
 inside s =
     let g = geometryOf (s .args .g) in
-    block-inside (g .blockSize) (s .args .disk .now) (blockCount g) (s .pre .0 .whole) (s .args .address .0)
+    block-inside (blockWidth g) (s .args .disk .now) (blockCount g) (s .pre .0 .whole) (s .args .address .0)
     (s .pre .1)
 
 cast-width : tie.Need-cast-width

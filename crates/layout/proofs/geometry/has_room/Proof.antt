@@ -4,10 +4,10 @@ use Prim.Native.Nat.{ℕ}
 use native.Mathlib.Omega.{arith}
 use lib.Dec.{leb}
 use borrow.Author.Needs.{needs}
+use Rattle.model.proofs.Laws.Geometry.{refused-publics, refused-hidden, refused-public-slots}
+use Rattle.model.proofs.Laws.Geometry.{refused-hidden-slots, refused-tree, left-to-blocks}
 use Rattle.layout.specs.Geometries.{geometryOf, Bounded}
-use Rattle.layout.proofs.Laws.Geometry.{bounded-of-tests, refused-publics, refused-hidden}
-use Rattle.layout.proofs.Laws.Geometry.{refused-public-slots, refused-hidden-slots, refused-tree}
-use Rattle.layout.proofs.Laws.Geometry.{left-to-blocks}
+use Rattle.layout.proofs.Laws.Geometry.{bounded-of-tests}
 use Rattle.layout.proofs.geometry.has_room.Statement.{statement}
 use Rattle.layout.proofs.geometry.has_room.Tie as tie
 
@@ -15,7 +15,8 @@ abbrev at-start : tie.Else4 → tie.Start
 at-start c = c .before .before .before .before
 
 bounded : (s : tie.Start) → Bounded (geometryOf (s .args .g))
-bounded s = bounded-of-tests (geometryOf (s .args .g)) (s .pre .0) (s .pre .1 .0) (s .pre .1 .1)
+bounded s =
+    bounded-of-tests (geometryOf (s .args .g)) (s .pre .size-good) (s .pre .height-low) (s .pre .height-high)
 
 returns : tie.Need-returns
 returns c = refused-publics (geometryOf (c .before .args .g)) (c .if1 .taken)
@@ -47,7 +48,7 @@ returns-6 c =
     let e = c .before .before .before in
     let s = e .before .before .before .before in
     ap (λ (n : ℕ). leb n 2147483647) (c .block-count .ensures)
-    ∙ left-to-blocks (geometryOf (s .args .g)) (s .pre .0) (s .pre .1 .0) (s .pre .1 .1)
+    ∙ left-to-blocks (geometryOf (s .args .g)) (s .pre .size-good) (s .pre .height-low) (s .pre .height-high)
     (e .before .before .before .if1 .left) (e .before .before .if2 .left) (e .before .if3 .left)
     (e .if4 .left)
     (omega (arith, c .before .before .tree-capacity .ensures, c .before .if5 .left))

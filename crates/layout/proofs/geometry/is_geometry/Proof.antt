@@ -3,8 +3,8 @@
 use mathlib.Core.Path.{sym, _∙_}
 use borrow.Author.Needs.{needs}
 use borrow.Author.Tests.{not-true, not-false}
+use Rattle.model.proofs.Laws.Geometry.{refused-size, refused-low, refused-high}
 use Rattle.layout.specs.Geometries.{geometryOf}
-use Rattle.layout.proofs.Laws.Geometry.{refused-size, refused-low, refused-high}
 use Rattle.layout.proofs.geometry.is_geometry.Statement.{statement}
 use Rattle.layout.proofs.geometry.is_geometry.Tie as tie
 
@@ -26,7 +26,7 @@ has-room-requires : tie.Need-has-room-requires
 has-room-requires c κs =
     let sized = sym (c .before .before .before .is-block-size .ensures)
     ∙ not-false (c .before .before .before .is-block-size .result) (c .before .before .if1 .left) in
-    (sized, (c .before .if2 .left, c .if3 .left))
+    record { size-good = sized; height-low = c .before .if2 .left; height-high = c .if3 .left }
 
 returns-4 : tie.Need-returns-4
 returns-4 c = search needs

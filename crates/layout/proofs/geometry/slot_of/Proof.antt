@@ -1,7 +1,7 @@
 -- `layout::geometry::slot_of` meets its contract: the block stands at the start of the data area or after it.
 -- Assumes nothing.
-use mathlib.Core.Path.{ap}
-use Prim.Native.Nat.{ℕ, _+_, _-_, _/_}
+use mathlib.Core.Path.{ap₂}
+use Prim.Native.Nat.{ℕ, _-_, _/_}
 use native.Mathlib.Omega.{arith}
 use borrow.Author.Needs.{needs}
 use Rattle.layout.proofs.geometry.slot_of.Statement.{statement}
@@ -19,8 +19,8 @@ sub-result c =
     let start = read .before in
     omega (arith, read .area-start .ensures, start .pre .1)
 
-add-result : tie.Need-add-result
-add-result c = search needs
+slot-width-requires : tie.Need-slot-width-requires
+slot-width-requires c κs = search needs
 
 div-result : tie.Need-div-result
 div-result c = search needs
@@ -29,7 +29,7 @@ returns : tie.Need-returns
 returns c =
     let read = readOf (c .before) in
     let start = read .before .args in
-    ap (λ (n : ℕ). (start .address .0 - n) / (start .g .height + 1)) (read .area-start .ensures)
+    ap₂ (λ (n m : ℕ). (start .address .0 - n) / m) (read .area-start .ensures) (c .slot-width .ensures)
 
 pub slot-of-spec : {M : Type 1} → statement M
-slot-of-spec = tie.close (tie.spec area-start-requires sub-result add-result div-result returns)
+slot-of-spec = tie.close (tie.spec area-start-requires sub-result slot-width-requires div-result returns)

@@ -4,8 +4,8 @@ use Prim.Native.Nat.{ℕ, _+_}
 use native.Mathlib.Omega.{arith}
 use borrow.Author.Needs.{needs}
 use Rattle.model.proofs.Laws.Geometry.{slot-block-lt}
+use Rattle.model.proofs.Laws.Slots.{levelAddress-data, levelAddress-node}
 use Rattle.layout.specs.Geometries.{geometryOf}
-use Rattle.layout.proofs.Laws.Levels.{levelAddress-data, levelAddress-node}
 use Rattle.layout.proofs.levels.level_address.Statement.{statement}
 use Rattle.layout.proofs.levels.level_address.Tie as tie
 
@@ -18,8 +18,8 @@ add-t6 c =
     let g = geometryOf (start .args .g) in
     omega (
       arith,
-      slot-block-lt g (start .args .slot) (g .height) (start .pre .1 .0) (omega arith),
-      start .pre .0 .blocks-high,
+      slot-block-lt g (start .args .slot) (g .height) (start .pre .slot-inside) (omega arith),
+      start .pre .fits .blocks-high,
     )
 
 returns : tie.Need-returns
@@ -36,9 +36,9 @@ add-t7 c =
     let g = geometryOf (start .args .g) in
     omega (
       arith,
-      slot-block-lt g (start .args .slot) (start .args .level) (start .pre .1 .0)
-          (omega (arith, start .pre .1 .1)),
-      start .pre .0 .blocks-high,
+      slot-block-lt g (start .args .slot) (start .args .level) (start .pre .slot-inside)
+          (omega (arith, start .pre .level-lt)),
+      start .pre .fits .blocks-high,
     )
 
 returns-2 : tie.Need-returns-2

@@ -2,11 +2,13 @@
 -- on, so the entry is one of the whole disk's. Assumes nothing.
 use mathlib.Core.Path.{sym, _∙_}
 use borrow.Author.Needs.{needs}
-use Rattle.model.proofs.Laws.PublicMap.{mapEntry-bytes}
+use Rattle.model.proofs.Laws.PublicMap.{mapEntry-bytes, map-entry-inside}
 use Rattle.layout.specs.Geometries.{geometryOf}
-use Rattle.layout.proofs.Laws.Places.{map-entry-inside}
 use Rattle.layout.proofs.public_map.map_entry.Statement.{statement}
 use Rattle.layout.proofs.public_map.map_entry.Tie as tie
+
+fanout-requires : tie.Need-fanout-requires
+fanout-requires c κs = search needs
 
 cast-index : tie.Need-cast-index
 cast-index c = search needs
@@ -20,15 +22,18 @@ add-index c = search needs
 entry-at-requires : tie.Need-entry-at-requires
 entry-at-requires c κs =
     let s = c .before .before .before in
-    map-entry-inside (geometryOf (s .args .g)) (s .args .disk .now) (s .args .number .0) (s .pre .0)
-    (s .pre .1)
+    rw (c .before .fanout .ensures)
+    (map-entry-inside (geometryOf (s .args .g)) (s .args .disk .now) (s .args .number .0) (s .pre .0)
+    (s .pre .1))
 
 returns : tie.Need-returns
 returns c =
     let s = c .before .before .before .before in
     c .entry-at .ensures
-    ∙ sym (mapEntry-bytes (geometryOf (s .args .g)) (s .pre .0 .fits) (s .args .disk .now)
-    (s .args .number .0))
+    ∙ rw (c .before .before .fanout .ensures)
+    (sym (mapEntry-bytes (geometryOf (s .args .g)) (s .pre .0 .fits) (s .args .disk .now)
+    (s .args .number .0)))
 
 pub map-entry-spec : {M : Type 1} → statement M
-map-entry-spec = tie.close (tie.spec cast-index cast-index-2 add-index entry-at-requires returns)
+map-entry-spec =
+    tie.close (tie.spec fanout-requires cast-index cast-index-2 add-index entry-at-requires returns)

@@ -8,9 +8,9 @@ use borrow.Author.Needs.{needs}
 use borrow.Author.Tests.{not-true, not-false}
 use Rattle.model.proofs.Laws.Geometry.{fits-of-isGeometry}
 use Rattle.model.specs.Geometry.{Fits, isGeometry, blockCount}
+use Rattle.model.proofs.Laws.Refusals.{size-short, size-outside, size-whole, size-other}
 use Rattle.layout.specs.Geometries.{geometryOf}
 use Rattle.layout.proofs.Laws.Geometry.{bounded-of-fits}
-use Rattle.layout.proofs.Laws.Refusals.{size-short, size-outside, size-whole, size-other}
 use Rattle.layout.proofs.refusals.size_fault.Statement.{statement}
 use Rattle.layout.proofs.refusals.size_fault.Tie as tie
 

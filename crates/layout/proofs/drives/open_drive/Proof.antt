@@ -1,5 +1,5 @@
--- `layout::refusals::drive_fault` meets its contract: one law for each way through the tests, for the
--- geometry that the header states. Assumes nothing.
+-- `layout::drives::open_drive` meets its contract: one law for each way through the tests, for the geometry
+-- that the header states. Assumes nothing.
 use mathlib.Core.Path.{_≡_, sym, ap, _∙_}
 use Prim.Native.Nat.{_≤_, _<_}
 use native.Mathlib.Omega.{arith}
@@ -9,9 +9,11 @@ use Rattle.model.specs.Geometry.{Geometry}
 use Rattle.model.specs.Blocks.{Bytes}
 use Rattle.model.specs.Layout.{geometryIn, headIn}
 use Rattle.model.specs.Refusals.{sizeRefusal}
-use Rattle.layout.proofs.Laws.Refusals.{drive-short, drive-sized, drive-good, drive-head}
-use Rattle.layout.proofs.refusals.drive_fault.Statement.{statement}
-use Rattle.layout.proofs.refusals.drive_fault.Tie as tie
+use Rattle.layout.specs.Geometries.{geometryOf}
+use Rattle.layout.proofs.Laws.Drives.{drive-read}
+use Rattle.model.proofs.Laws.Refusals.{drive-short, drive-sized, drive-good, drive-head}
+use Rattle.layout.proofs.drives.open_drive.Statement.{statement}
+use Rattle.layout.proofs.drives.open_drive.Tie as tie
 
 -- the disk that was passed
 abbrev diskOf : tie.After-size-fault → Bytes
@@ -38,7 +40,11 @@ slots :
 slots c = ap (λ (g : Geometry). g .slots) (after-size c .before .geometry-in .ensures)
 
 returns : tie.Need-returns
-returns c = drive-short (c .before .before .args .disk .now) (c .if1 .taken)
+returns c =
+    record {
+      fault-is = drive-short (c .before .before .args .disk .now) (c .if1 .taken);
+      fault-some = λ z. omega arith;
+    }
 
 geometry-in-requires : tie.Need-geometry-in-requires
 geometry-in-requires c κs = search needs
@@ -48,7 +54,11 @@ size-fault-requires c κs = search needs
 
 returns-2 : tie.Need-returns-2
 returns-2 c =
-    drive-sized (diskOf (c .before)) (c .before .size-fault .result) (told (c .before)) (c .if2 .taken)
+    let tested = c .before in
+    record {
+      fault-is = drive-sized (diskOf tested) (tested .size-fault .result) (told tested) (c .if2 .taken);
+      fault-some = c .if2 .taken;
+    }
 
 head-in-requires : tie.Need-head-in-requires
 head-in-requires c κs = search needs
@@ -57,9 +67,15 @@ returns-3 : tie.Need-returns-3
 returns-3 c =
     let s = c .before in
     let disk = diskOf (after-size s) in
+    let read = after-size s .before .geometry-in in
     let inside : headIn disk < geometryIn disk .slots =
     omega (arith, s .before .head-in .ensures, slots s, c .if3 .taken) in
-    drive-good disk (accepted s) inside
+    let good = sym (drive-good disk (accepted s) inside) in
+    record {
+      accepted = good;
+      same = read .ensures;
+      drive = drive-read disk good (geometryOf (read .result)) (read .ensures);
+    }
 
 returns-4 : tie.Need-returns-4
 returns-4 c =
@@ -67,10 +83,10 @@ returns-4 c =
     let disk = diskOf (after-size s) in
     let outside : geometryIn disk .slots ≤ headIn disk =
     omega (arith, s .before .head-in .ensures, slots s, c .if3 .left) in
-    drive-head disk (accepted s) outside
+    record { fault-is = drive-head disk (accepted s) outside; fault-some = λ z. omega arith }
 
-pub drive-fault-spec : {M : Type 1} → statement M
-drive-fault-spec =
+pub open-drive-spec : {M : Type 1} → statement M
+open-drive-spec =
     tie.close
     (tie.spec
     returns

@@ -8,14 +8,12 @@ use layout::numbers::DiskAddress;
 use layout::numbers::PublicNumber;
 use layout::public_map::map_entry;
 ghost use mathlib.Core.Path.{_≡_};
-ghost use mathlib.Core.Logic.{_≢_};
 ghost use Prim.Native.Nat.{_≤_, _<_};
 ghost use Rattle.laws.specs.Checks.{firstOf};
-ghost use Rattle.model.specs.Geometry.{Fits};
-ghost use Rattle.model.specs.Layout.{Drive, headIn, mapEntry, isOneBlock};
+ghost use Rattle.model.specs.Layout.{Drive, headIn, isOneBlock};
 ghost use Rattle.model.specs.Refusals.{roundCount, storeCount, writeStoreCount, roundChecks};
 ghost use Rattle.layout.specs.Geometries.{geometryOf};
-ghost use Rattle.layout.specs.PublicMap.{OldEntry};
+ghost use Rattle.checks.specs.Counts.{Moving, Writable, Counted};
 
 // The rounds that a write takes, from the head on up to the first free slot; 0 where no slot is free.
 pub fn round_count(disk: &[u8], g: Geometry) -> u32
@@ -38,9 +36,7 @@ pub fn round_count(disk: &[u8], g: Geometry) -> u32
 
 // Whether a number with this entry that goes to a slot changes one bitmap block.
 fn is_one_block(g: Geometry, entry: DiskAddress, slot: u32) -> bool
-    requires { ⌜ Fits (geometryOf g) ⌝ }
-    requires { ⌜ OldEntry (geometryOf g) (entry .0) ⌝ }
-    requires { ⌜ slot < g .slots ⌝ }
+    requires { ⌜ Moving (geometryOf g) (entry .0) slot ⌝ }
     ensures { λ r. ⌜ r ≡ isOneBlock (geometryOf g) (entry .0) slot ⌝ }
 {
     if entry.0 == 0 {
@@ -51,10 +47,8 @@ fn is_one_block(g: Geometry, entry: DiskAddress, slot: u32) -> bool
 
 // The stores of so many rounds, the last in this slot, for a number with this entry.
 fn store_count(g: Geometry, rounds: u32, entry: DiskAddress, slot: u32) -> u32
-    requires { ⌜ Fits (geometryOf g) ⌝ }
+    requires { ⌜ Moving (geometryOf g) (entry .0) slot ⌝ }
     requires { ⌜ rounds ≤ g .slots ⌝ }
-    requires { ⌜ OldEntry (geometryOf g) (entry .0) ⌝ }
-    requires { ⌜ slot < g .slots ⌝ }
     ensures { λ r. ⌜ r ≡ storeCount (geometryOf g) rounds (entry .0) slot ⌝ }
 {
     let kept = rounds * (g.height + 3);
@@ -67,12 +61,7 @@ fn store_count(g: Geometry, rounds: u32, entry: DiskAddress, slot: u32) -> u32
 
 // The stores of a write that takes so many rounds now.
 pub fn write_store_count(disk: &[u8], g: Geometry, number: PublicNumber, rounds: u32) -> u32
-    requires { ⌜ Drive (geometryOf g) (now disk) ⌝ }
-    requires { ⌜ headIn (now disk) < g .slots ⌝ }
-    requires { ⌜ number .0 < g .publics ⌝ }
-    requires { ⌜ OldEntry (geometryOf g) (mapEntry (geometryOf g) (now disk) (number .0)) ⌝ }
-    requires { ⌜ rounds ≡ roundCount (geometryOf g) (now disk) ⌝ }
-    requires { ⌜ rounds ≢ 0 ⌝ }
+    requires { ⌜ Counted (geometryOf g) (now disk) (number .0) rounds ⌝ }
     ensures { λ r. ⌜ r ≡ writeStoreCount (geometryOf g) (now (disk .entry)) (number .0) ⌝ }
 {
     let slots = g.slots;
@@ -83,10 +72,7 @@ pub fn write_store_count(disk: &[u8], g: Geometry, number: PublicNumber, rounds:
 
 // 7 to 9 of a write, for lent random bytes and a list of these lengths, else 0.
 pub fn round_fault(disk: &[u8], g: Geometry, number: PublicNumber, random: usize, room: usize) -> u8
-    requires { ⌜ Drive (geometryOf g) (now disk) ⌝ }
-    requires { ⌜ headIn (now disk) < g .slots ⌝ }
-    requires { ⌜ number .0 < g .publics ⌝ }
-    requires { ⌜ OldEntry (geometryOf g) (mapEntry (geometryOf g) (now disk) (number .0)) ⌝ }
+    requires { ⌜ Writable (geometryOf g) (now disk) (number .0) ⌝ }
     ensures { λ r. ⌜ r ≡ firstOf (roundChecks (geometryOf g) (now (disk .entry)) (number .0) random room) ⌝ }
 {
     let rounds = round_count(disk, g);

@@ -7,7 +7,7 @@ ghost use Rattle.model.specs.Refusals.{hiddenChecks};
 ghost use Rattle.layout.specs.Geometries.{geometryOf};
 
 // 10 or 11 of a hidden number and the length of its data or blank, else 0.
-pub fn number_fault(g: Geometry, number: HiddenNumber, size: usize) -> u8
+pub fn hidden_number_fault(g: Geometry, number: HiddenNumber, size: usize) -> u8
     ensures { λ r. ⌜ r ≡ firstOf (hiddenChecks (geometryOf g) (number .0) size) ⌝ }
 {
     let hidden = g.hidden;

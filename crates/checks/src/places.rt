@@ -2,6 +2,7 @@
 use layout::bitmap::is_allocated;
 use layout::geometry::Geometry;
 use layout::geometry::area_start;
+use layout::geometry::slot_width;
 use layout::numbers::DiskAddress;
 use layout::numbers::PublicNumber;
 use layout::public_map::map_entry;
@@ -19,7 +20,7 @@ pub fn is_place(disk: &[u8], g: Geometry, entry: DiskAddress) -> bool
     let start = area_start(g);
     let first = start.0;
     let at = entry.0;
-    let width = g.height + 1;
+    let width = slot_width(g);
     if at < first {
         return false;
     }

@@ -6,7 +6,7 @@ use mathlib.Core.List.{List, [], _∷_}
 use mathlib.Core.Option.{Option, none, some}
 use Prim.Native.Nat.{ℕ, zero, suc, _-_}
 use lib.Dec.{eqb}
-use Rattle.model.specs.Geometry.{Geometry, rootAddress}
+use Rattle.model.specs.Geometry.{Geometry, rootAddress, blockWidth}
 use Rattle.model.specs.Blocks.{Bytes, DiskAddress, blockAt, zeroBlock}
 use Rattle.model.specs.Layout.{isWellFormed}
 use Rattle.model.specs.HiddenTree.{End, found, unmapped, damaged}
@@ -52,20 +52,20 @@ unfoldable pub readFrom :
 readFrom g disk number zero node wanted = none
 readFrom g disk number (suc level) node wanted =
     readOn (stepOf g number (suc level) node)
-    (λ address. withAddress (readFrom g disk number level (blockAt (g .blockSize) disk address)) (suc level)
+    (λ address. withAddress (readFrom g disk number level (blockAt (blockWidth g) disk address)) (suc level)
     address wanted)
 
 -- where the walk for a number reads the node of a level below the root
 abbrev pub readAt : Geometry → (disk : Bytes) → (number level : ℕ) → Option DiskAddress
 readAt g disk number level =
-    readFrom g disk number (g .height - 1) (blockAt (g .blockSize) disk (rootAddress g)) level
+    readFrom g disk number (g .height - 1) (blockAt (blockWidth g) disk (rootAddress g)) level
 
 -- ---- its blocks ----
 
 -- the block of a node, zeros for one that was not reached
 abbrev pub nodeBlock : Geometry → (disk : Bytes) → Option DiskAddress → Bytes
 nodeBlock g disk none = zeroBlock (g .blockSize)
-nodeBlock g disk (some address) = blockAt (g .blockSize) disk address
+nodeBlock g disk (some address) = blockAt (blockWidth g) disk address
 
 -- the blocks of the nodes from a level down to the leaf
 unfoldable pub nodeBlocks :
@@ -75,9 +75,9 @@ nodeBlocks g disk at (suc level) = nodeBlock g disk (at (suc level)) ∷ nodeBlo
 
 -- the blocks of a path, the root's first
 abbrev pub pathBlocks : Geometry → (disk : Bytes) → (at : ℕ → Option DiskAddress) → List Bytes
-pathBlocks g disk at = blockAt (g .blockSize) disk (rootAddress g) ∷ nodeBlocks g disk at (g .height - 1)
+pathBlocks g disk at = blockAt (blockWidth g) disk (rootAddress g) ∷ nodeBlocks g disk at (g .height - 1)
 
 -- a node of each level stands where one of that level can
-pub record Placed (g : Geometry) (at : ℕ → Option DiskAddress) : Type 0 where
+pub record StandsByLevel (g : Geometry) (at : ℕ → Option DiskAddress) : Type 0 where
   pub well-formed : (level : ℕ) (address : DiskAddress) → at level ≡ some address →
       isWellFormed g level address ≡ true

@@ -1,6 +1,6 @@
 -- The numbers that a walk is given in place of a drive's geometry. Assumes nothing.
 use mathlib.Core.Path.{_≡_}
-use Prim.Native.Nat.{ℕ}
+use Prim.Native.Nat.{ℕ, _≤_, _<_}
 use Rattle.model.specs.Geometry.{Geometry, areaStart, blockCount}
 use Rattle.model.specs.Blocks.{Bytes, DiskAddress}
 use Rattle.model.specs.Layout.{Drive}
@@ -22,3 +22,16 @@ pub record TreeOf (g : Geometry) (disk : Bytes) (size height : ℕ) (start : Dis
 pub record Walkable (disk : Bytes) (size height : ℕ) (start : DiskAddress) (count : ℕ) : Type 0 where
   pub geometry : Geometry
   pub tree : TreeOf geometry disk size height start count
+
+-- a node's address on such a drive, and the level of an entry in it
+pub record WalkableAt (disk : Bytes) (size height : ℕ) (start : DiskAddress) (count level : ℕ)
+    (address : DiskAddress) : Type 0 where
+  pub walkable : Walkable disk size height start count
+  pub level-lt : level < height
+  pub address-inside : address < count
+
+-- a block size within its limits, and the level of an entry
+pub record SizedAt (size level : ℕ) : Type 0 where
+  pub size-low : 32 ≤ size
+  pub size-high : size ≤ 4096
+  pub level-high : level ≤ 3

@@ -8,13 +8,12 @@ ghost use Prim.Native.Nat.{_≤_};
 ghost use Rattle.model.specs.Geometry.{Geometry};
 ghost use Rattle.model.specs.Layout.{isWellFormed};
 ghost use Rattle.model.specs.HiddenTree.{branchAt};
-ghost use Rattle.hidden_map.specs.Trees.{AreaOf};
+ghost use Rattle.hidden_map.specs.Trees.{AreaOf, SizedAt};
 
 // The index of a number's entry of a level in its node: its place in the leaf, above it a digit of the leaf
 // in base F.
 pub fn branch_at(size: u32, number: HiddenNumber, level: u32) -> usize
-    requires { ⌜ (32 ≤ size) × (size ≤ 4096) ⌝ }
-    requires { ⌜ level ≤ 3 ⌝ }
+    requires { ⌜ SizedAt size level ⌝ }
     ensures { λ r. ⌜ ((g : Geometry) → size ≡ g .blockSize → r ≡ branchAt g (number .0) level) ⌝ }
 {
     let fanout = size as usize / 4;

@@ -7,16 +7,17 @@ use crate::nodes::with_node;
 use layout::entries::entry_at;
 use layout::geometry::Geometry;
 use layout::geometry::area_start;
+use layout::geometry::slot_width;
 use layout::numbers::DiskAddress;
 use layout::numbers::HiddenNumber;
 ghost use mathlib.Core.Path.{_≡_};
-ghost use Prim.Native.Nat.{_<_};
+ghost use Rattle.model.specs.Geometry.{blockWidth};
 ghost use Rattle.model.specs.Geometry as model;
 ghost use Rattle.model.specs.Blocks.{blockAt};
 ghost use Rattle.model.specs.Layout.{Drive};
 ghost use Rattle.layout.specs.Geometries.{geometryOf};
 ghost use Rattle.hidden_map.specs.Ends.{endOf, stepOf};
-ghost use Rattle.hidden_map.specs.Trees.{TreeOf, Walkable};
+ghost use Rattle.hidden_map.specs.Trees.{TreeOf, WalkableAt};
 ghost use Rattle.hidden_map.specs.Walks.{Stopped, WalkedFrom, Walked};
 
 // Where a walk, or one step of it, ends: at an address, at 0, or at an ill-formed entry.
@@ -43,10 +44,9 @@ fn step(
     level: u32,
     address: DiskAddress,
 ) -> Reached
-    requires { ⌜ Walkable (now disk) size height (start .0) count ⌝ }
-    requires { ⌜ (level < height) × (address .0 < count) ⌝ }
+    requires { ⌜ WalkableAt (now disk) size height (start .0) count level (address .0) ⌝ }
     ensures { λ r. ⌜ ((g : model.Geometry) → TreeOf g (now (disk .entry)) size height (start .0) count →
-        endOf r ≡ stepOf g (number .0) level (blockAt (g .blockSize) (now (disk .entry)) (address .0))) ⌝ }
+        endOf r ≡ stepOf g (number .0) level (blockAt (blockWidth g) (now (disk .entry)) (address .0))) ⌝ }
 {
     let before = (address.0 as usize) * (size as usize / 4);
     let entry = entry_at(disk, before + branch_at(size, number, level));
@@ -80,11 +80,10 @@ fn walk_from(
     level: u32,
     address: DiskAddress,
 ) -> Trail
-    requires { ⌜ Walkable (now disk) size height (start .0) count ⌝ }
-    requires { ⌜ (level < height) × (address .0 < count) ⌝ }
+    requires { ⌜ WalkableAt (now disk) size height (start .0) count level (address .0) ⌝ }
     ensures { λ r. ⌜ ((g : model.Geometry) → TreeOf g (now (disk .entry)) size height (start .0) count →
         WalkedFrom g (now (disk .entry)) (number .0) level
-        (blockAt (g .blockSize) (now (disk .entry)) (address .0)) r) ⌝ }
+        (blockAt (blockWidth g) (now (disk .entry)) (address .0)) r) ⌝ }
 {
     let next = step(disk, size, height, start, count, number, level, address);
     if level == 0 {
@@ -111,7 +110,7 @@ pub fn walk(disk: &[u8], g: Geometry, number: HiddenNumber) -> Trail
     let height = g.height;
     let start = area_start(g);
     let root = DiskAddress(start.0 - 1);
-    let count = start.0 + g.slots * (height + 1);
+    let count = start.0 + g.slots * slot_width(g);
     walk_from(
         disk,
         g.block_size,

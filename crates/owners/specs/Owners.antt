@@ -12,9 +12,9 @@ use Rattle.owners.specs.declared.Owner.{Owner}
 use Rattle.owners.specs.declared.Owner.the-variants.{Nobody, Number}
 
 -- the owner by a reverse number: nobody, where that is no hidden number, else the number with its walk
-abbrev pub Owned : Geometry → (disk : Bytes) → (number : ℕ) → Owner → Type 0
-Owned g disk number Nobody = g .hidden ≤ number
-Owned g disk number (Number own trail) =
+abbrev pub OwnerWalked : Geometry → (disk : Bytes) → (number : ℕ) → Owner → Type 0
+OwnerWalked g disk number Nobody = g .hidden ≤ number
+OwnerWalked g disk number (Number own trail) =
     (own .0 ≡ number) × ((number < g .hidden) × Walked g disk number trail)
 
 -- an owner's trail is that of its walk

@@ -8,17 +8,17 @@ use hidden_map::walks::walk;
 use layout::blocks::block_at;
 use layout::entries::entry_at;
 use layout::geometry::Geometry;
+use layout::geometry::fanout;
 use layout::levels::level_address;
 use layout::numbers::HiddenNumber;
 ghost use mathlib.Core.Path.{_≡_};
 ghost use Prim.Native.Nat.{_<_};
 ghost use Rattle.model.specs.Geometry.{Fits};
 ghost use Rattle.model.specs.Layout.{Drive, levelAddress};
-ghost use Rattle.model.specs.HiddenTree.{isFoundAt};
-ghost use Rattle.model.specs.HiddenHalf.{ownerOf};
+ghost use Rattle.model.specs.HiddenTree.{ownerOf, isFoundAt};
 ghost use Rattle.layout.specs.Geometries.{geometryOf};
 ghost use Rattle.hidden_map.specs.Ends.{endOf};
-ghost use Rattle.owners.specs.Owners.{Owned, isLiveFor, isDamagedFor};
+ghost use Rattle.owners.specs.Owners.{OwnerWalked, isLiveFor, isDamagedFor};
 
 // Nobody, or the hidden number that a slot belongs to, with the trail of its walk.
 pub enum Owner {
@@ -32,7 +32,7 @@ pub fn owner_of(disk: &[u8], g: Geometry, slot: u32) -> HiddenNumber
     requires { ⌜ slot < g .slots ⌝ }
     ensures { λ r. ⌜ r .0 ≡ ownerOf (geometryOf g) (now (disk .entry)) slot ⌝ }
 {
-    let last = (g.block_size / 4) as usize - 1;
+    let last = fanout(g) as usize - 1;
     let leaf = block_at(disk, g, level_address(g, slot, 1));
     HiddenNumber(entry_at(leaf, last))
 }
@@ -40,7 +40,7 @@ pub fn owner_of(disk: &[u8], g: Geometry, slot: u32) -> HiddenNumber
 // The owner by a slot's reverse number, and its walk: nobody, where that is no hidden number.
 pub fn walk_owner(disk: &[u8], g: Geometry, number: HiddenNumber) -> Owner
     requires { ⌜ Drive (geometryOf g) (now disk) ⌝ }
-    ensures { λ r. ⌜ Owned (geometryOf g) (now (disk .entry)) (number .0) r ⌝ }
+    ensures { λ r. ⌜ OwnerWalked (geometryOf g) (now (disk .entry)) (number .0) r ⌝ }
 {
     if g.hidden <= number.0 {
         return Owner::Nobody;

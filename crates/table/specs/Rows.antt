@@ -15,5 +15,5 @@ hiddenOf hidden.Keep = model.keepHidden
 hiddenOf hidden.Place = model.placeHidden
 hiddenOf hidden.Fill = model.fillHidden
 
-abbrev pub rowOf : Row → model.Row
-rowOf row = record { public = publicOf (row .public); hidden = hiddenOf (row .hidden) }
+abbrev pub tableRowOf : Row → model.Row
+tableRowOf row = record { public = publicOf (row .public); hidden = hiddenOf (row .hidden) }

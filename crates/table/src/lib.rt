@@ -3,7 +3,7 @@
 ghost use mathlib.Core.Path.{_≡_};
 ghost use Prim.Native.Nat.{_≤_, _<_};
 ghost use Rattle.model.specs.Table.{digit, rowIndex, rowAt};
-ghost use Rattle.table.specs.Rows.{rowOf};
+ghost use Rattle.table.specs.Rows.{tableRowOf};
 
 // A public block is kept, or takes the call's data.
 pub enum PublicChoice {
@@ -85,7 +85,7 @@ fn row_index(is_waiting: bool, is_allocated: bool, is_live: bool) -> usize
 
 // The row for whether a hidden write waits, the slot is allocated, and the slot is live.
 pub fn row_at(is_waiting: bool, is_allocated: bool, is_live: bool) -> Row
-    ensures { λ r. ⌜ rowOf r ≡ rowAt «is_waiting» «is_allocated» «is_live» ⌝ }
+    ensures { λ r. ⌜ tableRowOf r ≡ rowAt «is_waiting» «is_allocated» «is_live» ⌝ }
 {
     let index = row_index(is_waiting, is_allocated, is_live);
     ROWS[index]

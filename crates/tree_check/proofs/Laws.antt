@@ -3,5 +3,4 @@ pub mod Spans
 pub mod Entries
 pub mod Ways
 pub mod Nodes
-pub mod Halves
 pub mod Trees

@@ -1,18 +1,25 @@
--- What the tests of an entry tell. Assumes nothing.
+-- What the test of an entry's owner asks, and what the tests of an entry tell. Assumes nothing.
 use mathlib.Core.Path.{_≡_}
 use mathlib.Core.Logic.{_≢_}
 use mathlib.Core.Bool.{true}
-use Prim.Native.Nat.{ℕ}
+use Prim.Native.Nat.{ℕ, _<_}
 use Rattle.laws.specs.Checks.{firstOf}
 use Rattle.model.specs.Geometry.{Geometry}
-use Rattle.model.specs.Blocks.{Bytes}
-use Rattle.model.specs.Layout.{slotOf}
-use Rattle.model.specs.HiddenHalf.{ownerOf}
+use Rattle.model.specs.Blocks.{Bytes, DiskAddress}
+use Rattle.model.specs.Layout.{slotOf, Drive, isWellFormed}
+use Rattle.model.specs.HiddenTree.{ownerOf}
 use Rattle.model.specs.TreeCheck.{MetEntry, isBelow, entryChecks}
 use Rattle.hidden_map.specs.declared.nodes.Nodes.{Nodes}
 use Rattle.hidden_map.specs.Nodes.{addressAt, readAt}
 use Rattle.tree_check.specs.declared.entries.Tested.{Tested}
 use Rattle.tree_check.specs.declared.entries.Tested.the-variants.{Fault, Passed}
+
+-- an entry that 13 and 14 do not meet
+pub record Ownable (g : Geometry) (disk : Bytes) (level first : ℕ) (entry : DiskAddress) : Type 0 where
+  pub drive : Drive g disk
+  pub level-lt : level < g .height
+  pub formed : isWellFormed g level entry ≡ true
+  pub first-lt : first < g .hidden
 
 -- the fault that is told, 0 of an entry that passed
 abbrev pub faultOf : Tested → ℕ

@@ -7,17 +7,17 @@ use hidden_map::walks::walk;
 use layout::geometry::Geometry;
 use layout::geometry::area_start;
 use layout::geometry::slot_of;
+use layout::geometry::slot_width;
 use layout::numbers::DiskAddress;
 use owners::ends_in;
 use owners::owner_of;
 ghost use mathlib.Core.Path.{_≡_};
-ghost use mathlib.Core.Bool.{true};
 ghost use Prim.Native.Nat.{_<_};
 ghost use Rattle.model.specs.Geometry.{Fits};
 ghost use Rattle.model.specs.Layout.{Drive, isWellFormed};
 ghost use Rattle.model.specs.TreeCheck.{metEntry};
 ghost use Rattle.layout.specs.Geometries.{geometryOf};
-ghost use Rattle.tree_check.specs.Entries.{TestedAs};
+ghost use Rattle.tree_check.specs.Entries.{TestedAs, Ownable};
 
 // What the tests of an entry tell: its fault, or, of one that passed, the nodes of the walk of the owner of
 // the slot that it leads to.
@@ -33,17 +33,14 @@ fn is_formed(g: Geometry, level: u32, address: DiskAddress) -> bool
 {
     let height = g.height;
     let start = area_start(g);
-    let count = start.0 + g.slots * (height + 1);
+    let count = start.0 + g.slots * slot_width(g);
     is_well_formed(height, start, count, level, address)
 }
 
 // 15 of an entry that 13 and 14 do not meet: the owner of the slot that it leads to is not below it, or the
 // owner's walk does not end at the slot's last block.
 fn test_owner(disk: &[u8], g: Geometry, level: u32, first: u64, entry: DiskAddress) -> Tested
-    requires { ⌜ Drive (geometryOf g) (now disk) ⌝ }
-    requires { ⌜ level < g .height ⌝ }
-    requires { ⌜ isWellFormed (geometryOf g) level (entry .0) ≡ true ⌝ }
-    requires { ⌜ first < g .hidden ⌝ }
+    requires { ⌜ Ownable (geometryOf g) (now disk) level first (entry .0) ⌝ }
     ensures { λ r. ⌜ TestedAs (geometryOf g) (now (disk .entry)) (metEntry level first (entry .0)) r ⌝ }
 {
     let slot = slot_of(g, entry);

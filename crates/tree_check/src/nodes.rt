@@ -13,35 +13,29 @@ use layout::geometry::Geometry;
 use layout::numbers::DiskAddress;
 use layout::numbers::HiddenNumber;
 ghost use mathlib.Core.Path.{_≡_};
-ghost use mathlib.Core.Logic.{_≢_};
-ghost use mathlib.Core.Option.{none, some};
-ghost use Prim.Native.Nat.{_+_, _*_, _≤_, _<_};
-ghost use Rattle.model.specs.Geometry.{Fits, fanout, blockCount};
+ghost use mathlib.Core.Option.{some};
+ghost use Prim.Native.Nat.{_+_, _*_, _<_};
+ghost use Rattle.model.specs.Geometry.{blockWidth};
 ghost use Rattle.model.specs.Blocks.{blockAt, entryAt};
-ghost use Rattle.model.specs.Layout.{Drive};
 ghost use Rattle.model.specs.HiddenTree.{span};
 ghost use Rattle.model.specs.Invariants.{entriesIn};
 ghost use Rattle.model.specs.TreeCheck.{metAt, metInTurn, firstFault};
 ghost use Rattle.layout.specs.Geometries.{geometryOf};
 ghost use Rattle.hidden_map.specs.Nodes.{addressAt};
-ghost use Rattle.tree_check.specs.Nodes.{NodeOf};
+ghost use Rattle.tree_check.specs.Nodes.{NodeOf, EntriesOf, EntryIn, PlaceIn, NodeRead};
 
 // The entry at a place of the node at an address.
 fn read_entry(disk: &[u8], g: Geometry, node: DiskAddress, place: u32) -> DiskAddress
-    requires { ⌜ Drive (geometryOf g) (now disk) ⌝ }
-    requires { ⌜ node .0 < blockCount (geometryOf g) ⌝ }
-    requires { ⌜ place < fanout (geometryOf g) ⌝ }
+    requires { ⌜ EntryIn (geometryOf g) (now disk) (node .0) place ⌝ }
     ensures { λ r. ⌜ r .0 ≡
-        entryAt place (blockAt (geometryOf g .blockSize) (now (disk .entry)) (node .0)) ⌝ }
+        entryAt place (blockAt (blockWidth (geometryOf g)) (now (disk .entry)) (node .0)) ⌝ }
 {
     DiskAddress(entry_at(block_at(disk, g, node), place as usize))
 }
 
 // The first number below the entry at a place of a node whose numbers begin with this one.
 fn first_below(g: Geometry, level: u32, first: HiddenNumber, place: u32) -> u64
-    requires { ⌜ Fits (geometryOf g) ⌝ }
-    requires { ⌜ level < g .height ⌝ }
-    requires { ⌜ place < fanout (geometryOf g) ⌝ }
+    requires { ⌜ PlaceIn (geometryOf g) level place ⌝ }
     ensures { λ r. ⌜ r ≡ first .0 + place * span (geometryOf g) level ⌝ }
 {
     first.0 as u64 + (place as u64) * span_of(g, level)
@@ -49,8 +43,7 @@ fn first_below(g: Geometry, level: u32, first: HiddenNumber, place: u32) -> u64
 
 // Where the node of a level stands that has been read; the 0 is never answered.
 fn node_read(nodes: Nodes, level: u32) -> DiskAddress
-    requires { ⌜ (1 ≤ level) × (level ≤ 3) ⌝ }
-    requires { ⌜ addressAt nodes level ≢ none ⌝ }
+    requires { ⌜ NodeRead nodes level ⌝ }
     ensures { λ r. ⌜ addressAt nodes level ≡ some (r .0) ⌝ }
 {
     match node_at(nodes, level) {
@@ -72,7 +65,7 @@ fn check_entry(
     requires { ⌜ place < entriesIn (geometryOf g) level ⌝ }
     ensures { λ r. ⌜ r ≡ firstFault (geometryOf g) (now (disk .entry))
         (metAt (geometryOf g) (now (disk .entry)) level (first .0)
-        (blockAt (geometryOf g .blockSize) (now (disk .entry)) (node .0)) place) ⌝ }
+        (blockAt (blockWidth (geometryOf g)) (now (disk .entry)) (node .0)) place) ⌝ }
 {
     let entry = read_entry(disk, g, node, place);
     if entry.0 == 0 {
@@ -103,12 +96,10 @@ pub fn check_node(
     place: u32,
     remaining: u32,
 ) -> u8
-    requires { ⌜ NodeOf (geometryOf g) (now disk) level (first .0) (node .0) ⌝ }
-    requires { ⌜ 1 ≤ remaining ⌝ }
-    requires { ⌜ place + remaining ≤ entriesIn (geometryOf g) level ⌝ }
+    requires { ⌜ EntriesOf (geometryOf g) (now disk) level (first .0) (node .0) place remaining ⌝ }
     ensures { λ r. ⌜ r ≡ firstFault (geometryOf g) (now (disk .entry))
         (metInTurn (metAt (geometryOf g) (now (disk .entry)) level (first .0)
-        (blockAt (geometryOf g .blockSize) (now (disk .entry)) (node .0))) remaining place) ⌝ }
+        (blockAt (blockWidth (geometryOf g)) (now (disk .entry)) (node .0))) remaining place) ⌝ }
 {
     if remaining == 1 {
         return check_entry(disk, g, level, first, node, place);

@@ -1,5 +1,6 @@
 // How many entries of a level a node has, and which numbers stand below one.
 use layout::geometry::Geometry;
+use layout::geometry::fanout;
 use layout::numbers::HiddenNumber;
 ghost use mathlib.Core.Path.{_≡_};
 ghost use Prim.Native.Nat.{_<_};
@@ -15,7 +16,7 @@ pub fn entries_in(g: Geometry, level: u32) -> u32
     requires { ⌜ Fits (geometryOf g) ⌝ }
     ensures { λ r. ⌜ r ≡ entriesIn (geometryOf g) level ⌝ }
 {
-    let fanout = g.block_size / 4;
+    let fanout = fanout(g);
     if level != 0 {
         return fanout;
     }
@@ -28,7 +29,7 @@ pub fn span_of(g: Geometry, level: u32) -> u64
     requires { ⌜ level < g .height ⌝ }
     ensures { λ r. ⌜ r ≡ span (geometryOf g) level ⌝ }
 {
-    let fanout = (g.block_size / 4) as u64;
+    let fanout = fanout(g) as u64;
     if level == 0 {
         return 1;
     }

@@ -1,10 +1,10 @@
 // The call: refusals 1 to 3, then the first fault of the tree.
 use crate::nodes::check_node;
 use crate::spans::entries_in;
-use layout::geometry::geometry_in;
+use layout::drives::Opened;
+use layout::drives::open_drive;
 use layout::geometry::root_address;
 use layout::numbers::HiddenNumber;
-use layout::refusals::drive_fault;
 ghost use mathlib.Core.Path.{_≡_};
 ghost use Rattle.model.specs.TreeCheck.{treeRefusal};
 
@@ -13,12 +13,12 @@ ghost use Rattle.model.specs.TreeCheck.{treeRefusal};
 pub fn check_tree(disk: &[u8]) -> u8
     ensures { λ r. ⌜ r ≡ treeRefusal (now (disk .entry)) ⌝ }
 {
-    let fault = drive_fault(disk);
-    if fault != 0 {
-        return fault;
+    match open_drive(disk) {
+        Opened::Refused(fault) => fault,
+        Opened::Good(g) => {
+            let top = g.height - 1;
+            let count = entries_in(g, top);
+            check_node(disk, g, top, HiddenNumber(0), root_address(g), 0, count)
+        }
     }
-    let g = geometry_in(disk);
-    let top = g.height - 1;
-    let count = entries_in(g, top);
-    check_node(disk, g, top, HiddenNumber(0), root_address(g), 0, count)
 }

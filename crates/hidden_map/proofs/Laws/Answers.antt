@@ -1,11 +1,9 @@
--- A walk's answer by its tag: one that is not `Found` is no found end, and one that is not `Damaged` no
--- damaged end. Assumes nothing.
+-- A walk's answer by its tag: one that is not `Found` is no found end. Assumes nothing.
 use mathlib.Core.Path.{_≡_, refl}
 use mathlib.Core.Logic.{_⊎_, ⊎-elim}
 use mathlib.Core.Bool.{false}
 use native.Mathlib.Omega.{arith}
 use denote.Enum.Declared.{tagOf}
-use Rattle.model.specs.HiddenTree.{isDamaged}
 use Rattle.hidden_map.specs.declared.walks.Reached.{Reached}
 use Rattle.hidden_map.specs.declared.walks.Reached.the-variants.{Found, Unmapped, Damaged}
 use Rattle.hidden_map.specs.Ends.{endOf}
@@ -17,10 +15,3 @@ pub isFound-endOf : (answer : Reached) → (tagOf the-type answer ≡ 1) ⊎ (ta
 isFound-endOf (Found address) h = absurd (⊎-elim (λ e. omega arith) (λ e. omega arith) h)
 isFound-endOf Unmapped h = refl
 isFound-endOf Damaged h = refl
-
-pub isDamaged-endOf :
-    (answer : Reached) → (tagOf the-type answer ≡ 0) ⊎ (tagOf the-type answer ≡ 1) →
-    isDamaged (endOf answer) ≡ false
-isDamaged-endOf (Found address) h = refl
-isDamaged-endOf Unmapped h = refl
-isDamaged-endOf Damaged h = absurd (⊎-elim (λ e. omega arith) (λ e. omega arith) h)

@@ -1,46 +1,24 @@
--- Laws of branches and well-formed addresses: a branch level by level and its bound, the entry that it names
--- counted over the whole disk, and the test of an address by the numbers that a walk is given. Assumes
--- nothing.
+-- Laws of branches and well-formed addresses by the numbers that a walk is given: the entry that a branch
+-- names, counted over the whole disk, and the test of an address. Assumes nothing.
 use mathlib.Core.Path.{_≡_, refl, sym, ap, _∙_}
 use mathlib.Core.Logic.{_≢_}
 use mathlib.Core.Bool.{false}
-use Prim.Native.Nat.{ℕ, zero, suc, _+_, _*_, _-_, _/_, _%_, _^_, _≤_, _<_}
-use native.Mathlib.Nat.{mod-lt, div-one, mul-le-mul, mul-le-mul-right, mul-left-comm, pow-zero}
+use Prim.Native.Nat.{ℕ, zero, suc, _+_, _*_, _-_, _/_, _%_, _≤_, _<_}
+use native.Mathlib.Nat.{mul-le-mul, mul-le-mul-right, mul-left-comm}
 use native.Mathlib.Omega.{arith}
 use lib.Dec.{eqb}
 use lib.ListN.{length}
-use Rattle.laws.specs.Lists.{part}
-use Rattle.laws.specs.Numbers.{numberOf}
-use Rattle.laws.proofs.Division.{pow-one, pow-two}
-use Rattle.model.specs.Geometry.{Geometry, Fits, fanout, blockCount}
+use Rattle.model.specs.Geometry.{Geometry, fanout, blockCount, blockWidth}
 use Rattle.model.specs.Blocks.{Bytes, blockAt, entryAt}
 use Rattle.model.specs.Layout.{isWellFormed, levelPlace}
-use Rattle.model.specs.HiddenTree.{branchAt, leafOf}
-use Rattle.model.proofs.Laws.Geometry.{fanout-low}
-use Rattle.model.proofs.Laws.Entries.{entryAt-blockAt}
+use Rattle.model.specs.HiddenTree.{branchAt}
+use Rattle.model.proofs.Laws.Entries.{entryAt-disk}
 use Rattle.model.proofs.Laws.Slots.{isSlotBlock-below, isSlotBlock-past, isSlotBlock-inside}
+use Rattle.model.proofs.Laws.Branches.{entriesIn-le}
+use Rattle.model.proofs.Tree.Keys.{branchAt-lt}
 use Rattle.hidden_map.specs.Trees.{AreaOf, TreeOf}
 
--- ---- branches ----
-
-module _ (g : Geometry) (size : ℕ) (e : size ≡ g .blockSize) (number level : ℕ) where
-  pub branchAt-leaf : level ≡ 0 → number % (size / 4 - 1) ≡ branchAt g number level
-  unfolding branchAt
-  branchAt-leaf z = rw (z, e)
-
-  pub branchAt-first : level ≡ 1 → number / (size / 4 - 1) % (size / 4) ≡ branchAt g number level
-  unfolding branchAt
-  branchAt-first z = rw (z, e, pow-zero (fanout g), div-one (leafOf g number))
-
-  pub branchAt-second : level ≡ 2 → number / (size / 4 - 1) / (size / 4) % (size / 4) ≡
-      branchAt g number level
-  unfolding branchAt
-  branchAt-second z = rw (z, e, pow-one (fanout g))
-
-  pub branchAt-third :
-      level ≡ 3 → number / (size / 4 - 1) / (size / 4 * (size / 4)) % (size / 4) ≡ branchAt g number level
-  unfolding branchAt
-  branchAt-third z = rw (z, e, pow-two (fanout g))
+-- ---- bounds ----
 
 pub square-le : (size : ℕ) → 32 ≤ size → size ≤ 4096 →
     (1 ≤ size / 4 * (size / 4)) × (size / 4 * (size / 4) ≤ 1048576)
@@ -49,15 +27,6 @@ square-le size low high =
     let h : size / 4 ≤ 1024 = omega arith in
     (omega (arith, mul-le-mul l l), omega (arith, mul-le-mul h h))
 
-pub branchAt-lt : (g : Geometry) → Fits g → (number level : ℕ) → branchAt g number level < fanout g
-unfolding branchAt
-branchAt-lt g f number zero =
-    let some : 0 < fanout g - 1 = omega (arith, fanout-low g f) in
-    omega (arith, mod-lt number some)
-branchAt-lt g f number (suc level) =
-    let some : 0 < fanout g = omega (arith, fanout-low g f) in
-    mod-lt (leafOf g number / fanout g ^ level) some
-
 -- ---- the entry of a branch ----
 
 -- a node's entry, counted over the whole disk, by the numbers that a walk is given
@@ -65,7 +34,8 @@ module _ (g : Geometry) (disk : Bytes) (size height start count : ℕ)
     (t : TreeOf g disk size height start count)
     (number level address branch : ℕ) (e : branch ≡ branchAt g number level) where
   branch-inside : branch < fanout g
-  branch-inside = rw e (branchAt-lt g (t .drive .fits) number level)
+  branch-inside =
+      rw e (omega (arith, branchAt-lt g (t .drive .fits) number level, entriesIn-le g level))
 
   node-start : address * g .blockSize ≡ 4 * (address * fanout g)
   node-start = ap (λ (n : ℕ). address * n) (t .drive .fits .size-entries) ∙ mul-left-comm address 4 (fanout g)
@@ -78,16 +48,12 @@ module _ (g : Geometry) (disk : Bytes) (size height start count : ℕ)
 
   pub branch-entry-is :
       (entry : ℕ) → entry ≡ entryAt (address * (size / 4) + branch) disk →
-      entry ≡ entryAt (branchAt g number level) (blockAt (g .blockSize) disk address)
-  unfolding entryAt
+      entry ≡ entryAt (branchAt g number level) (blockAt (blockWidth g) disk address)
   branch-entry-is entry p =
-      let sized = t .drive .fits .size-entries in
-      let at : 4 * (address * fanout g + branch) ≡ address * g .blockSize + 4 * branch =
-      omega (arith, node-start) in
       p ∙ ap (λ (n : ℕ). entryAt (address * (n / 4) + branch) disk) (t .size-is)
-      ∙ ap (λ (n : ℕ). numberOf (part n 4 disk)) at
-      ∙ sym (entryAt-blockAt (g .blockSize) disk address branch (omega (arith, branch-inside)))
-      ∙ ap (λ (n : ℕ). entryAt n (blockAt (g .blockSize) disk address)) e
+      ∙ entryAt-disk (blockWidth g) (fanout g) disk address branch (t .drive .fits .size-entries)
+      branch-inside
+      ∙ ap (λ (n : ℕ). entryAt n (blockAt (blockWidth g) disk address)) e
 
 -- ---- well-formed addresses ----
 

@@ -1,18 +1,15 @@
--- Laws of the nodes that a walk reads: the nodes of three levels and one more, what is read by the walk's
--- first step, that every node stands where one of its level can, and that the blocks of the nodes are those
--- of the model's walk. Assumes nothing.
+-- Laws of the nodes that a walk reads: what is read by the walk's first step, that every node stands where
+-- one of its level can, and that the blocks of the nodes are those of the model's walk. Assumes nothing.
 use mathlib.Core.Path.{_≡_, refl, sym, ap, ap₂, _∙_}
 use mathlib.Core.Logic.{_≢_, _⊎_, inl, inr}
-use mathlib.Core.Bool.{Bool, true, false, cond}
+use mathlib.Core.Bool.{true, false}
 use mathlib.Core.List.{List, _∷_}
 use mathlib.Core.Option.{Option, none, some}
 use Prim.Native.Nat.{ℕ, zero, suc, _-_, _≤_, _<_}
 use native.Mathlib.Omega.{arith}
-use lib.Dec.{eqb}
 use lib.ListN.{length, replicate, length-replicate}
-use borrow.Author.Tests.{eq-eqb, ne-eqb}
 use Rattle.laws.proofs.Cases.{eq-cases, true-is-not-false, none-is-not-some, some-inj}
-use Rattle.model.specs.Geometry.{Geometry, rootAddress, blockCount}
+use Rattle.model.specs.Geometry.{Geometry, rootAddress, blockCount, blockWidth}
 use Rattle.model.specs.Blocks.{Bytes, DiskAddress, blockAt, zeroBlock}
 use Rattle.model.specs.Layout.{Drive, levelPlace, isWellFormed}
 use Rattle.model.specs.HiddenTree.{walkFrom, walk, Walk, End, found, unmapped, damaged}
@@ -21,85 +18,11 @@ use Rattle.model.proofs.Laws.Blocks.{length-blockAt}
 use Rattle.model.proofs.Laws.Slots.{slotBlock-of}
 use Rattle.model.proofs.Laws.Paths.{WholeBlock}
 use Rattle.hidden_map.specs.Ends.{stepOf}
-use Rattle.hidden_map.specs.Nodes.{byLevel, withAddress, readOn, readFrom, readAt, nodeBlocks}
-use Rattle.hidden_map.specs.Nodes.{nodeBlock, pathBlocks, Placed}
+use Rattle.hidden_map.specs.Nodes.{withAddress, readOn, readFrom, readAt, nodeBlocks, nodeBlock}
+use Rattle.hidden_map.specs.Nodes.{pathBlocks, StandsByLevel}
 use Rattle.hidden_map.proofs.Laws.Steps.{isFound, walkFrom-leaf, walkFrom-stop, walkFrom-goes}
 use Rattle.hidden_map.proofs.Laws.Steps.{stepOf-formed}
-
--- ---- nodes of three levels ----
-
-pub byLevel-none : (level : ℕ) → byLevel none none none level ≡ none
-unfolding byLevel
-byLevel-none level = same (eqb level 1) (eqb level 2) (eqb level 3)
-  where
-    same : (one two three : Bool) →
-        cond {A = Option DiskAddress} one none (cond two none (cond three none none)) ≡ none
-    same true two three = refl
-    same false true three = refl
-    same false false true = refl
-    same false false false = refl
-
-module _ (leaf middle upper : Option DiskAddress) (level : ℕ) where
-  pub byLevel-leaf : level ≡ 1 → leaf ≡ byLevel leaf middle upper level
-  unfolding byLevel
-  byLevel-leaf z = rw z
-
-  pub byLevel-middle : level ≡ 2 → middle ≡ byLevel leaf middle upper level
-  unfolding byLevel
-  byLevel-middle z = rw z
-
-  pub byLevel-upper : level ≡ 3 → upper ≡ byLevel leaf middle upper level
-  unfolding byLevel
-  byLevel-upper z = rw z
-
-  module _ (address : DiskAddress) (wanted : ℕ) where
-    pub with-leaf :
-        level ≡ 1 →
-        byLevel (some address) middle upper wanted ≡
-        withAddress (byLevel leaf middle upper) level address wanted
-    unfolding byLevel
-    with-leaf z = by (eq-cases wanted 1)
-      where
-        by : (wanted ≡ 1) ⊎ (wanted ≢ 1) →
-            byLevel (some address) middle upper wanted ≡
-            withAddress (byLevel leaf middle upper) level address wanted
-        by (inl e) = rw (e, z)
-        by (inr ne) = rw (z, ne-eqb wanted 1 ne)
-
-    pub with-middle :
-        level ≡ 2 →
-        byLevel leaf (some address) upper wanted ≡
-        withAddress (byLevel leaf middle upper) level address wanted
-    unfolding byLevel
-    with-middle z = by (eq-cases wanted 2)
-      where
-        by : (wanted ≡ 2) ⊎ (wanted ≢ 2) →
-            byLevel leaf (some address) upper wanted ≡
-            withAddress (byLevel leaf middle upper) level address wanted
-        by (inl e) = rw (e, z)
-        by (inr ne) = rw (z, ne-eqb wanted 2 ne)
-
-    pub with-upper :
-        level ≡ 3 →
-        byLevel leaf middle (some address) wanted ≡
-        withAddress (byLevel leaf middle upper) level address wanted
-    unfolding byLevel
-    with-upper z = by (eq-cases wanted 3)
-      where
-        by : (wanted ≡ 3) ⊎ (wanted ≢ 3) →
-            byLevel leaf middle (some address) wanted ≡
-            withAddress (byLevel leaf middle upper) level address wanted
-        by (inl e) = rw (e, z)
-        by (inr ne) = rw (z, ne-eqb wanted 3 ne)
-
--- ---- one more level ----
-
-module _ (at : ℕ → Option DiskAddress) (level : ℕ) (address : DiskAddress) where
-  pub withAddress-here : withAddress at level address level ≡ some address
-  withAddress-here = rw (eq-eqb level level refl)
-
-  pub withAddress-other : (wanted : ℕ) → wanted ≢ level → withAddress at level address wanted ≡ at wanted
-  withAddress-other wanted ne = rw (ne-eqb wanted level ne)
+use Rattle.hidden_map.proofs.Laws.Levels.{withAddress-here, withAddress-other}
 
 -- ---- what is read, by the first step ----
 
@@ -124,7 +47,7 @@ module _ (g : Geometry) (disk : Bytes) (number : ℕ) (node : Bytes) (wanted : �
   pub readFrom-goes :
       (level : ℕ) (address : DiskAddress) → level ≢ 0 → found address ≡ stepOf g number level node →
       readFrom g disk number level node wanted ≡
-      withAddress (readFrom g disk number (level - 1) (blockAt (g .blockSize) disk address)) level address
+      withAddress (readFrom g disk number (level - 1) (blockAt (blockWidth g) disk address)) level address
       wanted
   unfolding readFrom
   readFrom-goes zero address ne h = absurd (ne refl)
@@ -136,7 +59,7 @@ module _ (g : Geometry) (disk : Bytes) (number : ℕ) (node : Bytes) (wanted : �
 module _ (g : Geometry) (disk : Bytes) (number : ℕ) where
   -- what is read from the node on that a step leads to
   abbrev readBelow : (level : ℕ) → DiskAddress → (wanted : ℕ) → Option DiskAddress
-  readBelow level reached = readFrom g disk number level (blockAt (g .blockSize) disk reached)
+  readBelow level reached = readFrom g disk number level (blockAt (blockWidth g) disk reached)
 
   formed-from :
       (level : ℕ) (node : Bytes) (wanted : ℕ) (address : DiskAddress) →
@@ -145,7 +68,7 @@ module _ (g : Geometry) (disk : Bytes) (number : ℕ) where
   formed-from zero node wanted address e = none-is-not-some address e
   formed-from (suc level) node wanted address e =
       by (stepOf g number (suc level) node)
-      (λ reached h. formed-from level (blockAt (g .blockSize) disk reached) wanted address h) refl e
+      (λ reached h. formed-from level (blockAt (blockWidth g) disk reached) wanted address h) refl e
     where
       at-step : (reached : DiskAddress) → isWellFormed g (suc level) reached ≡ true →
           (readBelow level reached wanted ≡ some address → isWellFormed g wanted address ≡ true) →
@@ -175,23 +98,23 @@ module _ (g : Geometry) (disk : Bytes) (number : ℕ) where
       by damaged later h e = none-is-not-some address e
 
   -- a node of each level that a walk reads stands where one of that level can
-  pub placed-walk : Placed g (readAt g disk number)
+  pub placed-walk : StandsByLevel g (readAt g disk number)
   placed-walk =
       record {
         well-formed = λ level address e.
-            formed-from (g .height - 1) (blockAt (g .blockSize) disk (rootAddress g)) level address e;
+            formed-from (g .height - 1) (blockAt (blockWidth g) disk (rootAddress g)) level address e;
       }
 
 -- and so on the drive
-pub placed-inside :
-    (g : Geometry) (at : ℕ → Option DiskAddress) → Placed g at → (level : ℕ) (address : DiskAddress) →
+placed-inside :
+    (g : Geometry) (at : ℕ → Option DiskAddress) → StandsByLevel g at → (level : ℕ) (address : DiskAddress) →
     at level ≡ some address → address < blockCount g
 placed-inside g at placed level address e =
     slotBlock-of g (levelPlace g level) address (placed .well-formed level address e) .address-inside
 
 pub placed-same :
     (g : Geometry) (at other : ℕ → Option DiskAddress) → ((level : ℕ) → at level ≡ other level) →
-    Placed g other → Placed g at
+    StandsByLevel g other → StandsByLevel g at
 placed-same g at other same placed =
     record { well-formed = λ level address e. placed .well-formed level address (sym (same level) ∙ e) }
 
@@ -210,8 +133,14 @@ module _ (g : Geometry) (disk : Bytes) (at other : ℕ → Option DiskAddress) w
   pub pathBlocks-same :
       ((level : ℕ) → at level ≡ other level) → pathBlocks g disk at ≡ pathBlocks g disk other
   pathBlocks-same same =
-      ap {B = List Bytes} (λ (below : List Bytes). blockAt (g .blockSize) disk (rootAddress g) ∷ below)
+      ap {B = List Bytes} (λ (below : List Bytes). blockAt (blockWidth g) disk (rootAddress g) ∷ below)
       (nodeBlocks-same (g .height - 1) (λ wanted h. same wanted))
+
+pub nodeBlocks-suc :
+    (g : Geometry) (disk : Bytes) (at : ℕ → Option DiskAddress) (level : ℕ) →
+    nodeBlocks g disk at (suc level) ≡ nodeBlock g disk (at (suc level)) ∷ nodeBlocks g disk at level
+unfolding nodeBlocks
+nodeBlocks-suc g disk at level = refl
 
 pub length-nodeBlocks :
     (g : Geometry) (disk : Bytes) (at : ℕ → Option DiskAddress) (level : ℕ) →
@@ -221,13 +150,13 @@ length-nodeBlocks g disk at zero = refl
 length-nodeBlocks g disk at (suc level) = ap suc (length-nodeBlocks g disk at level)
 
 module _ (g : Geometry) (disk : Bytes) (drive : Drive g disk) (at : ℕ → Option DiskAddress)
-    (placed : Placed g at) where
+    (placed : StandsByLevel g at) where
   length-nodeBlock :
       (level : ℕ) (node : Option DiskAddress) → at level ≡ node →
       length (nodeBlock g disk node) ≡ g .blockSize
   length-nodeBlock level none e = length-replicate (g .blockSize) 0
   length-nodeBlock level (some address) e =
-      length-blockAt (g .blockSize) disk (blockCount g) (drive .whole) address
+      length-blockAt (blockWidth g) disk (blockCount g) (drive .whole) address
       (placed-inside g at placed level address e)
 
   pub nodeBlocks-whole : (level : ℕ) → All (WholeBlock g) (nodeBlocks g disk at level)
@@ -280,7 +209,7 @@ module _ (g : Geometry) (disk : Bytes) (number : ℕ) where
       by (found address) later h =
           let ne : suc level ≢ 0 = λ z. omega arith in
           let less : suc level - 1 ≡ level = omega arith in
-          let block = blockAt (g .blockSize) disk address in
+          let block = blockAt (blockWidth g) disk address in
           let below = readFrom g disk number level block in
           let at = readFrom g disk number (suc level) node in
           let goes : (wanted : ℕ) → at wanted ≡ withAddress below (suc level) address wanted =
@@ -302,4 +231,4 @@ module _ (g : Geometry) (disk : Bytes) (number : ℕ) where
       by damaged later h = stops (ap isFound (sym h))
 
   pub pathBlocks-walk : pathBlocks g disk (readAt g disk number) ≡ walk g disk number .nodes
-  pathBlocks-walk = sym (nodes-from (g .height - 1) (blockAt (g .blockSize) disk (rootAddress g)))
+  pathBlocks-walk = sym (nodes-from (g .height - 1) (blockAt (blockWidth g) disk (rootAddress g)))

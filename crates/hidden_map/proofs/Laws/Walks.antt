@@ -5,14 +5,14 @@ use mathlib.Core.Logic.{_≢_}
 use mathlib.Core.Bool.{false}
 use mathlib.Core.Option.{Option}
 use Prim.Native.Nat.{ℕ, _-_}
-use Rattle.model.specs.Geometry.{Geometry, rootAddress}
+use Rattle.model.specs.Geometry.{Geometry, rootAddress, blockWidth}
 use Rattle.model.specs.Blocks.{Bytes, DiskAddress, blockAt}
 use Rattle.model.specs.HiddenTree.{Walk, walk, found}
 use Rattle.hidden_map.specs.declared.nodes.Nodes.{Nodes}
 use Rattle.hidden_map.specs.declared.walks.Reached.{Reached}
 use Rattle.hidden_map.specs.declared.walks.Trail.{Trail}
 use Rattle.hidden_map.specs.Ends.{endOf, stepOf}
-use Rattle.hidden_map.specs.Nodes.{addressAt, withAddress, readAt, pathBlocks, Placed}
+use Rattle.hidden_map.specs.Nodes.{addressAt, withAddress, readAt, pathBlocks, StandsByLevel}
 use Rattle.hidden_map.specs.Walks.{Stopped, WalkedFrom, Walked}
 use Rattle.hidden_map.proofs.Laws.Steps.{isFound, walkFrom-leaf, walkFrom-stop, walkFrom-goes}
 use Rattle.hidden_map.proofs.Laws.Nodes.{readFrom-leaf, readFrom-stop, readFrom-goes, placed-walk}
@@ -45,7 +45,7 @@ module _ (g : Geometry) (disk : Bytes) (number level : ℕ) (node : Bytes) where
   pub walked-on :
       (address : DiskAddress) (rest : Trail) (nodes : Nodes) → level ≢ 0 →
       found address ≡ stepOf g number level node →
-      WalkedFrom g disk number (level - 1) (blockAt (g .blockSize) disk address) rest →
+      WalkedFrom g disk number (level - 1) (blockAt (blockWidth g) disk address) rest →
       ((wanted : ℕ) → addressAt nodes wanted ≡ withAddress (addressAt (rest .nodes)) level address wanted) →
       WalkedFrom g disk number level node (record { end = rest .end; nodes = nodes })
   walked-on address rest nodes ne told below added =
@@ -64,10 +64,10 @@ module _ (g : Geometry) (disk : Bytes) (number level : ℕ) (node : Bytes) where
 -- from the root
 pub walked-root :
     (g : Geometry) (disk : Bytes) (number root : ℕ) (trail : Trail) → root ≡ rootAddress g →
-    WalkedFrom g disk number (g .height - 1) (blockAt (g .blockSize) disk root) trail →
+    WalkedFrom g disk number (g .height - 1) (blockAt (blockWidth g) disk root) trail →
     Walked g disk number trail
 walked-root g disk number root trail e from =
-    let w : WalkedFrom g disk number (g .height - 1) (blockAt (g .blockSize) disk (rootAddress g)) trail =
+    let w : WalkedFrom g disk number (g .height - 1) (blockAt (blockWidth g) disk (rootAddress g)) trail =
     rw e at from in
     record { end-is = w .end-is; nodes-are = w .nodes-are }
 
@@ -83,7 +83,7 @@ blocks-walked g disk number trail walked =
 
 pub placed-walked :
     (g : Geometry) (disk : Bytes) (number : ℕ) (trail : Trail) → Walked g disk number trail →
-    Placed g (addressAt (trail .nodes))
+    StandsByLevel g (addressAt (trail .nodes))
 placed-walked g disk number trail walked =
     placed-same g (addressAt (trail .nodes)) (readAt g disk number) (walked .nodes-are)
     (placed-walk g disk number)

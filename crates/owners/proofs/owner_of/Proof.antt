@@ -1,22 +1,29 @@
 -- `owner_of` meets its contract: the leaf is A + 1, and its last entry stands inside it. Assumes nothing.
-use mathlib.Core.Path.{ap, _∙_}
+use mathlib.Core.Path.{sym, ap, _∙_}
+use Prim.Native.Nat.{ℕ, _-_}
 use native.Mathlib.Omega.{arith}
 use borrow.Author.Needs.{needs}
 use lib.ListN.{length}
-use Rattle.model.specs.Geometry.{blockCount}
+use Rattle.model.specs.Geometry.{blockCount, fanout, blockWidth}
+use Rattle.model.specs.Blocks.{blockAt, entryAt}
 use Rattle.model.proofs.Laws.Geometry.{fanout-low}
 use Rattle.model.proofs.Laws.Blocks.{length-blockAt}
+use Rattle.model.proofs.Laws.Slots.{levelAddress-lt}
+use Rattle.model.proofs.Laws.Owners.{ownerOf-is}
 use Rattle.layout.specs.Geometries.{geometryOf}
-use Rattle.layout.proofs.Laws.Levels.{levelAddress-lt}
-use Rattle.owners.proofs.Laws.Owners.{owner-read}
 use Rattle.owners.proofs.owner_of.Statement.{statement}
 use Rattle.owners.proofs.owner_of.Tie as tie
+
+fanout-requires : tie.Need-fanout-requires
+fanout-requires c κs = search needs
 
 cast-last : tie.Need-cast-last
 cast-last c = search needs
 
 sub-last : tie.Need-sub-last
-sub-last c = search needs
+sub-last c =
+    let start = c .before .before in
+    omega (arith, c .fanout .ensures, fanout-low (geometryOf (start .args .g)) (start .pre .0 .fits))
 
 level-address-requires : tie.Need-level-address-requires
 level-address-requires c κs = search needs
@@ -42,7 +49,7 @@ entry-at-requires c κs =
     omega (
       arith,
       ap length (c .block-at .ensures)
-          ∙ length-blockAt (g .blockSize) (start .args .disk .now) (blockCount g) (start .pre .0 .whole)
+          ∙ length-blockAt (blockWidth g) (start .args .disk .now) (blockCount g) (start .pre .0 .whole)
           (addressed .level-address .result .0)
           (omega (
             arith,
@@ -59,11 +66,16 @@ returns c =
     let taken = c .before in
     let addressed = taken .before in
     let start = taken .before .before .before .before in
-    owner-read (geometryOf (start .args .g)) (start .args .disk .now) (start .args .slot)
-    (addressed .level-address .result .0) (taken .block-at .result .now) (c .entry-at .result)
-    (addressed .level-address .ensures) (taken .block-at .ensures) (c .entry-at .ensures)
+    let g = geometryOf (start .args .g) in
+    let disk = start .args .disk .now in
+    c .entry-at .ensures
+    ∙ ap (λ (n : ℕ). entryAt (n - 1) (taken .block-at .result .now)) (addressed .before .fanout .ensures)
+    ∙ ap (entryAt (fanout g - 1))
+    (taken .block-at .ensures ∙ ap (blockAt (blockWidth g) disk) (addressed .level-address .ensures))
+    ∙ sym (ownerOf-is g disk (start .args .slot))
 
 pub owner-of-spec : {M : Type 1} → statement M
 owner-of-spec =
     tie.close
-    (tie.spec cast-last sub-last level-address-requires block-at-requires entry-at-requires returns)
+    (tie.spec fanout-requires cast-last sub-last level-address-requires block-at-requires entry-at-requires
+    returns)

@@ -8,24 +8,24 @@ use Prim.Native.Nat.{ℕ, suc, _+_, _*_, _-_, _/_, _<_}
 use native.Mathlib.Omega.{arith}
 use Rattle.laws.specs.Checks.{firstOf}
 use Rattle.laws.proofs.Cases.{none-is-not-some, some-inj}
-use Rattle.model.specs.Geometry.{Geometry}
+use Rattle.model.specs.Geometry.{Geometry, blockWidth}
 use Rattle.model.specs.Blocks.{Bytes, DiskAddress, blockAt, entryAt}
 use Rattle.model.specs.Layout.{isWellFormed}
 use Rattle.model.specs.HiddenTree.{span}
 use Rattle.model.specs.Invariants.{entriesIn}
-use Rattle.model.specs.TreeCheck.{MetEntry, metEntry, metWith, metBelow, metAt}
-use Rattle.model.specs.TreeCheck.{isBelow, entryChecks, firstFault}
-use Rattle.model.proofs.Laws.TreeCheck.{belowEntry, metBelow-zero, firstFault-zero}
-use Rattle.model.proofs.Laws.TreeCheck.{firstFault-own, firstFault-below, firstFault-nil}
-use Rattle.model.proofs.Laws.TreeCheck.{formed-of-faultless, first-of-faultless}
+use Rattle.model.specs.TreeCheck.{MetEntry, metEntry, metWith, metBelow, metAt, isBelow, entryChecks}
+use Rattle.model.specs.TreeCheck.{firstFault}
+use Rattle.model.proofs.Laws.TreeCheck.{belowEntry, metBelow-zero, firstFault-zero, firstFault-own}
+use Rattle.model.proofs.Laws.TreeCheck.{firstFault-below, firstFault-nil, formed-of-faultless}
+use Rattle.model.proofs.Laws.TreeCheck.{first-of-faultless}
 use Rattle.model.proofs.Tree.Check.{key-of-below, index-first}
+use Rattle.model.proofs.Laws.Slots.{formed-inside}
 use Rattle.hidden_map.specs.declared.nodes.Nodes.{Nodes}
 use Rattle.hidden_map.specs.Nodes.{addressAt}
 use Rattle.tree_check.specs.declared.entries.Tested.{Tested}
 use Rattle.tree_check.specs.declared.entries.Tested.the-variants.{Fault, Passed}
 use Rattle.tree_check.specs.Entries.{faultOf, ownerAt, TestedAs}
 use Rattle.tree_check.specs.Nodes.{NodeOf}
-use Rattle.tree_check.proofs.Laws.Entries.{formed-inside}
 use Rattle.tree_check.proofs.Laws.Ways.{indexAt, read-entry, read-below}
 
 -- ---- an entry and what is below it ----
@@ -58,7 +58,7 @@ pub record Judged (g : Geometry) (disk : Bytes) (level first place : ℕ) (node 
     (start : ℕ) (tested : Tested) : Type 0 where
   pub node-of : NodeOf g disk level first node
   pub place-lt : place < entriesIn g level
-  pub read : ReadAt g level first place (blockAt (g .blockSize) disk node) entry start
+  pub read : ReadAt g level first place (blockAt (blockWidth g) disk node) entry start
   pub not-zero : entry ≢ 0
   pub told : TestedAs g disk (metEntry level start entry) tested
 
@@ -69,7 +69,7 @@ module _ {g : Geometry} {disk : Bytes} {level first place : ℕ} {node entry : D
 
   -- the first fault there
   abbrev faultThere : ℕ
-  faultThere = firstFault g disk (metAt g disk level first (blockAt (g .blockSize) disk node) place)
+  faultThere = firstFault g disk (metAt g disk level first (blockAt (blockWidth g) disk node) place)
 
   pub fault-own : (fault : ℕ) → tested ≡ Fault fault → fault ≡ faultThere
   fault-own fault e =
@@ -96,7 +96,7 @@ module _ {g : Geometry} {disk : Bytes} {level first place : ℕ} {node entry : D
     fault-data l =
         sym (firstFault-nil g disk)
         ∙ ap (firstFault g disk)
-        (sym (metBelow-zero g disk start (blockAt (g .blockSize) disk entry))
+        (sym (metBelow-zero g disk start (blockAt (blockWidth g) disk entry))
         ∙ ap (λ (n : ℕ). belowEntry g disk (metEntry n start entry)) (sym l))
         ∙ left-below
 
@@ -133,12 +133,12 @@ module _ {g : Geometry} {disk : Bytes} {level first place : ℕ} {node entry : D
 
         pub fault-below : (answer : ℕ) →
             answer ≡
-            firstFault g disk (metBelow g disk (suc (level - 1)) start (blockAt (g .blockSize) disk below)) →
+            firstFault g disk (metBelow g disk (suc (level - 1)) start (blockAt (blockWidth g) disk below)) →
             answer ≡ faultThere
         fault-below answer a =
             let up : suc (level - 1) ≡ level = omega arith in
             a
-            ∙ ap₂ (λ (m at : ℕ). firstFault g disk (metBelow g disk m start (blockAt (g .blockSize) disk at)))
+            ∙ ap₂ (λ (m at : ℕ). firstFault g disk (metBelow g disk m start (blockAt (blockWidth g) disk at)))
             up (sym below-is)
             ∙ left-below
 

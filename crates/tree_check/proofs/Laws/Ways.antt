@@ -7,7 +7,7 @@ use mathlib.Core.Option.{Option, some}
 use Prim.Native.Nat.{ℕ, suc, _+_, _*_, _-_, _/_, _%_, _≤_, _<_}
 use native.Mathlib.Omega.{arith}
 use lib.Arith.{digits-div, digits-mod}
-use Rattle.model.specs.Geometry.{Geometry}
+use Rattle.model.specs.Geometry.{Geometry, blockWidth}
 use Rattle.model.specs.Blocks.{Bytes, DiskAddress, blockAt, entryAt}
 use Rattle.model.specs.Layout.{isWellFormed}
 use Rattle.model.specs.HiddenTree.{span, branchAt, found}
@@ -16,13 +16,14 @@ use Rattle.model.proofs.Tree.Keys.{keyOf-suc, branchAt-keyOf}
 use Rattle.hidden_map.specs.Ends.{stepOf}
 use Rattle.hidden_map.specs.Nodes.{withAddress, readFrom, readAt}
 use Rattle.hidden_map.proofs.Laws.Steps.{stepOf-found}
-use Rattle.hidden_map.proofs.Laws.Nodes.{withAddress-here, withAddress-other, readFrom-goes}
+use Rattle.hidden_map.proofs.Laws.Nodes.{readFrom-goes}
+use Rattle.hidden_map.proofs.Laws.Levels.{withAddress-here, withAddress-other}
 use Rattle.tree_check.specs.Nodes.{NodeOf}
 
 module _ {g : Geometry} {disk : Bytes} {level first : ℕ} {node : DiskAddress}
     (n : NodeOf g disk level first node) (place : ℕ) where
   abbrev block : Bytes
-  block = blockAt (g .blockSize) disk node
+  block = blockAt (blockWidth g) disk node
 
   -- how many entries of the level the tree has before the one at the place
   abbrev pub indexAt : ℕ
@@ -45,7 +46,7 @@ module _ {g : Geometry} {disk : Bytes} {level first : ℕ} {node : DiskAddress}
         (formed : isWellFormed g level entry ≡ true) (l : level ≢ 0) where
       -- what is read from the node on that the entry leads to
       abbrev below : (wanted : ℕ) → Option DiskAddress
-      below = readFrom g disk number (level - 1) (blockAt (g .blockSize) disk entry)
+      below = readFrom g disk number (level - 1) (blockAt (blockWidth g) disk entry)
 
       step-is : found entry ≡ stepOf g number level block
       step-is =

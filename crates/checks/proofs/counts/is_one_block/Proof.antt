@@ -1,9 +1,9 @@
 -- `checks::counts::is_one_block` meets its contract: no place, or the old place's slot beside the new one.
 -- Assumes nothing.
 use mathlib.Core.Path.{_∙_}
+use Rattle.model.proofs.Laws.RoundSearch.{one-block-new, one-block-moved}
 use Rattle.layout.specs.Geometries.{geometryOf}
 use Rattle.layout.proofs.Laws.PublicMap.{old-in-area, old-slot-lt}
-use Rattle.checks.proofs.Laws.RoundCounts.{one-block-new, one-block-moved}
 use Rattle.checks.proofs.counts.is_one_block.Statement.{statement}
 use Rattle.checks.proofs.counts.is_one_block.Tie as tie
 
@@ -22,22 +22,22 @@ returns c =
 slot-of-requires : tie.Need-slot-of-requires
 slot-of-requires c κs =
     let start = startOf (c .before) in (
-      start .pre .0,
-      old-in-area (geometryOf (start .args .g)) (start .args .entry .0) (start .pre .1 .0) (c .if1 .left),
+      start .pre .fits,
+      old-in-area (geometryOf (start .args .g)) (start .args .entry .0) (start .pre .old) (c .if1 .left),
     )
 
 is-shared-requires : tie.Need-is-shared-requires
 is-shared-requires c κs =
     let moved = c .before in
     let start = startOf (moved .before) in
-    let g = geometryOf (start .args .g) in (
-      start .pre .0,
-      (
-        start .pre .1 .1,
-        rw (c .slot-of .ensures)
-            (old-slot-lt g (start .args .entry .0) (start .pre .1 .0) (moved .if1 .left)),
-      ),
-    )
+    let g = geometryOf (start .args .g) in
+    record {
+      fits = start .pre .fits;
+      slot-inside = start .pre .slot-inside;
+      other-inside =
+          rw (c .slot-of .ensures)
+          (old-slot-lt g (start .args .entry .0) (start .pre .old) (moved .if1 .left));
+    }
 
 returns-2 : tie.Need-returns-2
 returns-2 c =

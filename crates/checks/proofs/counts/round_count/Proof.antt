@@ -5,9 +5,9 @@ use Prim.Native.Nat.{_-_}
 use native.Mathlib.Omega.{arith}
 use borrow.Author.Tests.{not-true, not-false}
 use Rattle.model.specs.Layout.{headIn, isAllocated}
+use Rattle.model.proofs.Laws.RoundSearch.{header-inside, Looked, looked-none, looked-next, looked-free}
+use Rattle.model.proofs.Laws.RoundSearch.{looked-all}
 use Rattle.layout.specs.Geometries.{geometryOf}
-use Rattle.checks.proofs.Laws.RoundCounts.{header-inside, Looked, looked-none, looked-next}
-use Rattle.checks.proofs.Laws.RoundCounts.{looked-free, looked-all}
 use Rattle.checks.proofs.counts.round_count.Statement.{statement}
 use Rattle.checks.proofs.counts.round_count.Tie as tie
 

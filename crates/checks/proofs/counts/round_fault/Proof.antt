@@ -7,10 +7,9 @@ use borrow.Author.Needs.{needs}
 use Rattle.model.specs.Geometry.{Geometry}
 use Rattle.model.specs.Refusals.{roundCount}
 use Rattle.model.proofs.Refusals.Circle.{roundCount-le}
+use Rattle.model.proofs.Laws.RoundSearch.{random-blocks-small, random-small}
+use Rattle.model.proofs.Laws.CallChecks.{rounds-none, rounds-random-short, rounds-room-short, rounds-good}
 use Rattle.layout.specs.Geometries.{geometryOf}
-use Rattle.checks.proofs.Laws.RoundCounts.{random-blocks-small, random-small}
-use Rattle.checks.proofs.Laws.RoundRefusals.{rounds-none, rounds-random-short, rounds-room-short}
-use Rattle.checks.proofs.Laws.RoundRefusals.{rounds-good}
 use Rattle.checks.proofs.counts.round_fault.Statement.{statement}
 use Rattle.checks.proofs.counts.round_fault.Tie as tie
 
@@ -69,7 +68,7 @@ mul-if2 c =
     let s = startOf rounds in
     omega (
       arith,
-      random-blocks-small (shapeOf s) (s .pre .0 .fits) (rounds .round-count .result) (few rounds),
+      random-blocks-small (shapeOf s) (s .pre .drive .fits) (rounds .round-count .result) (few rounds),
     )
 
 cast-if2-3 : tie.Need-cast-if2-3
@@ -79,7 +78,7 @@ mul-if2-2 : tie.Need-mul-if2-2
 mul-if2-2 c =
     let rounds = countOf c in
     let s = startOf rounds in
-    omega (arith, random-small (shapeOf s) (s .pre .0 .fits) (rounds .round-count .result) (few rounds))
+    omega (arith, random-small (shapeOf s) (s .pre .drive .fits) (rounds .round-count .result) (few rounds))
 
 returns-2 : tie.Need-returns-2
 returns-2 c =
@@ -93,8 +92,11 @@ write-store-count-requires : tie.Need-write-store-count-requires
 write-store-count-requires c κs =
     let positive = positiveOf (c .before) in
     let rounds = positive .before in
-    let pre = startOf rounds .pre in
-    (pre .0, (pre .1 .0, (pre .1 .1 .0, (pre .1 .1 .1, (rounds .round-count .ensures, positive .if1 .left)))))
+    record {
+      writable = startOf rounds .pre;
+      rounds-are = rounds .round-count .ensures;
+      some-rounds = positive .if1 .left;
+    }
 
 cast-if3 : tie.Need-cast-if3
 cast-if3 c = search needs

@@ -2,8 +2,8 @@
 use mathlib.Core.Path.{sym, _∙_}
 use native.Mathlib.Omega.{arith}
 use borrow.Author.Needs.{needs}
+use Rattle.model.proofs.Laws.RoundSearch.{stores-small, storeCount-one-block, storeCount-two-blocks}
 use Rattle.layout.specs.Geometries.{geometryOf}
-use Rattle.checks.proofs.Laws.RoundCounts.{stores-small, storeCount-one-block, storeCount-two-blocks}
 use Rattle.checks.proofs.counts.store_count.Statement.{statement}
 use Rattle.checks.proofs.counts.store_count.Tie as tie
 
@@ -16,7 +16,7 @@ add-kept c = search needs
 mul-kept : tie.Need-mul-kept
 mul-kept c =
     let s = c .before in
-    omega (arith, stores-small (geometryOf (s .args .g)) (s .pre .0) (s .args .rounds) (s .pre .1 .0))
+    omega (arith, stores-small (geometryOf (s .args .g)) (s .pre .0 .fits) (s .args .rounds) (s .pre .1))
 
 is-one-block-requires : tie.Need-is-one-block-requires
 is-one-block-requires c κs = search needs
@@ -24,12 +24,12 @@ is-one-block-requires c κs = search needs
 add-result : tie.Need-add-result
 add-result c =
     let s = startOf (c .before) in
-    omega (arith, stores-small (geometryOf (s .args .g)) (s .pre .0) (s .args .rounds) (s .pre .1 .0))
+    omega (arith, stores-small (geometryOf (s .args .g)) (s .pre .0 .fits) (s .args .rounds) (s .pre .1))
 
 add-result-2 : tie.Need-add-result-2
 add-result-2 c =
     let s = startOf (c .before) in
-    omega (arith, stores-small (geometryOf (s .args .g)) (s .pre .0) (s .args .rounds) (s .pre .1 .0))
+    omega (arith, stores-small (geometryOf (s .args .g)) (s .pre .0 .fits) (s .args .rounds) (s .pre .1))
 
 returns : tie.Need-returns
 returns c =

@@ -9,9 +9,9 @@ use Rattle.model.specs.Geometry.{Geometry}
 use Rattle.model.specs.Layout.{headIn}
 use Rattle.model.specs.Refusals.{roundCount}
 use Rattle.model.proofs.Refusals.Circle.{roundCount-le}
+use Rattle.model.proofs.Laws.RoundSearch.{header-inside, head-rounds-small, stores-counted}
 use Rattle.layout.specs.Geometries.{geometryOf}
 use Rattle.layout.specs.PublicMap.{OldEntry}
-use Rattle.checks.proofs.Laws.RoundCounts.{header-inside, head-rounds-small, stores-counted}
 use Rattle.checks.proofs.counts.write_store_count.Statement.{statement}
 use Rattle.checks.proofs.counts.write_store_count.Tie as tie
 
@@ -23,7 +23,7 @@ shapeOf s = geometryOf (s .args .g)
 
 -- the rounds are those of the write, so at most the slots
 counted : (s : tie.Start) → s .args .rounds ≡ roundCount (shapeOf s) (s .args .disk .now)
-counted s = s .pre .1 .1 .1 .1 .0
+counted s = s .pre .rounds-are
 
 few : (s : tie.Start) → s .args .rounds ≤ s .args .g .slots
 few s = rw (counted s) (roundCount-le (shapeOf s) (s .args .disk .now))
@@ -33,7 +33,7 @@ map-entry-requires c κs = search needs
 
 head-in-requires : tie.Need-head-in-requires
 head-in-requires c κs =
-    let s = c .before .before in header-inside (shapeOf s) (s .args .disk .now) (s .pre .0)
+    let s = c .before .before in header-inside (shapeOf s) (s .args .disk .now) (s .pre .writable .drive)
 
 add-last : tie.Need-add-last
 add-last c =
@@ -41,8 +41,8 @@ add-last c =
     omega (
       arith,
       c .head-in .ensures,
-      head-rounds-small (shapeOf s) (s .pre .0 .fits) (headIn (s .args .disk .now)) (s .args .rounds)
-          (s .pre .1 .0) (few s),
+      head-rounds-small (shapeOf s) (s .pre .writable .drive .fits) (headIn (s .args .disk .now))
+          (s .args .rounds) (s .pre .writable .head-inside) (few s),
     )
 
 sub-last : tie.Need-sub-last
@@ -53,15 +53,14 @@ rem-last c = omega arith
 
 store-count-requires : tie.Need-store-count-requires
 store-count-requires c κs =
-    let s = startOf c in (
-      s .pre .0 .fits,
-      (
-        few s,
-        (
-          subst (OldEntry (shapeOf s)) (sym (c .before .map-entry .ensures)) (s .pre .1 .1 .1 .0),
-          mod-lt _ (omega arith),
-        ),
-      ),
+    let s = startOf c in
+    let w = s .pre .writable in (
+      record {
+        fits = w .drive .fits;
+        old = subst (OldEntry (shapeOf s)) (sym (c .before .map-entry .ensures)) (w .old);
+        slot-inside = mod-lt _ (omega arith);
+      },
+      few s,
     )
 
 returns : tie.Need-returns

@@ -1,9 +1,9 @@
 -- `place_fault` meets its contract: one law for each way through its checks. Assumes nothing.
 use mathlib.Core.Path.{_∙_, sym}
 use borrow.Author.Needs.{needs}
+use Rattle.model.proofs.Laws.CallChecks.{public-number-refused, public-size-refused, public-unplaced-passes}
+use Rattle.model.proofs.Laws.CallChecks.{public-placed-passes, public-entry-refused}
 use Rattle.layout.specs.Geometries.{geometryOf}
-use Rattle.checks.proofs.Laws.Places.{number-refused, size-refused, unplaced-passes, placed-passes}
-use Rattle.checks.proofs.Laws.Places.{entry-refused}
 use Rattle.checks.proofs.places.place_fault.Statement.{statement}
 use Rattle.checks.proofs.places.place_fault.Tie as tie
 
@@ -26,7 +26,7 @@ mappedOf c = c .before .before
 returns : tie.Need-returns
 returns c =
     let a = c .before .before .args in
-    number-refused (geometryOf (a .g)) (a .disk .now) (a .number .0) (a .size) (c .if1 .taken)
+    public-number-refused (geometryOf (a .g)) (a .disk .now) (a .number .0) (a .size) (c .if1 .taken)
 
 cast-if2 : tie.Need-cast-if2
 cast-if2 c = search needs
@@ -35,7 +35,7 @@ returns-2 : tie.Need-returns-2
 returns-2 c =
     let inside = c .before .before in
     let a = startOf inside .args in
-    size-refused (geometryOf (a .g)) (a .disk .now) (a .number .0) (a .size) (inside .if1 .left)
+    public-size-refused (geometryOf (a .g)) (a .disk .now) (a .number .0) (a .size) (inside .if1 .left)
     (c .if2 .taken)
 
 map-entry-requires : tie.Need-map-entry-requires
@@ -46,7 +46,7 @@ returns-3 c =
     let mapped = c .before .before in
     let inside = insideOf (mapped .before) in
     let a = startOf inside .args in
-    unplaced-passes (geometryOf (a .g)) (a .disk .now) (a .number .0) (a .size) (inside .if1 .left)
+    public-unplaced-passes (geometryOf (a .g)) (a .disk .now) (a .number .0) (a .size) (inside .if1 .left)
     (mapped .before .if2 .left) (mapped .map-entry .result .0) (mapped .map-entry .ensures) (c .if3 .taken)
 
 is-place-requires : tie.Need-is-place-requires
@@ -57,7 +57,7 @@ returns-4 c =
     let mapped = mappedOf (c .before .before) in
     let inside = insideOf (mapped .before) in
     let a = startOf inside .args in
-    placed-passes (geometryOf (a .g)) (a .disk .now) (a .number .0) (a .size) (inside .if1 .left)
+    public-placed-passes (geometryOf (a .g)) (a .disk .now) (a .number .0) (a .size) (inside .if1 .left)
     (mapped .before .if2 .left) (mapped .map-entry .result .0) (mapped .map-entry .ensures)
     (sym (c .before .is-place .ensures) ∙ c .if4 .taken)
 
@@ -67,7 +67,7 @@ returns-5 c =
     let mapped = mappedOf present in
     let inside = insideOf (mapped .before) in
     let a = startOf inside .args in
-    entry-refused (geometryOf (a .g)) (a .disk .now) (a .number .0) (a .size) (inside .if1 .left)
+    public-entry-refused (geometryOf (a .g)) (a .disk .now) (a .number .0) (a .size) (inside .if1 .left)
     (mapped .before .if2 .left) (mapped .map-entry .result .0) (mapped .map-entry .ensures)
     (present .if3 .left) (sym (c .before .is-place .ensures) ∙ c .if4 .left)
 

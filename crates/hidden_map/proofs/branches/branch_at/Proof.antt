@@ -1,8 +1,8 @@
 -- `hidden_map::branches::branch_at` meets its contract: one law for each level. Assumes nothing.
 use mathlib.Core.Path.{_≡_}
 use native.Mathlib.Omega.{arith}
-use Rattle.hidden_map.proofs.Laws.Branches.{branchAt-leaf, branchAt-first, branchAt-second}
-use Rattle.hidden_map.proofs.Laws.Branches.{branchAt-third, square-le}
+use Rattle.model.proofs.Laws.Branches.{branchAt-leaf, branchAt-first, branchAt-second, branchAt-third}
+use Rattle.hidden_map.proofs.Laws.Branches.{square-le}
 use borrow.Author.Needs.{needs}
 use Rattle.hidden_map.proofs.branches.branch_at.Statement.{statement}
 use Rattle.hidden_map.proofs.branches.branch_at.Tie as tie
@@ -51,7 +51,8 @@ mul-result c =
     omega (
       arith,
       square-le (c .before .before .before .before .args .size)
-          (c .before .before .before .before .pre .0 .0) (c .before .before .before .before .pre .0 .1),
+          (c .before .before .before .before .pre .size-low)
+          (c .before .before .before .before .pre .size-high),
     )
 
 div-result-2 : tie.Need-div-result-2
@@ -59,7 +60,8 @@ div-result-2 c =
     omega (
       arith,
       square-le (c .before .before .before .before .args .size)
-          (c .before .before .before .before .pre .0 .0) (c .before .before .before .before .pre .0 .1),
+          (c .before .before .before .before .pre .size-low)
+          (c .before .before .before .before .pre .size-high),
     )
 
 rem-result-4 : tie.Need-rem-result-4

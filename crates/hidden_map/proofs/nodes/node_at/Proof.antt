@@ -1,9 +1,9 @@
 -- `node_at` meets its contract, level by level. Assumes nothing.
 use native.Mathlib.Omega.{arith}
 use Rattle.hidden_map.specs.Nodes.{nodeOf}
-use Rattle.hidden_map.proofs.Laws.Nodes.{byLevel-leaf, byLevel-middle, byLevel-upper}
 use Rattle.hidden_map.proofs.nodes.node_at.Statement.{statement}
 use Rattle.hidden_map.proofs.nodes.node_at.Tie as tie
+use Rattle.hidden_map.proofs.Laws.Levels.{byLevel-leaf, byLevel-middle, byLevel-upper}
 
 returns : tie.Need-returns
 returns c =

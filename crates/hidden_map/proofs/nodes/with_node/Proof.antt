@@ -1,9 +1,9 @@
 -- `with_node` meets its contract, level by level. Assumes nothing.
 use native.Mathlib.Omega.{arith}
 use Rattle.hidden_map.specs.Nodes.{nodeOf}
-use Rattle.hidden_map.proofs.Laws.Nodes.{with-leaf, with-middle, with-upper}
 use Rattle.hidden_map.proofs.nodes.with_node.Statement.{statement}
 use Rattle.hidden_map.proofs.nodes.with_node.Tie as tie
+use Rattle.hidden_map.proofs.Laws.Levels.{with-leaf, with-middle, with-upper}
 
 returns : tie.Need-returns
 returns c =

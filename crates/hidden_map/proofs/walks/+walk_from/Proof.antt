@@ -9,7 +9,7 @@ use borrow.Author.Needs.{needs}
 use borrow.Fn.Kinds.{In}
 use borrow.Fn.PlainCycle.{Measures, is, falls, and}
 use Rattle.model.specs.Blocks.{Bytes, blockAt}
-use Rattle.model.specs.Geometry.{Geometry}
+use Rattle.model.specs.Geometry.{Geometry, blockWidth}
 use Rattle.hidden_map.specs.Ends.{endOf}
 use Rattle.hidden_map.specs.Trees.{TreeOf}
 use Rattle.hidden_map.proofs.Laws.Answers.{isFound-endOf}
@@ -62,7 +62,7 @@ more-left t c = c .before .before .before .if1 .left
 
 -- the node that the walk starts from, on a drive of a geometry
 abbrev startBlock : (t : ℕ) → AfterStep t → Geometry → Bytes
-startBlock t s g = let a = s .before .before .args in blockAt (g .blockSize) (a .disk .now) (a .address .0)
+startBlock t s g = let a = s .before .before .args in blockAt (blockWidth g) (a .disk .now) (a .address .0)
 
 -- a geometry that has the walk's numbers
 abbrev TreeAt : (t : ℕ) → AfterStep t → Geometry → Type 0
@@ -117,11 +117,16 @@ walk-from-walk-from-requires t c κs =
     let p = w .pre .1 in
     let next = c .before .next .given in
     let more = more-left t c in
-    let inside = walkFrom-goes (p .0 .geometry) (w .args .disk .now) (w .args .number .0)
-    (startBlock t s (p .0 .geometry)) (w .args .level) (next .0 .0 .0) more
-    (sym (ap endOf (next .1)) ∙ s .step .ensures (p .0 .geometry) (p .0 .tree)) .address-inside in (
+    let inside = walkFrom-goes (p .walkable .geometry) (w .args .disk .now) (w .args .number .0)
+    (startBlock t s (p .walkable .geometry)) (w .args .level) (next .0 .0 .0) more
+    (sym (ap endOf (next .1)) ∙ s .step .ensures (p .walkable .geometry) (p .walkable .tree))
+    .address-inside in (
       omega (arith, w .pre .0, more),
-      (p .0, (omega (arith, p .1 .0), omega (arith, p .0 .tree .area .count-is, inside))),
+      record {
+        walkable = p .walkable;
+        level-lt = omega (arith, p .level-lt);
+        address-inside = omega (arith, p .walkable .tree .area .count-is, inside);
+      },
     )
 
 walk-from-with-node-requires : (t : ℕ) → walk-from-lts.Need-with-node-requires (reads t) (walk-from-at t)
@@ -129,9 +134,9 @@ walk-from-with-node-requires : (t : ℕ) → walk-from-lts.Need-with-node-requir
 walk-from-with-node-requires t c κs =
     let told = c .before .before in
     let p = after-step t told .before .before .pre .1 in
-    let high = p .0 .tree .drive .fits .height-high in (
+    let high = p .walkable .tree .drive .fits .height-high in (
       omega (arith, more-left t told),
-      omega (arith, p .1 .0, p .0 .tree .area .height-is, high),
+      omega (arith, p .level-lt, p .walkable .tree .area .height-is, high),
     )
 
 walk-from-returns-3 : (t : ℕ) → walk-from-lts.Need-returns-3 (reads t) (walk-from-at t) walk-from.Post

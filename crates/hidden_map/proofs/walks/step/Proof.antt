@@ -5,7 +5,7 @@ use Prim.Native.Nat.{ℕ, _+_, _*_, _/_, _≤_}
 use native.Mathlib.Omega.{arith}
 use lib.ListN.{length}
 use borrow.Author.Needs.{needs}
-use Rattle.model.specs.Geometry.{Geometry}
+use Rattle.model.specs.Geometry.{Geometry, blockWidth}
 use Rattle.model.specs.Blocks.{blockAt, entryAt}
 use Rattle.model.specs.HiddenTree.{branchAt}
 use Rattle.hidden_map.specs.Trees.{TreeOf}
@@ -31,13 +31,13 @@ readOf c = c .before .before
 -- the entry ends inside the disk
 entry-inside :
     (s : tie.Start) (branch : ℕ) →
-    branch ≡ branchAt (s .pre .0 .geometry) (s .args .number .0) (s .args .level) →
+    branch ≡ branchAt (s .pre .walkable .geometry) (s .args .number .0) (s .args .level) →
     4 * (s .args .address .0 * (s .args .size / 4) + branch) + 4 ≤ length (s .args .disk .now)
 entry-inside s branch e =
     let a = s .args in
-    let w = s .pre .0 in
+    let w = s .pre .walkable in
     branch-entry-inside (w .geometry) (a .disk .now) (a .size) (a .height) (a .start .0) (a .count) (w .tree)
-    (a .number .0) (a .level) (a .address .0) branch e (s .pre .1 .1)
+    (a .number .0) (a .level) (a .address .0) branch e (s .pre .address-inside)
 
 -- the branch that is found has its entry inside
 found-inside :
@@ -45,7 +45,7 @@ found-inside :
     let a = entryOf c .args in
     4 * (a .address .0 * (a .size / 4) + c .branch-at .result) + 4 ≤ length (a .disk .now)
 found-inside c =
-    let w = entryOf c .pre .0 in
+    let w = entryOf c .pre .walkable in
     entry-inside (entryOf c) (c .branch-at .result) (c .branch-at .ensures (w .geometry) (w .tree .size-is))
 
 -- what is read is the node's entry, for every geometry that has these numbers
@@ -54,7 +54,7 @@ entry-is :
     let a = startOf c .args in
     TreeOf g (a .disk .now) (a .size) (a .height) (a .start .0) (a .count) →
     c .entry-at .result ≡
-    entryAt (branchAt g (a .number .0) (a .level)) (blockAt (g .blockSize) (a .disk .now) (a .address .0))
+    entryAt (branchAt g (a .number .0) (a .level)) (blockAt (blockWidth g) (a .disk .now) (a .address .0))
 entry-is c g t =
     let a = startOf c .args in
     let branch = c .before .branch-at in
@@ -72,7 +72,7 @@ mul-before c =
     let s = c .before .before in
     omega (
       arith,
-      entry-inside s (branchAt (s .pre .0 .geometry) (s .args .number .0) (s .args .level)) refl,
+      entry-inside s (branchAt (s .pre .walkable .geometry) (s .args .number .0) (s .args .level)) refl,
       s .good,
     )
 
@@ -88,7 +88,7 @@ entry-at-requires c κs = found-inside c
 returns : tie.Need-returns
 returns c =
     let a = startOf (c .before) .args in
-    λ g t. stepOf-unmapped g (a .number .0) (a .level) (blockAt (g .blockSize) (a .disk .now) (a .address .0))
+    λ g t. stepOf-unmapped g (a .number .0) (a .level) (blockAt (blockWidth g) (a .disk .now) (a .address .0))
     (c .before .entry-at .result) (entry-is (c .before) g t) (c .if1 .taken)
 
 is-well-formed-requires : tie.Need-is-well-formed-requires
@@ -99,7 +99,7 @@ returns-2 c =
     let judged = c .before in
     let read = readOf judged in
     let a = startOf read .args in
-    λ g t. stepOf-found g (a .number .0) (a .level) (blockAt (g .blockSize) (a .disk .now) (a .address .0))
+    λ g t. stepOf-found g (a .number .0) (a .level) (blockAt (blockWidth g) (a .disk .now) (a .address .0))
     (read .entry-at .result) (entry-is read g t) (judged .before .if1 .left) (judged .is-well-formed .result)
     (judged .is-well-formed .ensures g (t .area)) (c .if2 .taken)
 
@@ -108,7 +108,7 @@ returns-3 c =
     let judged = c .before in
     let read = readOf judged in
     let a = startOf read .args in
-    λ g t. stepOf-damaged g (a .number .0) (a .level) (blockAt (g .blockSize) (a .disk .now) (a .address .0))
+    λ g t. stepOf-damaged g (a .number .0) (a .level) (blockAt (blockWidth g) (a .disk .now) (a .address .0))
     (read .entry-at .result) (entry-is read g t) (judged .before .if1 .left) (judged .is-well-formed .result)
     (judged .is-well-formed .ensures g (t .area)) (c .if2 .left)
 

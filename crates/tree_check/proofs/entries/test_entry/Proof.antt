@@ -6,8 +6,9 @@ use borrow.Author.Needs.{needs}
 use borrow.Author.Tests.{not-true, not-false}
 use Rattle.model.specs.Geometry.{Geometry}
 use Rattle.model.specs.TreeCheck.{MetEntry, metEntry}
+use Rattle.model.proofs.Laws.TreeCheck.{fault-thirteen, fault-fourteen}
 use Rattle.layout.specs.Geometries.{geometryOf}
-use Rattle.tree_check.proofs.Laws.Entries.{fault-thirteen, fault-fourteen, tested-fault}
+use Rattle.tree_check.proofs.Laws.Entries.{tested-fault}
 use Rattle.tree_check.proofs.entries.test_entry.Statement.{statement}
 use Rattle.tree_check.proofs.entries.test_entry.Tie as tie
 
@@ -54,10 +55,13 @@ test-owner-requires : tie.Need-test-owner-requires
 test-owner-requires c κs =
     let formed = formedOf c in
     let s = formed .before in
-    let pre = startOf s .pre in (
-      pre .0,
-      (pre .1, (sym (s .is-formed .ensures) ∙ not-false _ (formed .if1 .left), omega (arith, c .if2 .left))),
-    )
+    let pre = startOf s .pre in
+    record {
+      drive = pre .0;
+      level-lt = pre .1;
+      formed = sym (s .is-formed .ensures) ∙ not-false _ (formed .if1 .left);
+      first-lt = omega (arith, c .if2 .left);
+    }
 
 returns-3 : tie.Need-returns-3
 returns-3 c = c .test-owner .ensures

@@ -5,9 +5,9 @@ use native.Mathlib.Omega.{arith}
 use borrow.Author.Needs.{needs}
 use borrow.Author.Tests.{not-true, not-false}
 use Rattle.model.specs.Geometry.{Geometry}
+use Rattle.model.proofs.Laws.Slots.{formed-in-area, formed-slot-lt}
 use Rattle.layout.specs.Geometries.{geometryOf}
-use Rattle.tree_check.proofs.Laws.Entries.{formed-in-area, formed-slot-lt, tested-not-below}
-use Rattle.tree_check.proofs.Laws.Entries.{tested-elsewhere, tested-owned}
+use Rattle.tree_check.proofs.Laws.Entries.{tested-not-below, tested-elsewhere, tested-owned}
 use Rattle.tree_check.proofs.entries.test_owner.Statement.{statement}
 use Rattle.tree_check.proofs.entries.test_owner.Tie as tie
 
@@ -34,7 +34,7 @@ slot-inside s =
     omega (
       arith,
       s .slot-of .ensures,
-      formed-slot-lt (shapeOf s) (a .level) (a .entry .0) (startOf s .pre .1 .1 .0),
+      formed-slot-lt (shapeOf s) (a .level) (a .entry .0) (startOf s .pre .formed),
     )
 
 -- ---- answers ----
@@ -43,10 +43,10 @@ slot-of-requires : tie.Need-slot-of-requires
 slot-of-requires c κs =
     let s = c .before in
     let a = s .args in
-    (s .pre .0 .fits, formed-in-area (geometryOf (a .g)) (a .level) (a .entry .0) (s .pre .1 .1 .0))
+    (s .pre .drive .fits, formed-in-area (geometryOf (a .g)) (a .level) (a .entry .0) (s .pre .formed))
 
 owner-of-requires : tie.Need-owner-of-requires
-owner-of-requires c κs = (startOf c .pre .0, slot-inside c)
+owner-of-requires c κs = (startOf c .pre .drive, slot-inside c)
 
 is-below-requires : tie.Need-is-below-requires
 is-below-requires c κs = search needs
@@ -57,16 +57,16 @@ returns c =
     let s = slotOf judged in
     let a = startOf s .args in
     let owner = judged .before .owner-of in
-    let pre = startOf s .pre .1 .1 in
-    tested-not-below (shapeOf s) (a .disk .now) (a .level) (a .first) (a .entry .0) (pre .0) (pre .1)
-    (s .slot-of .result) (owner .result .0) (s .slot-of .ensures) (owner .ensures) (judged .is-below .result)
-    (judged .is-below .ensures) (not-true _ (c .if1 .taken))
+    let pre = startOf s .pre in
+    tested-not-below (shapeOf s) (a .disk .now) (a .level) (a .first) (a .entry .0) (pre .formed)
+    (pre .first-lt) (s .slot-of .result) (owner .result .0) (s .slot-of .ensures) (owner .ensures)
+    (judged .is-below .result) (judged .is-below .ensures) (not-true _ (c .if1 .taken))
 
 walk-requires : tie.Need-walk-requires
 walk-requires c κs = search needs
 
 ends-in-requires : tie.Need-ends-in-requires
-ends-in-requires c κs = let s = slotOf (belowOf c) in (startOf s .pre .0 .fits, slot-inside s)
+ends-in-requires c κs = let s = slotOf (belowOf c) in (startOf s .pre .drive .fits, slot-inside s)
 
 returns-2 : tie.Need-returns-2
 returns-2 c =
@@ -76,11 +76,12 @@ returns-2 c =
     let s = slotOf judged in
     let a = startOf s .args in
     let owner = judged .before .owner-of in
-    let pre = startOf s .pre .1 .1 in
-    tested-elsewhere (shapeOf s) (a .disk .now) (a .level) (a .first) (a .entry .0) (pre .0) (pre .1)
-    (s .slot-of .result) (owner .result .0) (s .slot-of .ensures) (owner .ensures) (judged .is-below .result)
-    (judged .is-below .ensures) (not-false _ (walked .before .if1 .left)) (walked .walk .result)
-    (walked .walk .ensures) (ended .ends-in .result) (ended .ends-in .ensures) (not-true _ (c .if2 .taken))
+    let pre = startOf s .pre in
+    tested-elsewhere (shapeOf s) (a .disk .now) (a .level) (a .first) (a .entry .0) (pre .formed)
+    (pre .first-lt) (s .slot-of .result) (owner .result .0) (s .slot-of .ensures) (owner .ensures)
+    (judged .is-below .result) (judged .is-below .ensures) (not-false _ (walked .before .if1 .left))
+    (walked .walk .result) (walked .walk .ensures) (ended .ends-in .result) (ended .ends-in .ensures)
+    (not-true _ (c .if2 .taken))
 
 returns-3 : tie.Need-returns-3
 returns-3 c =
@@ -90,11 +91,11 @@ returns-3 c =
     let s = slotOf judged in
     let a = startOf s .args in
     let owner = judged .before .owner-of in
-    let pre = startOf s .pre .1 .1 in
-    tested-owned (shapeOf s) (a .disk .now) (a .level) (a .first) (a .entry .0) (pre .0) (pre .1)
-    (s .slot-of .result) (owner .result .0) (s .slot-of .ensures) (owner .ensures) (judged .is-below .result)
-    (judged .is-below .ensures) (not-false _ (walked .before .if1 .left)) (walked .walk .result)
-    (walked .walk .ensures) (ended .ends-in .result) (ended .ends-in .ensures)
+    let pre = startOf s .pre in
+    tested-owned (shapeOf s) (a .disk .now) (a .level) (a .first) (a .entry .0) (pre .formed)
+    (pre .first-lt) (s .slot-of .result) (owner .result .0) (s .slot-of .ensures) (owner .ensures)
+    (judged .is-below .result) (judged .is-below .ensures) (not-false _ (walked .before .if1 .left))
+    (walked .walk .result) (walked .walk .ensures) (ended .ends-in .result) (ended .ends-in .ensures)
     (not-false _ (c .before .if2 .left))
 
 pub test-owner-spec : {M : Type 1} → statement M

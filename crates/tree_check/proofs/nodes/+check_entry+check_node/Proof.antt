@@ -9,15 +9,15 @@ use native.Mathlib.Omega.{arith}
 use borrow.Author.Needs.{needs}
 use borrow.Fn.Kinds.{In}
 use borrow.Fn.PlainCycle.{Measures, is, falls, and}
-use Rattle.model.specs.Geometry.{Geometry, fanout}
+use Rattle.model.specs.Geometry.{Geometry, fanout, blockWidth}
 use Rattle.model.specs.Blocks.{Bytes, blockAt}
 use Rattle.model.specs.TreeCheck.{MetEntry, metAt}
 use Rattle.model.proofs.Tree.Keys.{entriesIn-positive}
+use Rattle.model.proofs.Laws.Branches.{entriesIn-le, entriesIn-high}
+use Rattle.model.proofs.Laws.TreeHalves.{fault-one, fault-first-half, fault-rest, fault-node}
 use Rattle.layout.specs.Geometries.{geometryOf}
-use Rattle.tree_check.proofs.Laws.Spans.{entriesIn-le, entriesIn-high}
 use Rattle.tree_check.proofs.Laws.Nodes.{ReadAt, Judged, fault-unmapped, fault-own, fault-data}
 use Rattle.tree_check.proofs.Laws.Nodes.{is-read, fault-below, node-below, start-lt}
-use Rattle.tree_check.proofs.Laws.Halves.{fault-one, fault-first-half, fault-rest, fault-node}
 use Rattle.tree_check.proofs.nodes.check_entry.Reads as check-entry
 use Rattle.tree_check.proofs.nodes.check_entry.Kinds as check-entry-kinds
 use Rattle.tree_check.proofs.nodes.+check_entry+check_node.Lts-check_entry as check-entry-lts
@@ -128,7 +128,7 @@ abbrev shapeOf : (t : ℕ) → EntryStart t → Geometry
 shapeOf t s = geometryOf (s .args .g)
 
 abbrev blockOf : (t : ℕ) → EntryStart t → Bytes
-blockOf t s = blockAt (shapeOf t s .blockSize) (s .args .disk .now) (s .args .node .0)
+blockOf t s = blockAt (blockWidth (shapeOf t s)) (s .args .disk .now) (s .args .node .0)
 
 place-lt : (t : ℕ) (s : EntryStart t) → s .args .place < fanout (shapeOf t s)
 place-lt t s = omega (arith, s .pre .1 .1, entriesIn-le (shapeOf t s) (s .args .level))
@@ -169,7 +169,7 @@ check-entry-read-entry-requires : (t : ℕ) → check-entry-lts.Need-read-entry-
     (check-entry-at t) check-entry.Post
 check-entry-read-entry-requires t c κs =
     let s = c .before in
-    (s .pre .1 .0 .drive, (s .pre .1 .0 .node-lt, place-lt t s))
+    record { drive = s .pre .1 .0 .drive; node-lt = s .pre .1 .0 .node-lt; place-lt = place-lt t s }
 
 check-entry-returns : (t : ℕ) → check-entry-lts.Need-returns (entry-reads t) (check-entry-at t)
     check-entry.Post
@@ -183,7 +183,11 @@ check-entry-first-below-requires : (t : ℕ) → check-entry-lts.Need-first-belo
     (check-entry-at t) check-entry.Post
 check-entry-first-below-requires t c κs =
     let s = entryStart t (c .before .before) in
-    (s .pre .1 .0 .drive .fits, (s .pre .1 .0 .level-lt, place-lt t s))
+    record {
+      fits = s .pre .1 .0 .drive .fits;
+      level-lt = s .pre .1 .0 .level-lt;
+      place-lt = place-lt t s;
+    }
 
 check-entry-test-entry-requires : (t : ℕ) → check-entry-lts.Need-test-entry-requires (entry-reads t)
     (check-entry-at t) check-entry.Post
@@ -210,10 +214,12 @@ check-entry-node-read-requires : (t : ℕ) → check-entry-lts.Need-node-read-re
 check-entry-node-read-requires t c κs =
     let passed = nodesOf t c in
     let judged = judgedOf t (testsOf t passed) in
-    let of = judged .node-of in (
-      (omega (arith, c .if2 .left), omega (arith, of .level-lt, of .drive .fits .height-high)),
-      is-read judged _ (passed .nodes .given .1) (c .if2 .left),
-    )
+    let of = judged .node-of in
+    record {
+      level-low = omega (arith, c .if2 .left);
+      level-high = omega (arith, of .level-lt, of .drive .fits .height-high);
+      is-read = is-read judged _ (passed .nodes .given .1) (c .if2 .left);
+    }
 
 check-entry-sub-lower : (t : ℕ) → check-entry-lts.Need-sub-lower (entry-reads t) (check-entry-at t)
     check-entry.Post
@@ -243,14 +249,13 @@ check-entry-check-node-requires t c κs =
     let fits = judged .node-of .drive .fits in
     let count = c .entries-in .ensures in (
       omega (arith, s .pre .0, left, count, entriesIn-high (shapeOf t s) fits lower),
-      (
-        node-below judged _ (passed .nodes .given .1) left (read .node-read .result .0)
-            (read .node-read .ensures),
-        (
-          omega (arith, count, entriesIn-positive (shapeOf t s) fits lower),
-          omega (arith, count),
-        ),
-      ),
+      record {
+        node-of =
+            node-below judged _ (passed .nodes .given .1) left (read .node-read .result .0)
+            (read .node-read .ensures);
+        some-left = omega (arith, count, entriesIn-positive (shapeOf t s) fits lower);
+        within = omega (arith, count);
+      },
     )
 
 check-entry-returns-3 : (t : ℕ) → check-entry-lts.Need-returns-3 (entry-reads t) (check-entry-at t)
@@ -271,7 +276,7 @@ check-entry-returns-4 t c =
     fault-below (judgedOf t tests) _ (passed .nodes .given .1) (read .before .if2 .left) (below .result .0)
     (below .ensures) (c .check-node .result)
     (fault-node (shapeOf t s) (s .args .disk .now) (s .args .level - 1) (tests .before .first-below .result)
-    (blockAt (shapeOf t s .blockSize) (s .args .disk .now) (below .result .0))
+    (blockAt (blockWidth (shapeOf t s)) (s .args .disk .now) (below .result .0))
     (counted .entries-in .result) (counted .entries-in .ensures) (c .check-node .result)
     (c .check-node .ensures))
 
@@ -303,7 +308,7 @@ abbrev metThere : (t : ℕ) → NodeStart t → (place : ℕ) → List MetEntry
 metThere t s =
     let a = s .args in
     metAt (nodeShape t s) (a .disk .now) (a .level) (a .first .0)
-    (blockAt (nodeShape t s .blockSize) (a .disk .now) (a .node .0))
+    (blockAt (blockWidth (nodeShape t s)) (a .disk .now) (a .node .0))
 
 -- ---- a node: answers ----
 
@@ -311,8 +316,9 @@ check-node-check-entry-requires : (t : ℕ) → check-node-lts.Need-check-entry-
     (check-node-at t) check-node.Post
 check-node-check-entry-requires t c κs =
     let s = c .before .before in
-    let some = s .pre .1 .1 .0 in
-    (omega (arith, s .pre .0, some), (s .pre .1 .0, omega (arith, some, s .pre .1 .1 .1)))
+    let asked = s .pre .1 in
+    let some = asked .some-left in
+    (omega (arith, s .pre .0, some), (asked .node-of, omega (arith, some, asked .within)))
 
 check-node-returns : (t : ℕ) → check-node-lts.Need-returns (node-reads t) (check-node-at t) check-node.Post
 check-node-returns t c =
@@ -326,9 +332,14 @@ check-node-check-node-requires : (t : ℕ) → check-node-lts.Need-check-node-re
     (check-node-at t) check-node.Post
 check-node-check-node-requires t c κs =
     let s = nodeStart t c in
-    let some = s .pre .1 .1 .0 in (
+    let asked = s .pre .1 in
+    let some = asked .some-left in (
       omega (arith, s .pre .0, some, c .if1 .left),
-      (s .pre .1 .0, (omega (arith, some, c .if1 .left), omega (arith, s .pre .1 .1 .1))),
+      record {
+        node-of = asked .node-of;
+        some-left = omega (arith, some, c .if1 .left);
+        within = omega (arith, asked .within);
+      },
     )
 
 check-node-returns-2 : (t : ℕ) → check-node-lts.Need-returns-2 (node-reads t) (check-node-at t)
@@ -350,8 +361,8 @@ check-node-add-next t c =
     let s = halvedStart t (c .before) in
     omega (
       arith,
-      s .pre .1 .1 .1,
-      entriesIn-high (nodeShape t s) (s .pre .1 .0 .drive .fits) (s .args .level),
+      s .pre .1 .within,
+      entriesIn-high (nodeShape t s) (s .pre .1 .node-of .drive .fits) (s .args .level),
     )
 
 check-node-check-node-requires-2 : (t : ℕ) → check-node-lts.Need-check-node-requires-2 (node-reads t)
@@ -359,10 +370,15 @@ check-node-check-node-requires-2 : (t : ℕ) → check-node-lts.Need-check-node-
 check-node-check-node-requires-2 t c κs =
     let halved = c .before in
     let s = halvedStart t halved in
-    let some = s .pre .1 .1 .0 in
+    let asked = s .pre .1 in
+    let some = asked .some-left in
     let more = halved .before .if1 .left in (
       omega (arith, s .pre .0, some, more),
-      (s .pre .1 .0, (omega (arith, some, more), omega (arith, s .pre .1 .1 .1))),
+      record {
+        node-of = asked .node-of;
+        some-left = omega (arith, some, more);
+        within = omega (arith, asked .within);
+      },
     )
 
 check-node-returns-3 : (t : ℕ) → check-node-lts.Need-returns-3 (node-reads t) (check-node-at t)

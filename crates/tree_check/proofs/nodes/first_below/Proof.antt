@@ -15,8 +15,8 @@ startOf s = s .before .before
 product-le : (s : tie.After-span-of) → startOf s .args .place * s .span-of .result ≤ 1098437885952
 product-le s =
     let start = startOf s in
-    spans-le (geometryOf (start .args .g)) (start .pre .0) (start .args .level) (start .pre .1 .0)
-    (start .args .place) (s .span-of .result) (start .pre .1 .1) (s .span-of .ensures)
+    spans-le (geometryOf (start .args .g)) (start .pre .fits) (start .args .level) (start .pre .level-lt)
+    (start .args .place) (s .span-of .result) (start .pre .place-lt) (s .span-of .ensures)
 
 cast-result : tie.Need-cast-result
 cast-result c = search needs

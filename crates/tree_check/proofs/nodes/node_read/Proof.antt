@@ -23,7 +23,7 @@ returns c =
 returns-2 : tie.Need-returns-2
 returns-2 c =
     let found = c .before .before in
-    absurd (found .before .pre .1 (sym (found .node-at .ensures) ∙ ap nodeOf (c .enum-told .given .1)))
+    absurd (found .before .pre .is-read (sym (found .node-at .ensures) ∙ ap nodeOf (c .enum-told .given .1)))
 
 pub node-read-spec : {M : Type 1} → statement M
 node-read-spec =

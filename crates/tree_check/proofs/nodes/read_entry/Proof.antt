@@ -3,7 +3,7 @@ use mathlib.Core.Path.{ap, _∙_}
 use native.Mathlib.Omega.{arith}
 use borrow.Author.Needs.{needs}
 use lib.ListN.{length}
-use Rattle.model.specs.Geometry.{blockCount}
+use Rattle.model.specs.Geometry.{blockCount, blockWidth}
 use Rattle.model.specs.Blocks.{entryAt}
 use Rattle.model.proofs.Laws.Blocks.{length-blockAt}
 use Rattle.layout.specs.Geometries.{geometryOf}
@@ -19,11 +19,11 @@ entry-at-requires c κs =
     let g = geometryOf (s .args .g) in
     omega (
       arith,
-      s .pre .0 .fits .size-entries,
-      s .pre .1 .1,
+      s .pre .drive .fits .size-entries,
+      s .pre .place-lt,
       ap length (c .block-at .ensures)
-          ∙ length-blockAt (g .blockSize) (s .args .disk .now) (blockCount g) (s .pre .0 .whole)
-          (s .args .node .0) (s .pre .1 .0),
+          ∙ length-blockAt (blockWidth g) (s .args .disk .now) (blockCount g) (s .pre .drive .whole)
+          (s .args .node .0) (s .pre .node-lt),
     )
 
 returns : tie.Need-returns

@@ -2,8 +2,8 @@
 -- other just if it is not as far from the first as the entry spans. Assumes nothing.
 use native.Mathlib.Omega.{arith}
 use borrow.Author.Needs.{needs}
+use Rattle.model.proofs.Laws.Branches.{isBelow-before, isBelow-from}
 use Rattle.layout.specs.Geometries.{geometryOf}
-use Rattle.tree_check.proofs.Laws.Spans.{isBelow-before, isBelow-from}
 use Rattle.tree_check.proofs.spans.is_below.Statement.{statement}
 use Rattle.tree_check.proofs.spans.is_below.Tie as tie
 

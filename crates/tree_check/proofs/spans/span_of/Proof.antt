@@ -4,9 +4,9 @@ use native.Mathlib.Omega.{arith}
 use Prim.Native.Nat.{_*_}
 use borrow.Author.Needs.{needs}
 use Rattle.model.specs.Geometry.{Geometry, fanout}
+use Rattle.model.proofs.Laws.Branches.{span-data, span-first, span-second, span-third}
 use Rattle.layout.specs.Geometries.{geometryOf, Bounded}
 use Rattle.layout.proofs.Laws.Geometry.{bounded-of-fits, fanout-square-le, leaf-times-le}
-use Rattle.tree_check.proofs.Laws.Spans.{span-data, span-first, span-second, span-third}
 use Rattle.tree_check.proofs.spans.span_of.Statement.{statement}
 use Rattle.tree_check.proofs.spans.span_of.Tie as tie
 
@@ -15,6 +15,9 @@ shapeOf s = geometryOf (s .args .g)
 
 bounded : (s : tie.Start) → Bounded (shapeOf s)
 bounded s = bounded-of-fits (shapeOf s) (s .pre .0)
+
+fanout-requires : tie.Need-fanout-requires
+fanout-requires c κs = search needs
 
 cast-fanout : tie.Need-cast-fanout
 cast-fanout c = search needs
@@ -26,7 +29,9 @@ sub-result : tie.Need-sub-result
 sub-result c = search needs
 
 returns-2 : tie.Need-returns-2
-returns-2 c = let s = c .before .before .before in span-first (shapeOf s) (s .args .level) (c .if2 .taken)
+returns-2 c =
+    let s = c .before .before .before in
+    rw (c .before .before .fanout .ensures) (span-first (shapeOf s) (s .args .level) (c .if2 .taken))
 
 sub-result-2 : tie.Need-sub-result-2
 sub-result-2 c = search needs
@@ -35,11 +40,13 @@ mul-result : tie.Need-mul-result
 mul-result c =
     let s = c .before .before .before .before in
     let b = bounded s in
-    omega (arith, leaf-times-le (shapeOf s) b (fanout (shapeOf s)) 1024 (omega (arith, b .size-high)))
+    rw (c .before .before .before .fanout .ensures)
+    (omega (arith, leaf-times-le (shapeOf s) b (fanout (shapeOf s)) 1024 (omega (arith, b .size-high))))
 
 returns-3 : tie.Need-returns-3
 returns-3 c =
-    let s = c .before .before .before .before in span-second (shapeOf s) (s .args .level) (c .if3 .taken)
+    let s = c .before .before .before .before in
+    rw (c .before .before .before .fanout .ensures) (span-second (shapeOf s) (s .args .level) (c .if3 .taken))
 
 sub-result-3 : tie.Need-sub-result-3
 sub-result-3 c = search needs
@@ -47,18 +54,22 @@ sub-result-3 c = search needs
 mul-result-2 : tie.Need-mul-result-2
 mul-result-2 c =
     let s = c .before .before .before .before in
-    omega (arith, fanout-square-le (shapeOf s) (bounded s))
+    rw (c .before .before .before .fanout .ensures) (omega (arith, fanout-square-le (shapeOf s) (bounded s)))
 
 mul-result-3 : tie.Need-mul-result-3
 mul-result-3 c =
     let s = c .before .before .before .before in
     let g = shapeOf s in
-    omega (arith, leaf-times-le g (bounded s) (fanout g * fanout g) 1048576 (fanout-square-le g (bounded s)))
+    rw (c .before .before .before .fanout .ensures) (omega (
+      arith,
+      leaf-times-le g (bounded s) (fanout g * fanout g) 1048576 (fanout-square-le g (bounded s)),
+    ))
 
 returns-4 : tie.Need-returns-4
 returns-4 c =
     let s = c .before .before .before .before in
-    span-third (shapeOf s) (s .args .level)
+    rw (c .before .before .before .fanout .ensures)
+    (span-third (shapeOf s) (s .args .level)
     (omega (
       arith,
       s .pre .1,
@@ -66,12 +77,13 @@ returns-4 c =
       c .before .before .if1 .left,
       c .before .if2 .left,
       c .if3 .left,
-    ))
+    )))
 
 pub span-of-spec : {M : Type 1} → statement M
 span-of-spec =
     tie.close
     (tie.spec
+    fanout-requires
     cast-fanout
     returns
     sub-result

@@ -1,95 +1,112 @@
 -- `tree_check::trees::check_tree` meets its contract: the drive's refusals, then all of the root's entries.
 -- Assumes nothing.
-use mathlib.Core.Path.{_≡_, sym, _∙_}
 use Prim.Native.Nat.{_-_}
 use native.Mathlib.Omega.{arith}
 use borrow.Author.Needs.{needs}
-use Rattle.model.specs.Geometry.{Geometry}
-use Rattle.model.specs.Blocks.{blockAt}
-use Rattle.model.specs.Layout.{Drive}
+use Rattle.model.specs.Geometry.{Geometry, blockWidth}
+use Rattle.model.specs.Blocks.{Bytes, blockAt}
 use Rattle.model.specs.Refusals.{driveRefusal}
 use Rattle.model.proofs.Tree.Keys.{entriesIn-positive}
+use Rattle.model.proofs.Laws.TreeHalves.{fault-node}
+use Rattle.layout.specs.Drives.{OpenedWith}
 use Rattle.layout.specs.Geometries.{geometryOf}
-use Rattle.layout.proofs.Laws.Drives.{long-enough, drive-read}
-use Rattle.tree_check.proofs.Laws.Halves.{fault-node}
+use Rattle.layout.proofs.Laws.Opened.{opened-refused, opened-good}
 use Rattle.tree_check.proofs.Laws.Trees.{tree-refused, root-node, tree-answered}
 use Rattle.tree_check.proofs.trees.check_tree.Statement.{statement}
 use Rattle.tree_check.proofs.trees.check_tree.Tie as tie
 
 -- ---- places ----
 
-abbrev startOf : tie.Else1 → tie.Start
-startOf s = s .before .before .before
+abbrev startOf : tie.After-open-drive → tie.Start
+startOf s = s .before .before
 
--- the geometry is read
-abbrev at-geometry : tie.After-root-address → tie.After-geometry-in
-at-geometry s = s .before .before .before
+-- the drive is opened
+abbrev openingOf : tie.After-g → tie.After-open-drive
+openingOf s = s .before .before
 
-abbrev shapeOf : tie.After-geometry-in → Geometry
-shapeOf s = geometryOf (s .geometry-in .result)
+abbrev openedOf : tie.After-struct-known → tie.After-g
+openedOf s = s .before .before
 
-accepted : (s : tie.Else1) → driveRefusal (startOf s .args .disk .now) ≡ 0
-accepted s = sym (s .before .drive-fault .ensures) ∙ s .if1 .left
+abbrev diskOf : tie.After-g → Bytes
+diskOf s = startOf (openingOf s) .args .disk .now
 
-drive : (s : tie.After-geometry-in) → Drive (shapeOf s) (startOf (s .before) .args .disk .now)
-drive s =
-    drive-read (startOf (s .before) .args .disk .now) (accepted (s .before)) (shapeOf s)
-    (s .geometry-in .ensures)
+abbrev shapeOf : tie.After-g → Geometry
+shapeOf s = geometryOf (s .g .given .0 .0)
+
+-- the root is found
+abbrev openedOfRoot : tie.After-root-address → tie.After-g
+openedOfRoot s = openedOf (s .before .before)
+
+opened : (s : tie.After-g) → OpenedWith (driveRefusal (diskOf s)) (diskOf s) (shapeOf s)
+opened s =
+    let opening = openingOf s .open-drive in
+    opened-good (driveRefusal (diskOf s)) (diskOf s) (opening .result) (opening .ensures) (s .g .given .1)
 
 -- ---- answers ----
 
-drive-fault-requires : tie.Need-drive-fault-requires
-drive-fault-requires c κs = search needs
+open-drive-requires : tie.Need-open-drive-requires
+open-drive-requires c κs = search needs
 
-returns : tie.Need-returns
-returns c =
-    let fault = c .before .drive-fault in
-    tree-refused (c .before .before .before .args .disk .now) (fault .result) (fault .ensures) (c .if1 .taken)
+enum-known-fault : tie.Need-enum-known-fault
+enum-known-fault c = search needs
 
-geometry-in-requires : tie.Need-geometry-in-requires
-geometry-in-requires c κs = long-enough (startOf c .args .disk .now) (accepted c)
+enum-known-g : tie.Need-enum-known-g
+enum-known-g c = search needs
 
 sub-top : tie.Need-sub-top
-sub-top c = omega (arith, drive (c .before) .fits .height-low)
+sub-top c = omega (arith, opened (openedOf c) .drive .fits .height-low)
 
 entries-in-requires : tie.Need-entries-in-requires
-entries-in-requires c κs = drive (c .before) .fits
+entries-in-requires c κs = opened (openedOf c) .drive .fits
 
 root-address-requires : tie.Need-root-address-requires
-root-address-requires c κs = drive (c .before .before) .fits
+root-address-requires c κs = opened (openedOf (c .before)) .drive .fits
 
 check-node-requires : tie.Need-check-node-requires
 check-node-requires c κs =
-    let s = at-geometry c in
+    let s = openedOfRoot c in
     let g = shapeOf s in
-    let count = c .before .entries-in .ensures in (
-      root-node (startOf (s .before) .args .disk .now) (accepted (s .before)) g (s .geometry-in .ensures)
-          (drive s) (c .root-address .result .0) (c .root-address .ensures),
-      (omega (arith, count, entriesIn-positive g (drive s .fits) (g .height - 1)), omega (arith, count)),
-    )
+    let o = opened s in
+    let count = c .before .entries-in .ensures in
+    record {
+      node-of =
+          root-node (diskOf s) (o .accepted) g (o .same) (o .drive) (c .root-address .result .0)
+          (c .root-address .ensures);
+      some-left = omega (arith, count, entriesIn-positive g (o .drive .fits) (g .height - 1));
+      within = omega (arith, count);
+    }
+
+returns : tie.Need-returns
+returns c =
+    let opening = c .before .before .before in
+    let disk = startOf opening .args .disk .now in
+    let told = opened-refused (driveRefusal disk) disk (opening .open-drive .result)
+    (opening .open-drive .ensures) (c .before .fault .given .1) in
+    tree-refused disk _ (told .fault-is) (told .fault-some)
 
 returns-2 : tie.Need-returns-2
 returns-2 c =
     let placed = c .before in
-    let s = at-geometry placed in
+    let s = openedOfRoot placed in
     let g = shapeOf s in
-    let disk = startOf (s .before) .args .disk .now in
+    let o = opened s in
     let root = placed .root-address in
     let count = placed .before .entries-in in
-    tree-answered disk (accepted (s .before)) g (s .geometry-in .ensures) (drive s) (root .result .0)
-    (root .ensures) (c .check-node .result)
-    (fault-node g disk (g .height - 1) 0 (blockAt (g .blockSize) disk (root .result .0)) (count .result)
-    (count .ensures) (c .check-node .result) (c .check-node .ensures))
+    tree-answered (diskOf s) (o .accepted) g (o .same) (o .drive) (root .result .0) (root .ensures)
+    (c .check-node .result)
+    (fault-node g (diskOf s) (g .height - 1) 0 (blockAt (blockWidth g) (diskOf s) (root .result .0))
+    (count .result) (count .ensures) (c .check-node .result) (c .check-node .ensures))
 
 pub check-tree-spec : {M : Type 1} → statement M
 check-tree-spec =
     tie.close
     (tie.spec
-    drive-fault-requires
-    returns
-    geometry-in-requires
+    open-drive-requires
+    enum-known-fault
+    enum-known-g
     sub-top
     entries-in-requires
     root-address-requires
     check-node-requires
+    returns
     returns-2)

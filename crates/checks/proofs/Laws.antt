@@ -1,5 +1,0 @@
--- The laws that the proofs of the functions cite, a file for each idea.
-pub mod Places
-pub mod Numbers
-pub mod RoundCounts
-pub mod RoundRefusals

@@ -62,10 +62,10 @@ stateAfter state plan.Fill = state
 -- the public choice is the table's, and the plan is the hidden half, whatever is offered or random
 pub record Planned (g : Geometry) (disk : Bytes) (slot : ℕ) (state : State) (number : ℕ) (plans : Plans) :
     Type 0 where
-  pub chosen : (content : Bytes) → publicOf (plans .public) ≡
-      rowOf g disk slot (stateOf state number content .waiting) .public
+  pub chosen : (offered : Bytes) → publicOf (plans .choice) ≡
+      rowOf g disk slot (stateOf state number offered .waiting) .public
   pub half-is :
-      (content random : Bytes) →
-      hiddenHalf g disk slot random (stateOf state number content) ≡
-      half (hiddenTrace (plans .hidden) g disk slot content random) (stateOf (plans .after) number content)
-  pub placed : PathPlaced g (plans .hidden)
+      (offered random : Bytes) →
+      hiddenHalf g disk slot random (stateOf state number offered) ≡
+      half (hiddenTrace (plans .plan) g disk slot offered random) (stateOf (plans .after) number offered)
+  pub placed : PathPlaced g (plans .plan)

@@ -1,15 +1,17 @@
--- What a plan stores as the public half of a round, after the slot's public block. Assumes nothing.
+-- What a plan stores as the public half of a round, after the slot's public block, and what it is made from.
+-- Assumes nothing.
 use mathlib.Core.Path.{_≡_}
 use mathlib.Core.Bool.{true, false}
 use mathlib.Core.List.{[], _∷_}
 use Prim.Native.Nat.{ℕ, _<_}
 use Rattle.laws.specs.Bits.{setBit}
-use Rattle.model.specs.Geometry.{Geometry}
+use Rattle.model.specs.Geometry.{Geometry, Fits}
 use Rattle.model.specs.Blocks.{Bytes, DiskAddress}
-use Rattle.model.specs.Layout.{Drive, bitAddress, bitPlace, isShared, bitmapWith}
+use Rattle.model.specs.Layout.{Drive, bitAddress, bitPlace, isShared, bitmapWith, mapEntry}
 use Rattle.model.specs.Stores.{Trace, store}
 use Rattle.model.specs.Table as model
 use Rattle.model.specs.Rounds.{mapStore, bitStore, bitStores, mapStores}
+use Rattle.layout.specs.PublicMap.{OldEntry}
 use Rattle.table.specs.declared.PublicChoice.{PublicChoice}
 use Rattle.table.specs.Rows.{publicOf}
 use Rattle.plans.specs.declared.public_plans.Bits.{Bits}
@@ -37,6 +39,12 @@ BitsPlaced g slot New = Unit {0}
 BitsPlaced g slot (Shared old) = old < g .slots
 BitsPlaced g slot (Apart old) = (old < g .slots) × (isShared g slot old ≡ false)
 
+-- a slot, and the entry of a number with a place or none
+pub record BitsReady (g : Geometry) (slot : ℕ) (entry : DiskAddress) : Type 0 where
+  pub fits : Fits g
+  pub slot-inside : slot < g .slots
+  pub old-entry : OldEntry g entry
+
 -- they are the bitmap's stores for a number with this entry, whatever the disk
 pub record BitsPlanned (g : Geometry) (slot : ℕ) (entry : DiskAddress) (bits : Bits) : Type 0 where
   pub stores-are : (disk : Bytes) → Drive g disk → bitStores g disk entry slot ≡ bitTrace bits g disk slot
@@ -53,6 +61,13 @@ mapTrace (Write number bits) g disk slot = mapStore g disk (number .0) slot ∷ 
 abbrev pub PublicPlaced : Geometry → (slot : ℕ) → PublicPlan → Type 0
 PublicPlaced g slot Keep = Unit {0}
 PublicPlaced g slot (Write number bits) = (number .0 < g .publics) × BitsPlaced g slot bits
+
+-- a whole drive, a public number with a place or none, and a slot
+pub record PublicReady (g : Geometry) (disk : Bytes) (number slot : ℕ) : Type 0 where
+  pub drive : Drive g disk
+  pub number-inside : number < g .publics
+  pub slot-inside : slot < g .slots
+  pub old-entry : OldEntry g (mapEntry g disk number)
 
 -- the choice is the table's, and the plan stores what a round with this choice does
 pub record PublicPlanned (g : Geometry) (disk : Bytes) (number slot : ℕ) (choice : PublicChoice)

@@ -1,6 +1,5 @@
 -- The state of a call's hidden writes that a declared one says, for the number and the data that are offered.
--- Assumes
--- nothing.
+-- Assumes nothing.
 use mathlib.Core.Bool.{Bool, true, false}
 use mathlib.Core.List.{List, [], _∷_}
 use Prim.Native.Nat.{ℕ}
@@ -16,10 +15,10 @@ isWaitingOffer Waiting = true
 isWaitingOffer Placed = false
 
 -- the hidden writes that still wait
-abbrev pub waitingOf : Offer → (number : ℕ) → (content : Bytes) → List HiddenWrite
-waitingOf Absent number content = []
-waitingOf Waiting number content = record { number = number; content = content } ∷ []
-waitingOf Placed number content = []
+abbrev pub waitingOf : Offer → (number : ℕ) → (offered : Bytes) → List HiddenWrite
+waitingOf Absent number offered = []
+waitingOf Waiting number offered = record { number = number; content = offered } ∷ []
+waitingOf Placed number offered = []
 
 -- how many are placed
 abbrev pub placedOf : Offer → ℕ
@@ -27,10 +26,10 @@ placedOf Absent = 0
 placedOf Waiting = 0
 placedOf Placed = 1
 
-abbrev pub stateOf : State → (number : ℕ) → (content : Bytes) → HiddenState
-stateOf state number content =
+abbrev pub stateOf : State → (number : ℕ) → (offered : Bytes) → HiddenState
+stateOf state number offered =
     record {
-      waiting = waitingOf (state .offer) number content;
+      waiting = waitingOf (state .offer) number offered;
       placed = placedOf (state .offer);
       metDamage = state .«met_damage»;
     }

@@ -29,8 +29,8 @@ ghost use Rattle.plans.specs.Plans.{keptPlan, placedPlan, stateAfter, Ha
 
 // The choice for the public block, the plan of the hidden half, and the state of the offer after the round.
 pub struct Plans {
-    pub public: PublicChoice,
-    pub hidden: HiddenPlan,
+    pub choice: PublicChoice,
+    pub plan: HiddenPlan,
     pub after: State,
 }
 
@@ -140,12 +140,12 @@ pub fn plan_round(disk: &[u8], g: Geometry, slot: u32, state: State, number: Hid
         is_allocated(disk, g, slot),
         is_live(g, slot, owner),
     );
-    let public = row.public;
-    let choice = row.hidden;
-    let hidden = plan_half(disk, g, choice, owner, number);
+    let choice = row.public;
+    let hidden_choice = row.hidden;
+    let plan = plan_half(disk, g, hidden_choice, owner, number);
     Plans {
-        public,
-        hidden,
-        after: state_after(state, hidden),
+        choice,
+        plan,
+        after: state_after(state, plan),
     }
 }

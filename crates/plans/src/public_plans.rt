@@ -6,12 +6,8 @@ use layout::numbers::DiskAddress;
 use layout::numbers::PublicNumber;
 use layout::public_map::map_entry;
 use table::PublicChoice;
-ghost use Prim.Native.Nat.{_<_};
-ghost use Rattle.model.specs.Geometry.{Fits};
-ghost use Rattle.model.specs.Layout.{Drive, mapEntry};
 ghost use Rattle.layout.specs.Geometries.{geometryOf};
-ghost use Rattle.layout.specs.PublicMap.{OldEntry};
-ghost use Rattle.plans.specs.PublicPlans.{BitsPlanned, PublicPlanned};
+ghost use Rattle.plans.specs.PublicPlans.{BitsReady, BitsPlanned, PublicReady, PublicPlanned};
 
 // The bits that change when a public number goes to a slot: the slot's alone, for a number that had no place;
 // else also that of the slot that it leaves, in the same bitmap block or in another.
@@ -29,9 +25,7 @@ pub enum PublicPlan {
 
 // The bits that change when a number with this entry goes to a slot.
 fn plan_bits(g: Geometry, slot: u32, entry: DiskAddress) -> Bits
-    requires { ⌜ Fits (geometryOf g) ⌝ }
-    requires { ⌜ slot < g .slots ⌝ }
-    requires { ⌜ OldEntry (geometryOf g) (entry .0) ⌝ }
+    requires { ⌜ BitsReady (geometryOf g) slot (entry .0) ⌝ }
     ensures { λ r. ⌜ BitsPlanned (geometryOf g) slot (entry .0) r ⌝ }
 {
     if entry.0 == 0 {
@@ -52,10 +46,7 @@ pub fn plan_public(
     slot: u32,
     choice: PublicChoice,
 ) -> PublicPlan
-    requires { ⌜ Drive (geometryOf g) (now disk) ⌝ }
-    requires { ⌜ number .0 < g .publics ⌝ }
-    requires { ⌜ slot < g .slots ⌝ }
-    requires { ⌜ OldEntry (geometryOf g) (mapEntry (geometryOf g) (now disk) (number .0)) ⌝ }
+    requires { ⌜ PublicReady (geometryOf g) (now disk) (number .0) slot ⌝ }
     ensures { λ r. ⌜ PublicPlanned (geometryOf g) (now (disk .entry)) (number .0) slot choice r ⌝ }
 {
     match choice {

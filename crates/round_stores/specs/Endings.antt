@@ -1,7 +1,8 @@
--- What a round stores after its slot and the root, as its public half is planned. Assumes nothing.
+-- What a round stores after its slot and the root, as its public half is planned, and what single stores ask.
+-- Assumes nothing.
 use mathlib.Core.List.{[], _∷_, _++_}
-use Prim.Native.Nat.{ℕ, _+_}
-use Rattle.model.specs.Geometry.{Geometry}
+use Prim.Native.Nat.{ℕ, _+_, _<_}
+use Rattle.model.specs.Geometry.{Geometry, Fits}
 use Rattle.model.specs.Blocks.{Bytes}
 use Rattle.model.specs.Stores.{Trace}
 use Rattle.model.specs.Rounds.{headerStore}
@@ -10,6 +11,16 @@ use Rattle.plans.specs.declared.public_plans.Bits.the-variants.{New, Shared, Ap
 use Rattle.plans.specs.declared.public_plans.PublicPlan.{PublicPlan}
 use Rattle.plans.specs.declared.public_plans.PublicPlan.the-variants.{Keep, Write}
 use Rattle.plans.specs.PublicPlans.{mapTrace}
+
+-- ---- what is asked ----
+
+-- a public number and a slot
+pub record MapReady (g : Geometry) (number slot : ℕ) : Type 0 where
+  pub fits : Fits g
+  pub number-inside : number < g .publics
+  pub slot-inside : slot < g .slots
+
+-- ---- what is stored ----
 
 -- map and bits, then the header
 abbrev pub endingTrace : PublicPlan → Geometry → (disk : Bytes) → (slot : ℕ) → Trace

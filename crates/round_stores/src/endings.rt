@@ -3,6 +3,7 @@
 use layout::bitmap::bit_address;
 use layout::bitmap::bit_place;
 use layout::geometry::Geometry;
+use layout::geometry::fanout;
 use layout::geometry::slot_start;
 use layout::numbers::DiskAddress;
 use layout::numbers::PublicNumber;
@@ -14,28 +15,28 @@ use stores::descriptors::own;
 ghost use mathlib.Core.Path.{_≡_};
 ghost use mathlib.Core.Bool.{true, false};
 ghost use mathlib.Core.List.{[], _∷_, _++_};
-ghost use Prim.Native.Nat.{ℕ, _<_, _≤_};
+ghost use Prim.Native.Nat.{ℕ, _+_, _<_};
 ghost use Rattle.laws.specs.Bits.{setBit};
 ghost use Rattle.model.specs.Geometry.{Fits};
 ghost use Rattle.model.specs.Layout.{bitAddress, bitPlace, bitmapWith};
 ghost use Rattle.model.specs.Stores.{store};
 ghost use Rattle.model.specs.Rounds.{mapStore, bitStore, headerStore};
 ghost use Rattle.layout.specs.Geometries.{geometryOf};
+ghost use Rattle.layout.specs.Slots.{TwoSlots};
 ghost use Rattle.stores.specs.Described.{storeAt, Describes};
 ghost use Rattle.plans.specs.PublicPlans.{bitTrace, BitsPlaced, PublicPlaced};
-ghost use Rattle.round_stores.specs.Endings.{bitCount, endingTrace, endingCount};
+ghost use Rattle.slot_stores.specs.Slots.{SlotPlace};
+ghost use Rattle.round_stores.specs.Endings.{MapReady, bitCount, endingTrace, endingCount};
 
 // ---- one store each ----
 
 // The map block with a number's entry at a slot's public block.
 fn map_store(g: Geometry, number: PublicNumber, slot: u32) -> Descriptor
-    requires { ⌜ Fits (geometryOf g) ⌝ }
-    requires { ⌜ number .0 < g .publics ⌝ }
-    requires { ⌜ slot < g .slots ⌝ }
+    requires { ⌜ MapReady (geometryOf g) (number .0) slot ⌝ }
     ensures { λ r. ⌜ ((place : ℕ) → Describes (geometryOf g) place (λ disk content offered random.
         mapStore (geometryOf g) disk (number .0) slot) r) ⌝ }
 {
-    let fanout = g.block_size / 4;
+    let fanout = fanout(g);
     let address = DiskAddress(1 + number.0 / fanout);
     let index = (number.0 % fanout) as usize;
     let start = slot_start(g, slot);
@@ -56,8 +57,7 @@ fn bit_store(g: Geometry, slot: u32, is_set: bool) -> Descriptor
 
 // The one bitmap block of two slots with the new slot's bit set and the old slot's cleared.
 fn both_bits_store(g: Geometry, slot: u32, old: u32) -> Descriptor
-    requires { ⌜ Fits (geometryOf g) ⌝ }
-    requires { ⌜ (slot < g .slots) × (old < g .slots) ⌝ }
+    requires { ⌜ TwoSlots (geometryOf g) slot old ⌝ }
     ensures { λ r. ⌜ ((place : ℕ) → Describes (geometryOf g) place (λ disk content offered random.
         store (bitAddress (geometryOf g) slot) (setBit (bitPlace (geometryOf g) old) false
         (bitmapWith (geometryOf g) disk slot true))) r) ⌝ }
@@ -88,10 +88,8 @@ fn header_store(g: Geometry, slot: u32) -> Descriptor
 
 // The bitmap's stores and then the header, by index.
 fn bits_ending_store(g: Geometry, slot: u32, bits: Bits, index: u32) -> Descriptor
-    requires { ⌜ Fits (geometryOf g) ⌝ }
-    requires { ⌜ slot < g .slots ⌝ }
+    requires { ⌜ SlotPlace (geometryOf g) slot 0 (bitCount bits + 1) index ⌝ }
     requires { ⌜ BitsPlaced (geometryOf g) slot bits ⌝ }
-    requires { ⌜ index ≤ bitCount bits ⌝ }
     ensures { λ r. ⌜ ((place : ℕ) → Describes (geometryOf g) place (λ disk content offered random.
         storeAt index (bitTrace bits (geometryOf g) disk slot ++
         (headerStore (geometryOf g) disk slot ∷ []))) r) ⌝ }
@@ -115,10 +113,8 @@ fn bits_ending_store(g: Geometry, slot: u32, bits: Bits, index: u32) -> Descript
 
 // What a round stores after its slot and the root, by index.
 pub fn ending_store(g: Geometry, slot: u32, public: PublicPlan, index: u32) -> Descriptor
-    requires { ⌜ Fits (geometryOf g) ⌝ }
-    requires { ⌜ slot < g .slots ⌝ }
+    requires { ⌜ SlotPlace (geometryOf g) slot 0 (endingCount public) index ⌝ }
     requires { ⌜ PublicPlaced (geometryOf g) slot public ⌝ }
-    requires { ⌜ index < endingCount public ⌝ }
     ensures { λ r. ⌜ ((place : ℕ) → Describes (geometryOf g) place (λ disk content offered random.
         storeAt index (endingTrace public (geometryOf g) disk slot)) r) ⌝ }
 {

@@ -7,24 +7,21 @@ use plans::public_plans::PublicPlan;
 use slot_stores::slots::slot_store;
 use stores::descriptors::Descriptor;
 ghost use mathlib.Core.Path.{_≡_};
-ghost use Prim.Native.Nat.{_<_};
 ghost use Rattle.model.specs.Geometry.{Fits};
 ghost use Rattle.layout.specs.Geometries.{geometryOf};
 ghost use Rattle.stores.specs.Described.{storeAt, Describes};
-ghost use Rattle.round_stores.specs.Planned.{plannedTrace, plannedCount, RoundPlaced};
+ghost use Rattle.round_stores.specs.Planned.{plannedTrace, plannedCount, StoreReady};
 
 // A round as it is planned: its slot, and what both halves are to store.
-pub struct Round {
+pub struct PlannedRound {
     pub slot: u32,
     pub public: PublicPlan,
     pub hidden: HiddenPlan,
 }
 
 // The store at a place of a round.
-pub fn round_store(g: Geometry, round: Round, place: u32) -> Descriptor
-    requires { ⌜ Fits (geometryOf g) ⌝ }
-    requires { ⌜ RoundPlaced (geometryOf g) round ⌝ }
-    requires { ⌜ place < plannedCount (geometryOf g) round ⌝ }
+pub fn round_store(g: Geometry, round: PlannedRound, place: u32) -> Descriptor
+    requires { ⌜ StoreReady (geometryOf g) round place ⌝ }
     ensures { λ r. ⌜ Describes (geometryOf g) place (λ disk content offered random.
         storeAt place (plannedTrace round (geometryOf g) disk content offered random)) r ⌝ }
 {
@@ -39,7 +36,7 @@ pub fn round_store(g: Geometry, round: Round, place: u32) -> Descriptor
 }
 
 // How many stores a round has.
-pub fn store_count(g: Geometry, round: Round) -> u32
+pub fn store_count(g: Geometry, round: PlannedRound) -> u32
     requires { ⌜ Fits (geometryOf g) ⌝ }
     ensures { λ r. ⌜ r ≡ plannedCount (geometryOf g) round ⌝ }
 {

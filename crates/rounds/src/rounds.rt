@@ -5,23 +5,23 @@ use layout::numbers::PublicNumber;
 use plans::plans::plan_round;
 use plans::public_plans::plan_public;
 use plans::states::State;
-use round_stores::planned::Round;
+use round_stores::planned::PlannedRound;
 use round_stores::planned::round_store;
 use round_stores::planned::store_count;
 use stores::blocks::make_store;
 use table::PublicChoice;
 ghost use mathlib.Core.Path.{_≡_};
-ghost use Prim.Native.Nat.{_+_, _≤_};
 ghost use lib.ListN.{length};
+ghost use Rattle.model.specs.Geometry.{blockWidth};
 ghost use Rattle.model.specs.Rounds.{goesOn};
 ghost use Rattle.layout.specs.Geometries.{geometryOf};
-ghost use Rattle.stores.specs.Made.{Made};
+ghost use Rattle.stores.specs.Made.{LentFor, Made};
 ghost use Rattle.table.specs.Rows.{publicOf};
 ghost use Rattle.plans.specs.States.{stateOf};
 ghost use Rattle.round_stores.specs.Planned.{plannedTrace, Storable};
-ghost use Rattle.rounds.specs.Rounds.{roundAt, Ready, Stepped};
+ghost use Rattle.rounds.specs.Rounds.{roundAt, RoundReady, RoundDone};
 
-// The place after a round's stores, the state of the offer, and whether another round follows.
+// The index after a round's stores in the list, the state of the offer, and whether another round follows.
 pub struct Step {
     pub next: usize,
     pub state: State,
@@ -38,48 +38,47 @@ fn is_kept(choice: PublicChoice) -> bool
     }
 }
 
-// Makes the stores of a planned round, one after another. The block is a buffer.
+// Makes the stores of a planned round, one after another; answers the index after them in the list.
 fn store_round(
     disk: &mut [u8],
     list: &mut [u32],
-    next: usize,
+    first: usize,
     g: Geometry,
-    round: Round,
+    round: PlannedRound,
     content: &[u8],
     offered: &[u8],
     random: &[u8],
-    block: &mut [u8],
+    buffer: &mut [u8],
 ) -> usize
-    requires { ⌜ Storable (geometryOf g) (now disk) round (now content) (now offered) (now random) ⌝ }
-    requires { ⌜ length (now block) ≡ geometryOf g .blockSize ⌝ }
-    requires { ⌜ next + length (plannedTrace round (geometryOf g) (now disk) (now content) (now offered)
-        (now random)) ≤ length (now list) ⌝ }
-    ensures { λ r. ⌜ Made (geometryOf g .blockSize) (plannedTrace round (geometryOf g) (now (disk .entry))
+    requires { ⌜ LentFor (geometryOf g) (now disk) (now buffer) (now list) first (length (plannedTrace round
+        (geometryOf g) (now disk) (now content) (now offered) (now random))) ⌝ }
+    requires { ⌜ Storable (geometryOf g) round (now content) (now offered) (now random) ⌝ }
+    ensures { λ r. ⌜ Made (blockWidth (geometryOf g)) (plannedTrace round (geometryOf g) (now (disk .entry))
         (now (content .entry)) (now (offered .entry)) (now (random .entry)))
-        (now (disk .entry)) (now (list .entry)) next (now (disk .exit)) (now (list .exit)) r ⌝ }
+        (now (disk .entry)) (now (list .entry)) first (now (disk .exit)) (now (list .exit)) r ⌝ }
 {
     let count = store_count(g, round);
     let mut place: u32 = 0;
-    let mut at = next;
+    let mut next = first;
     while place < count {
         let descriptor = round_store(g, round, place);
-        at = make_store(
+        next = make_store(
             disk,
             list,
-            at,
+            next,
             g,
             descriptor,
             content,
             offered,
             random,
-            block,
+            buffer,
         );
         place += 1;
     }
-    at
+    next
 }
 
-// A round at a slot. The block is a buffer.
+// A round at a slot.
 pub fn do_round(
     disk: &mut [u8],
     list: &mut [u32],
@@ -90,28 +89,29 @@ pub fn do_round(
     content: &[u8],
     random: &[u8],
     state: State,
-    offered: HiddenNumber,
-    hidden: &[u8],
-    block: &mut [u8],
+    hidden_number: HiddenNumber,
+    offered: &[u8],
+    buffer: &mut [u8],
 ) -> Step
-    requires { ⌜ Ready (geometryOf g) (now disk) (number .0) slot (now content) (now random) (now hidden) ⌝ }
-    requires { ⌜ length (now block) ≡ geometryOf g .blockSize ⌝ }
-    requires { ⌜ next + length (roundAt (geometryOf g) (now disk) (number .0) slot (now content)
-        (now random) (stateOf state (offered .0) (now hidden))) ≤ length (now list) ⌝ }
-    ensures { λ r. ⌜ Stepped (geometryOf g) (now (disk .entry)) (now (list .entry)) next (number .0) slot
-        (now (content .entry)) (now (random .entry)) state (offered .0) (now (hidden .entry))
+    requires { ⌜ LentFor (geometryOf g) (now disk) (now buffer) (now list) next (length (roundAt
+        (geometryOf g) (now disk) (number .0) slot (now content) (now random)
+        (stateOf state («hidden_number» .0) (now offered)))) ⌝ }
+    requires { ⌜ RoundReady (geometryOf g) (now disk) (number .0) slot (now content) (now random)
+        (now offered) ⌝ }
+    ensures { λ r. ⌜ RoundDone (geometryOf g) (now (disk .entry)) (now (list .entry)) next (number .0) slot
+        (now (content .entry)) (now (random .entry)) state («hidden_number» .0) (now (offered .entry))
         (now (disk .exit)) (now (list .exit)) r ⌝ }
 {
-    let plans = plan_round(disk, g, slot, state, offered);
-    let choice = plans.public;
-    let plan = plans.hidden;
+    let plans = plan_round(disk, g, slot, state, hidden_number);
+    let choice = plans.choice;
+    let plan = plans.plan;
     let after = plans.after;
-    let round = Round {
+    let round = PlannedRound {
         slot,
         public: plan_public(disk, g, number, slot, choice),
         hidden: plan,
     };
-    let last = store_round(disk, list, next, g, round, content, hidden, random, block);
+    let last = store_round(disk, list, next, g, round, content, offered, random, buffer);
     Step {
         next: last,
         state: after,

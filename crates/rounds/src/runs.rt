@@ -11,7 +11,7 @@ ghost use Rattle.layout.specs.Geometries.{geometryOf};
 ghost use Rattle.plans.specs.States.{stateOf};
 ghost use Rattle.rounds.specs.Runs.{Runnable, RunMade};
 
-// The place after all stores, how many rounds there were, and the state of the offer.
+// The index after all stores in the list, how many rounds there were, and the state of the offer.
 pub struct Ran {
     pub next: usize,
     pub rounds: u32,
@@ -22,30 +22,30 @@ pub struct Ran {
 pub fn do_rounds(
     disk: &mut [u8],
     list: &mut [u32],
-    next: usize,
+    first: usize,
     g: Geometry,
     number: PublicNumber,
     head: u32,
     content: &[u8],
     random: &[u8],
     state: State,
-    offered: HiddenNumber,
-    hidden: &[u8],
-    block: &mut [u8],
+    hidden_number: HiddenNumber,
+    offered: &[u8],
+    buffer: &mut [u8],
 ) -> Ran
-    requires { ⌜ Runnable (geometryOf g) (now disk) (number .0) head (now content) (now random) (now hidden)
+    requires { ⌜ Runnable (geometryOf g) (now disk) (number .0) head (now content) (now random) (now offered)
         (runFrom (geometryOf g .slots) (geometryOf g) (number .0) (now content) head (now random) (now disk)
-        (stateOf state (offered .0) (now hidden))) next (length (now list)) ⌝ }
-    requires { ⌜ length (now block) ≡ geometryOf g .blockSize ⌝ }
-    ensures { λ r. ⌜ RunMade (geometryOf g) (now (disk .entry)) (now (list .entry)) next (runFrom
+        (stateOf state («hidden_number» .0) (now offered))) first (length (now list)) ⌝ }
+    requires { ⌜ length (now buffer) ≡ geometryOf g .blockSize ⌝ }
+    ensures { λ r. ⌜ RunMade (geometryOf g) (now (disk .entry)) (now (list .entry)) first (runFrom
         (geometryOf g .slots) (geometryOf g) (number .0) (now (content .entry)) head (now (random .entry))
-        (now (disk .entry)) (stateOf state (offered .0) (now (hidden .entry)))) (offered .0)
-        (now (hidden .entry)) (now (disk .exit)) (now (list .exit)) r ⌝ }
+        (now (disk .entry)) (stateOf state («hidden_number» .0) (now (offered .entry)))) («hidden_number» .0)
+        (now (offered .entry)) (now (disk .exit)) (now (list .exit)) r ⌝ }
 {
     let slots = g.slots;
     let width = (g.height as usize) * (g.block_size as usize);
     let mut slot = head;
-    let mut at = next;
+    let mut next = first;
     let mut reached = state;
     let mut done: u32 = 0;
     while done < slots {
@@ -53,23 +53,23 @@ pub fn do_rounds(
         let step = do_round(
             disk,
             list,
-            at,
+            next,
             g,
             number,
             slot,
             content,
             &random[from..],
             reached,
+            hidden_number,
             offered,
-            hidden,
-            block,
+            buffer,
         );
-        at = step.next;
+        next = step.next;
         reached = step.state;
         done += 1;
         if !step.goes_on {
             return Ran {
-                next: at,
+                next,
                 rounds: done,
                 state: reached,
             };
@@ -77,7 +77,7 @@ pub fn do_rounds(
         slot = (slot + 1) % slots;
     }
     Ran {
-        next: at,
+        next,
         rounds: done,
         state: reached,
     }
@@ -94,19 +94,19 @@ pub fn run_write(
     content: &[u8],
     random: &[u8],
     state: State,
-    offered: HiddenNumber,
-    hidden: &[u8],
+    hidden_number: HiddenNumber,
+    offered: &[u8],
 ) -> Ran
-    requires { ⌜ Runnable (geometryOf g) (now disk) (number .0) head (now content) (now random) (now hidden)
+    requires { ⌜ Runnable (geometryOf g) (now disk) (number .0) head (now content) (now random) (now offered)
         (runFrom (geometryOf g .slots) (geometryOf g) (number .0) (now content) head (now random) (now disk)
-        (stateOf state (offered .0) (now hidden))) 0 (length (now list)) ⌝ }
+        (stateOf state («hidden_number» .0) (now offered))) 0 (length (now list)) ⌝ }
     ensures { λ r. ⌜ RunMade (geometryOf g) (now (disk .entry)) (now (list .entry)) 0 (runFrom
         (geometryOf g .slots) (geometryOf g) (number .0) (now (content .entry)) head (now (random .entry))
-        (now (disk .entry)) (stateOf state (offered .0) (now (hidden .entry)))) (offered .0)
-        (now (hidden .entry)) (now (disk .exit)) (now (list .exit)) r ⌝ }
+        (now (disk .entry)) (stateOf state («hidden_number» .0) (now (offered .entry)))) («hidden_number» .0)
+        (now (offered .entry)) (now (disk .exit)) (now (list .exit)) r ⌝ }
 {
     let size = g.block_size as usize;
-    let mut block = [0u8; 4096];
+    let mut buffer = [0u8; 4096];
     do_rounds(
         disk,
         list,
@@ -117,8 +117,8 @@ pub fn run_write(
         content,
         random,
         state,
+        hidden_number,
         offered,
-        hidden,
-        &mut block[..size],
+        &mut buffer[..size],
     )
 }

@@ -11,7 +11,7 @@ use stores::descriptors::Source;
 use stores::descriptors::own;
 use stores::descriptors::plain;
 ghost use mathlib.Core.Path.{_≡_};
-ghost use Prim.Native.Nat.{_-_, _+_, _≤_, _<_};
+ghost use Prim.Native.Nat.{_-_, _+_, _<_};
 ghost use Rattle.model.specs.Geometry.{Fits};
 ghost use Rattle.model.specs.Layout.{slotStart};
 ghost use Rattle.model.specs.Paths.{writtenBack, dummyStores};
@@ -19,6 +19,7 @@ ghost use Rattle.model.specs.Rounds.{publicStore};
 ghost use Rattle.layout.specs.Geometries.{geometryOf};
 ghost use Rattle.plans.specs.PublicPlans.{choiceOf};
 ghost use Rattle.stores.specs.Described.{storeAt, Describes};
+ghost use Rattle.slot_stores.specs.Slots.{SlotPlace};
 
 // A slot's public block: as it is, or the call's data.
 pub fn public_store(g: Geometry, slot: u32, public: PublicPlan) -> Descriptor
@@ -36,9 +37,7 @@ pub fn public_store(g: Geometry, slot: u32, public: PublicPlan) -> Descriptor
 
 // Address of a slot's block at a place.
 fn block_address(g: Geometry, slot: u32, place: u32) -> DiskAddress
-    requires { ⌜ Fits (geometryOf g) ⌝ }
-    requires { ⌜ slot < g .slots ⌝ }
-    requires { ⌜ place ≤ g .height ⌝ }
+    requires { ⌜ SlotPlace (geometryOf g) slot 0 (geometryOf g .height + 1) place ⌝ }
     ensures { λ r. ⌜ r .0 ≡ slotStart (geometryOf g) slot + place ⌝ }
 {
     let start = slot_start(g, slot);
@@ -47,9 +46,7 @@ fn block_address(g: Geometry, slot: u32, place: u32) -> DiskAddress
 
 // A slot's block at a place, or after its last one the root, as it is.
 pub fn kept_store(g: Geometry, slot: u32, place: u32) -> Descriptor
-    requires { ⌜ Fits (geometryOf g) ⌝ }
-    requires { ⌜ slot < g .slots ⌝ }
-    requires { ⌜ (1 ≤ place) × (place < g .height + 2) ⌝ }
+    requires { ⌜ SlotPlace (geometryOf g) slot 1 (geometryOf g .height + 2) place ⌝ }
     ensures { λ r. ⌜ Describes (geometryOf g) place (λ disk content offered random.
         storeAt (place - 1) (writtenBack (geometryOf g) disk slot)) r ⌝ }
 {
@@ -63,9 +60,7 @@ pub fn kept_store(g: Geometry, slot: u32, place: u32) -> Descriptor
 
 // A slot's block at a place of random bytes, or after its last one the root as it is.
 pub fn random_store(g: Geometry, slot: u32, place: u32) -> Descriptor
-    requires { ⌜ Fits (geometryOf g) ⌝ }
-    requires { ⌜ slot < g .slots ⌝ }
-    requires { ⌜ (1 ≤ place) × (place < g .height + 2) ⌝ }
+    requires { ⌜ SlotPlace (geometryOf g) slot 1 (geometryOf g .height + 2) place ⌝ }
     ensures { λ r. ⌜ Describes (geometryOf g) place (λ disk content offered random.
         storeAt (place - 1) (dummyStores (geometryOf g) disk slot random)) r ⌝ }
 {

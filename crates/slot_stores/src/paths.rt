@@ -4,6 +4,7 @@ use hidden_map::nodes::Node;
 use hidden_map::nodes::Nodes;
 use hidden_map::nodes::node_at;
 use layout::geometry::Geometry;
+use layout::geometry::fanout;
 use layout::geometry::root_address;
 use layout::levels::level_address;
 use layout::numbers::DiskAddress;
@@ -15,16 +16,17 @@ use stores::descriptors::Source;
 use stores::descriptors::own;
 use stores::descriptors::plain;
 ghost use mathlib.Core.Path.{_≡_};
-ghost use Prim.Native.Nat.{_-_, _+_, _≤_, _<_};
-ghost use Rattle.model.specs.Geometry.{Fits, rootAddress};
+ghost use Prim.Native.Nat.{_-_, _+_, _<_};
+ghost use Rattle.model.specs.Geometry.{Fits, rootAddress, blockWidth};
 ghost use Rattle.model.specs.Blocks.{blockAt};
 ghost use Rattle.model.specs.Layout.{levelAddress};
 ghost use Rattle.model.specs.Stores.{store};
 ghost use Rattle.model.specs.Paths.{linkedNode, pathStores};
 ghost use Rattle.layout.specs.Geometries.{geometryOf};
-ghost use Rattle.hidden_map.specs.Nodes.{addressAt, nodeBlock, pathBlocks, Placed};
+ghost use Rattle.hidden_map.specs.Nodes.{addressAt, nodeBlock, pathBlocks, StandsByLevel};
 ghost use Rattle.plans.specs.HiddenPlans.{dataOf};
 ghost use Rattle.stores.specs.Described.{storeAt, Describes};
+ghost use Rattle.slot_stores.specs.Slots.{SlotPlace};
 ghost use Rattle.slot_stores.specs.Sources.{nodeSource, dataSource};
 
 // Where a path's node is taken from: the disk, or zeros where it was not reached.
@@ -40,10 +42,8 @@ fn node_source(node: Node) -> Source
 // A path's node of a level: its entry leads to the slot's block of the level below, and a leaf's last entry
 // is the number.
 fn node_store(g: Geometry, slot: u32, number: HiddenNumber, nodes: Nodes, level: u32) -> Descriptor
-    requires { ⌜ Fits (geometryOf g) ⌝ }
-    requires { ⌜ slot < g .slots ⌝ }
-    requires { ⌜ Placed (geometryOf g) (addressAt nodes) ⌝ }
-    requires { ⌜ (1 ≤ level) × (level < g .height) ⌝ }
+    requires { ⌜ SlotPlace (geometryOf g) slot 1 (geometryOf g .height) level ⌝ }
+    requires { ⌜ StandsByLevel (geometryOf g) (addressAt nodes) ⌝ }
     ensures { λ r. ⌜ Describes (geometryOf g) level (λ disk content offered random.
         store (levelAddress (geometryOf g) slot level) (linkedNode (geometryOf g) (number .0) slot (level - 1)
         (nodeBlock (geometryOf g) disk (addressAt nodes level)))) r ⌝ }
@@ -55,7 +55,7 @@ fn node_store(g: Geometry, slot: u32, number: HiddenNumber, nodes: Nodes, level:
     let branch = branch_at(g.block_size, number, under);
     let first = Change::Entry(branch, below.0);
     if level == 1 {
-        let last = (g.block_size / 4) as usize - 1;
+        let last = fanout(g) as usize - 1;
         return Descriptor {
             address,
             source,
@@ -99,7 +99,7 @@ fn root_store(g: Geometry, slot: u32, number: HiddenNumber) -> Descriptor
     ensures { λ r. ⌜ Describes (geometryOf g) (geometryOf g .height + 1) (λ disk content offered random.
         store (rootAddress (geometryOf g)) (linkedNode (geometryOf g) (number .0) slot
         (geometryOf g .height - 1)
-        (blockAt (geometryOf g .blockSize) disk (rootAddress (geometryOf g))))) r ⌝ }
+        (blockAt (blockWidth (geometryOf g)) disk (rootAddress (geometryOf g))))) r ⌝ }
 {
     let root = root_address(g);
     let top = g.height - 1;
@@ -117,10 +117,8 @@ pub fn path_store(
     data: Data,
     place: u32,
 ) -> Descriptor
-    requires { ⌜ Fits (geometryOf g) ⌝ }
-    requires { ⌜ slot < g .slots ⌝ }
-    requires { ⌜ Placed (geometryOf g) (addressAt nodes) ⌝ }
-    requires { ⌜ (1 ≤ place) × (place < g .height + 2) ⌝ }
+    requires { ⌜ SlotPlace (geometryOf g) slot 1 (geometryOf g .height + 2) place ⌝ }
+    requires { ⌜ StandsByLevel (geometryOf g) (addressAt nodes) ⌝ }
     ensures { λ r. ⌜ Describes (geometryOf g) place (λ disk content offered random.
         storeAt (place - 1) (pathStores (geometryOf g) (number .0) slot
         (dataOf «data» (geometryOf g) disk slot offered)

@@ -7,19 +7,16 @@ use layout::geometry::Geometry;
 use plans::hidden_plans::HiddenPlan;
 use plans::public_plans::PublicPlan;
 use stores::descriptors::Descriptor;
-ghost use Prim.Native.Nat.{_-_, _+_, _≤_, _<_};
-ghost use Rattle.model.specs.Geometry.{Fits};
+ghost use Prim.Native.Nat.{_-_, _+_};
 ghost use Rattle.layout.specs.Geometries.{geometryOf};
 ghost use Rattle.plans.specs.HiddenPlans.{hiddenTrace, PathPlaced};
 ghost use Rattle.stores.specs.Described.{storeAt, Describes};
-ghost use Rattle.slot_stores.specs.Slots.{slotTrace};
+ghost use Rattle.slot_stores.specs.Slots.{SlotPlace, slotTrace};
 
 // A slot's hidden block at a place, or after its last one the root, as it is planned.
 fn hidden_store(g: Geometry, slot: u32, plan: HiddenPlan, place: u32) -> Descriptor
-    requires { ⌜ Fits (geometryOf g) ⌝ }
-    requires { ⌜ slot < g .slots ⌝ }
+    requires { ⌜ SlotPlace (geometryOf g) slot 1 (geometryOf g .height + 2) place ⌝ }
     requires { ⌜ PathPlaced (geometryOf g) plan ⌝ }
-    requires { ⌜ (1 ≤ place) × (place < g .height + 2) ⌝ }
     ensures { λ r. ⌜ Describes (geometryOf g) place (λ disk content offered random.
         storeAt (place - 1) (hiddenTrace plan (geometryOf g) disk slot offered random)) r ⌝ }
 {
@@ -38,10 +35,8 @@ pub fn slot_store(
     hidden: HiddenPlan,
     place: u32,
 ) -> Descriptor
-    requires { ⌜ Fits (geometryOf g) ⌝ }
-    requires { ⌜ slot < g .slots ⌝ }
+    requires { ⌜ SlotPlace (geometryOf g) slot 0 (geometryOf g .height + 2) place ⌝ }
     requires { ⌜ PathPlaced (geometryOf g) hidden ⌝ }
-    requires { ⌜ place < g .height + 2 ⌝ }
     ensures { λ r. ⌜ Describes (geometryOf g) place (λ disk content offered random.
         storeAt place (slotTrace public hidden (geometryOf g) disk slot content offered random)) r ⌝ }
 {

@@ -6,7 +6,7 @@ use mathlib.Core.Logic.{_⊎_}
 use mathlib.Core.List.{[]}
 use Prim.Native.Nat.{ℕ, _<_}
 use lib.ListN.{getD}
-use Rattle.model.specs.Geometry.{Geometry, blockCount}
+use Rattle.model.specs.Geometry.{Geometry, blockCount, blockWidth}
 use Rattle.model.specs.Blocks.{Bytes, DiskAddress}
 use Rattle.model.specs.Layout.{isWellFormed}
 use Rattle.model.specs.Stores.{Store, Trace, store}
@@ -40,6 +40,6 @@ pub record Describes (g : Geometry) (place : ℕ) (meant : Meaning) (descriptor 
       (disk content offered random : Bytes) →
       storeOf descriptor g disk content offered random ≡ meant disk content offered random
   pub address-inside : descriptor .address .0 < blockCount g
-  pub first-inside : Inside (g .blockSize) (descriptor .first)
-  pub second-inside : Inside (g .blockSize) (descriptor .second)
+  pub first-inside : Inside (blockWidth g) (descriptor .first)
+  pub second-inside : Inside (blockWidth g) (descriptor .second)
   pub takes : Takes g place (descriptor .address .0) (descriptor .source)

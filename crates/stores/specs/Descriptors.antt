@@ -1,10 +1,11 @@
--- What a descriptor means: the block that its store begins with, the store, and when it can be made. Assumes
+-- What a descriptor means: the block that its store begins with, the store, and when both can be had. Assumes
 -- nothing.
 use mathlib.Core.Path.{_≡_}
 use Prim.Native.Nat.{_+_, _*_, _≤_, _<_}
 use lib.ListN.{length}
-use Rattle.model.specs.Geometry.{Geometry, blockCount}
+use Rattle.model.specs.Geometry.{Geometry, blockCount, blockWidth}
 use Rattle.model.specs.Blocks.{Bytes, blockAt, zeroBlock}
+use Rattle.model.specs.Layout.{Drive}
 use Rattle.model.specs.Stores.{Store, store}
 use Rattle.layout.specs.declared.numbers.DiskAddress.{DiskAddress}
 use Rattle.stores.specs.declared.changes.Change.{Change}
@@ -19,11 +20,11 @@ use Rattle.stores.specs.Changes.{changed, Inside}
 -- the block of a source: one of the disk, zeros, the call's data, what is offered, or the random bytes' block
 -- at an index
 abbrev pub sourceBlock : Source → Geometry → (disk content offered random : Bytes) → Bytes
-sourceBlock (Disk address) g disk content offered random = blockAt (g .blockSize) disk (address .0)
+sourceBlock (Disk address) g disk content offered random = blockAt (blockWidth g) disk (address .0)
 sourceBlock Zeros g disk content offered random = zeroBlock (g .blockSize)
 sourceBlock Content g disk content offered random = content
 sourceBlock Offered g disk content offered random = offered
-sourceBlock (Random index) g disk content offered random = blockAt (g .blockSize) random index
+sourceBlock (Random index) g disk content offered random = blockAt (blockWidth g) random index
 
 -- it stands on the drive, or is lent whole
 abbrev pub Takeable : Source → Geometry → (content offered random : Bytes) → Type 0
@@ -32,6 +33,13 @@ Takeable Zeros g content offered random = Unit {0}
 Takeable Content g content offered random = length content ≡ g .blockSize
 Takeable Offered g content offered random = length offered ≡ g .blockSize
 Takeable (Random index) g content offered random = index * g .blockSize + g .blockSize ≤ length random
+
+-- it can be taken from a whole drive into a buffer of one block
+pub record Fillable (source : Source) (g : Geometry) (disk content offered random buffer : Bytes) : Type 0
+  where
+    pub drive : Drive g disk
+    pub takeable : Takeable source g content offered random
+    pub whole : length buffer ≡ g .blockSize
 
 -- ---- what is stored ----
 
@@ -55,5 +63,5 @@ storeOf descriptor g disk content offered random =
 pub record Makeable (descriptor : Descriptor) (g : Geometry) (content offered random : Bytes) : Type 0 where
   pub address-inside : descriptor .address .0 < blockCount g
   pub takeable : Takeable (descriptor .source) g content offered random
-  pub first-inside : Inside (g .blockSize) (descriptor .first)
-  pub second-inside : Inside (g .blockSize) (descriptor .second)
+  pub first-inside : Inside (blockWidth g) (descriptor .first)
+  pub second-inside : Inside (blockWidth g) (descriptor .second)

@@ -5,18 +5,15 @@ use crate::descriptors::Descriptor;
 use crate::descriptors::take_source;
 use layout::geometry::Geometry;
 use layout::numbers::DiskAddress;
-ghost use mathlib.Core.Path.{_≡_};
 ghost use mathlib.Core.List.{[], _∷_};
 ghost use Prim.Native.Nat.{_<_};
-ghost use lib.ListN.{length};
-ghost use Rattle.model.specs.Geometry.{blockCount};
-ghost use Rattle.model.specs.Layout.{Drive};
+ghost use Rattle.model.specs.Geometry.{blockCount, blockWidth};
 ghost use Rattle.model.specs.Stores.{store};
 ghost use Rattle.layout.specs.Geometries.{geometryOf};
-ghost use Rattle.stores.specs.Made.{Made};
+ghost use Rattle.stores.specs.Made.{LentFor, Made};
 ghost use Rattle.stores.specs.Descriptors.{storeOf, Makeable};
 
-// Enters the address next in the list and copies one whole block to the address; answers the place after it.
+// Enters the address next in the list and copies one whole block to the address; answers the index after it.
 // The order makes the store a real one: for all that the compiler knows, list and disk may overlap and the
 // entry may change the disk, so it cannot leave out the copy that follows, not even where no byte changes.
 // The contract speaks of bytes and list alone, and the optimiser is not in the proof: that every store is
@@ -29,11 +26,9 @@ fn store_block(
     address: DiskAddress,
     block: &[u8],
 ) -> usize
-    requires { ⌜ Drive (geometryOf g) (now disk) ⌝ }
+    requires { ⌜ LentFor (geometryOf g) (now disk) (now block) (now list) next 1 ⌝ }
     requires { ⌜ address .0 < blockCount (geometryOf g) ⌝ }
-    requires { ⌜ length (now block) ≡ geometryOf g .blockSize ⌝ }
-    requires { ⌜ next < length (now list) ⌝ }
-    ensures { λ r. ⌜ Made (geometryOf g .blockSize) (store (address .0) (now (block .entry)) ∷ [])
+    ensures { λ r. ⌜ Made (blockWidth (geometryOf g)) (store (address .0) (now (block .entry)) ∷ [])
         (now (disk .entry)) (now (list .entry)) next (now (disk .exit)) (now (list .exit)) r ⌝ }
 {
     let at = (address.0 as usize) * (g.block_size as usize);
@@ -43,7 +38,7 @@ fn store_block(
 }
 
 // Makes the store of a descriptor: its block is taken into a lent buffer of one block, changed there, and
-// stored whole; answers the place after it in the list.
+// stored whole; answers the index after it in the list.
 pub fn make_store(
     disk: &mut [u8],
     list: &mut [u32],
@@ -53,13 +48,11 @@ pub fn make_store(
     content: &[u8],
     offered: &[u8],
     random: &[u8],
-    block: &mut [u8],
+    buffer: &mut [u8],
 ) -> usize
-    requires { ⌜ Drive (geometryOf g) (now disk) ⌝ }
+    requires { ⌜ LentFor (geometryOf g) (now disk) (now buffer) (now list) next 1 ⌝ }
     requires { ⌜ Makeable descriptor (geometryOf g) (now content) (now offered) (now random) ⌝ }
-    requires { ⌜ length (now block) ≡ geometryOf g .blockSize ⌝ }
-    requires { ⌜ next < length (now list) ⌝ }
-    ensures { λ r. ⌜ Made (geometryOf g .blockSize) (storeOf descriptor (geometryOf g) (now (disk .entry))
+    ensures { λ r. ⌜ Made (blockWidth (geometryOf g)) (storeOf descriptor (geometryOf g) (now (disk .entry))
         (now (content .entry)) (now (offered .entry)) (now (random .entry)) ∷ [])
         (now (disk .entry)) (now (list .entry)) next (now (disk .exit)) (now (list .exit)) r ⌝ }
 {
@@ -67,8 +60,8 @@ pub fn make_store(
     let first = descriptor.first;
     let second = descriptor.second;
     let address = descriptor.address;
-    take_source(disk, g, source, content, offered, random, block);
-    change_block(block, first);
-    change_block(block, second);
-    store_block(disk, list, next, g, address, block)
+    take_source(disk, g, source, content, offered, random, buffer);
+    change_block(buffer, first);
+    change_block(buffer, second);
+    store_block(disk, list, next, g, address, buffer)
 }

@@ -8,10 +8,10 @@ use layout::numbers::DiskAddress;
 ghost use mathlib.Core.Path.{_≡_};
 ghost use Prim.Native.Nat.{_+_, _*_, _≤_};
 ghost use lib.ListN.{length};
+ghost use Rattle.model.specs.Geometry.{blockWidth};
 ghost use Rattle.model.specs.Blocks.{blockAt};
-ghost use Rattle.model.specs.Layout.{Drive};
 ghost use Rattle.layout.specs.Geometries.{geometryOf};
-ghost use Rattle.stores.specs.Descriptors.{plainOf, ownOf, sourceBlock, Takeable};
+ghost use Rattle.stores.specs.Descriptors.{plainOf, ownOf, sourceBlock, Fillable};
 
 // Where the block of a store is taken from: the disk, zeros, the call's data, what is offered, or so many
 // blocks into the round's random bytes.
@@ -59,7 +59,7 @@ pub fn own(address: DiskAddress, first: Change, second: Change) -> Descriptor
 // The block that stands so many blocks into the random bytes.
 fn random_block<'a>(random: &'a [u8], g: Geometry, index: u32) -> &'a [u8]
     requires { ⌜ index * geometryOf g .blockSize + geometryOf g .blockSize ≤ length (now random) ⌝ }
-    ensures { λ r. ⌜ now r ≡ blockAt (geometryOf g .blockSize) (now (random .entry)) index ⌝ }
+    ensures { λ r. ⌜ now r ≡ blockAt (blockWidth (geometryOf g)) (now (random .entry)) index ⌝ }
 {
     let width = g.block_size as usize;
     let from = (index as usize) * width;
@@ -75,19 +75,18 @@ pub fn take_source(
     content: &[u8],
     offered: &[u8],
     random: &[u8],
-    block: &mut [u8],
+    buffer: &mut [u8],
 )
-    requires { ⌜ Drive (geometryOf g) (now disk) ⌝ }
-    requires { ⌜ Takeable source (geometryOf g) (now content) (now offered) (now random) ⌝ }
-    requires { ⌜ length (now block) ≡ geometryOf g .blockSize ⌝ }
-    ensures { λ _. ⌜ now (block .exit) ≡ sourceBlock source (geometryOf g) (now (disk .entry))
+    requires { ⌜ Fillable source (geometryOf g) (now disk) (now content) (now offered) (now random)
+        (now buffer) ⌝ }
+    ensures { λ _. ⌜ now (buffer .exit) ≡ sourceBlock source (geometryOf g) (now (disk .entry))
         (now (content .entry)) (now (offered .entry)) (now (random .entry)) ⌝ }
 {
     match source {
-        Source::Disk(address) => copy_at(block, 0, block_at(disk, g, address)),
-        Source::Zeros => clear_at(block, 0, g.block_size as usize),
-        Source::Content => copy_at(block, 0, content),
-        Source::Offered => copy_at(block, 0, offered),
-        Source::Random(index) => copy_at(block, 0, random_block(random, g, index)),
+        Source::Disk(address) => copy_at(buffer, 0, block_at(disk, g, address)),
+        Source::Zeros => clear_at(buffer, 0, g.block_size as usize),
+        Source::Content => copy_at(buffer, 0, content),
+        Source::Offered => copy_at(buffer, 0, offered),
+        Source::Random(index) => copy_at(buffer, 0, random_block(random, g, index)),
     }
 }

@@ -4,17 +4,19 @@ use mathlib.Core.Logic.{_⊎_, inl, inr}
 use mathlib.Core.Bool.{Bool, true, false, cond, not, _&&_, _||_}
 use mathlib.Core.List.{List, []}
 use Prim.Native.Nat.{ℕ}
-use native.Mathlib.Omega.{arith}
-use Rattle.laws.proofs.Cases.{bool-cases, true-is-not-false, cond-true, cond-false}
-use Rattle.model.specs.Geometry.{Geometry}
+use Rattle.laws.proofs.Cases.{bool-cases, true-is-not-false}
+use Rattle.model.specs.Geometry.{Geometry, blockWidth}
 use Rattle.model.specs.Blocks.{Bytes, blockAt}
 use Rattle.model.specs.Layout.{isAllocated, levelAddress}
-use Rattle.model.specs.HiddenTree.{walk, isDamaged}
+use Rattle.model.specs.HiddenTree.{ownerOf, walk, isDamaged}
 use Rattle.model.specs.Paths.{pathStores}
 use Rattle.model.specs.Table as model
-use Rattle.model.specs.HiddenHalf.{HiddenWrite, HiddenState, isWaiting, ownerOf, isLive}
+use Rattle.model.specs.HiddenHalf.{HiddenWrite, HiddenState, isWaiting, isLive}
 use Rattle.model.specs.HiddenHalf.{isNextDamaged, isBlocked, half, hiddenBy, rowOf, hiddenHalf}
 use Rattle.model.proofs.Laws.HiddenHalf.{rowOf-hidden}
+use Rattle.model.proofs.Laws.Owners.{isNextDamaged-nil, isNextDamaged-cons, hiddenHalf-blocked}
+use Rattle.model.proofs.Laws.Owners.{hiddenHalf-free, hiddenBy-keep, hiddenBy-place, hiddenBy-fill}
+use Rattle.model.proofs.Laws.Owners.{live-of-keep, stale-of-place, stale-of-fill}
 use Rattle.layout.specs.declared.numbers.HiddenNumber.{HiddenNumber}
 use Rattle.hidden_map.specs.declared.walks.Trail.{Trail}
 use Rattle.hidden_map.specs.Ends.{endOf}
@@ -26,7 +28,7 @@ use Rattle.table.specs.declared.Row.{Row}
 use Rattle.table.specs.Rows as rows
 use Rattle.owners.specs.declared.Owner.{Owner}
 use Rattle.owners.specs.declared.Owner.the-variants.{Nobody, Number}
-use Rattle.owners.specs.Owners.{Owned, isLiveFor, isDamagedFor}
+use Rattle.owners.specs.Owners.{OwnerWalked, isLiveFor, isDamagedFor}
 use Rattle.owners.proofs.Laws.Owners.{isLive-owned, isOwnerDamaged-owned}
 use Rattle.plans.specs.declared.hidden_plans.Data.the-variants.{Offered}
 use Rattle.plans.specs.declared.hidden_plans.HiddenPlan.{HiddenPlan}
@@ -43,35 +45,34 @@ use Rattle.plans.specs.Plans.{keptPlan, PlannedBy, HalfPlanned, stateAft
 -- the table's row, and whose slot it is
 pub record Settled (g : Geometry) (disk : Bytes) (slot : ℕ) (offer : Offer) (number : ℕ) (row : Row)
     (owner : Owner) : Type 0 where
-  pub row-is : (content : Bytes) → rows.rowOf row ≡ rowOf g disk slot (waitingOf offer number content)
-  pub owned : Owned g disk (ownerOf g disk slot) owner
+  pub row-is : (offered : Bytes) → rows.tableRowOf row ≡ rowOf g disk slot (waitingOf offer number offered)
+  pub owned : OwnerWalked g disk (ownerOf g disk slot) owner
 
-isWaiting-is : (offer : Offer) (number : ℕ) (content : Bytes) → isWaiting (waitingOf offer number content) ≡
+isWaiting-is : (offer : Offer) (number : ℕ) (offered : Bytes) → isWaiting (waitingOf offer number offered) ≡
     isWaitingOffer offer
-isWaiting-is offers.Absent number content = refl
-isWaiting-is offers.Waiting number content = refl
-isWaiting-is offers.Placed number content = refl
+isWaiting-is offers.Absent number offered = refl
+isWaiting-is offers.Waiting number offered = refl
+isWaiting-is offers.Placed number offered = refl
 
 isNextDamaged-is :
-    (g : Geometry) (disk : Bytes) (offer : Offer) (number : ℕ) (content : Bytes) →
-    isNextDamaged g disk (waitingOf offer number content) ≡
+    (g : Geometry) (disk : Bytes) (offer : Offer) (number : ℕ) (offered : Bytes) →
+    isNextDamaged g disk (waitingOf offer number offered) ≡
     (isWaitingOffer offer && isDamaged (walk g disk number .end))
-unfolding isNextDamaged
-isNextDamaged-is g disk offers.Absent number content = refl
-isNextDamaged-is g disk offers.Waiting number content = refl
-isNextDamaged-is g disk offers.Placed number content = refl
+isNextDamaged-is g disk offers.Absent number offered = isNextDamaged-nil g disk
+isNextDamaged-is g disk offers.Waiting number offered = isNextDamaged-cons g disk _ []
+isNextDamaged-is g disk offers.Placed number offered = isNextDamaged-nil g disk
 
 pub settled :
     (g : Geometry) (disk : Bytes) (slot own : ℕ) (offer : Offer) (number : ℕ) (row : Row) (owner : Owner)
-    (waiting allocated live : Bool) → own ≡ ownerOf g disk slot → Owned g disk own owner →
+    (waiting allocated live : Bool) → own ≡ ownerOf g disk slot → OwnerWalked g disk own owner →
     waiting ≡ isWaitingOffer offer → allocated ≡ isAllocated g disk slot → live ≡ isLiveFor g slot owner →
-    rows.rowOf row ≡ model.rowAt waiting allocated live → Settled g disk slot offer number row owner
+    rows.tableRowOf row ≡ model.rowAt waiting allocated live → Settled g disk slot offer number row owner
 settled g disk slot own offer number row owner waiting allocated live e owned w a l r =
     record {
-      row-is = λ content.
-          let z = isWaiting-is offer number content in
+      row-is = λ offered.
+          let z = isWaiting-is offer number offered in
           let j = isLive-owned g disk slot own e owner owned in cc;
-      owned = subst (λ (n : ℕ). Owned g disk n owner) e owned;
+      owned = subst (λ (n : ℕ). OwnerWalked g disk n owner) e owned;
     }
 
 -- ---- the hidden half, by the table's choice or stopped ----
@@ -91,41 +92,15 @@ module _ (g : Geometry) (disk : Bytes) (choice : HiddenChoice) (owner : Owner) (
         chosen = λ z. subst (λ (which : HiddenChoice). PlannedBy which g disk owner number hidden) (sym c) h;
       }
 
--- ---- the table's choice ----
-
-live-of-keep :
-    (live waiting : Bool) →
-    model.keepHidden ≡ cond live model.keepHidden (cond waiting model.placeHidden model.fillHidden) → live ≡
-    true
-live-of-keep true waiting e = refl
-live-of-keep false true e = absurd (let z : _≡_ {A = ℕ} 0 1 = cc in omega arith)
-live-of-keep false false e = absurd (let z : _≡_ {A = ℕ} 0 1 = cc in omega arith)
-
-stale-of-place :
-    (live waiting : Bool) →
-    model.placeHidden ≡ cond live model.keepHidden (cond waiting model.placeHidden model.fillHidden) →
-    (live ≡ false) × (waiting ≡ true)
-stale-of-place true waiting e = absurd (let z : _≡_ {A = ℕ} 0 1 = cc in omega arith)
-stale-of-place false true e = (refl, refl)
-stale-of-place false false e = absurd (let z : _≡_ {A = ℕ} 0 1 = cc in omega arith)
-
-stale-of-fill :
-    (live waiting : Bool) →
-    model.fillHidden ≡ cond live model.keepHidden (cond waiting model.placeHidden model.fillHidden) →
-    (live ≡ false) × (waiting ≡ false)
-stale-of-fill true waiting e = absurd (let z : _≡_ {A = ℕ} 0 1 = cc in omega arith)
-stale-of-fill false true e = absurd (let z : _≡_ {A = ℕ} 0 1 = cc in omega arith)
-stale-of-fill false false e = (refl, refl)
-
 -- ---- the plans ----
 
 module _ (g : Geometry) (disk : Bytes) (slot : ℕ) (state : State) (number : HiddenNumber) (row : Row)
     (owner : Owner) (known : Settled g disk slot (state .offer) (number .0) row owner) where
   abbrev plansBy : HiddenPlan → Plans
-  plansBy hidden = record { public = row .public; hidden = hidden; after = stateAfter state hidden }
+  plansBy hidden = record { choice = row .public; plan = hidden; after = stateAfter state hidden }
 
   abbrev waitingBy : Bytes → List HiddenWrite
-  waitingBy content = waitingOf (state .offer) (number .0) content
+  waitingBy offered = waitingOf (state .offer) (number .0) offered
 
   -- a plan said in another way
   planned-as : {hidden other : HiddenPlan} → hidden ≡ other →
@@ -134,44 +109,42 @@ module _ (g : Geometry) (disk : Bytes) (slot : ℕ) (state : State) (number : Hi
   planned-as e p = subst (λ (x : HiddenPlan). Planned g disk slot state (number .0) (plansBy x)) (sym e) p
 
   -- the public choice, whatever the plan
-  chosen : (content : Bytes) → rows.publicOf (row .public) ≡ rowOf g disk slot (waitingBy content) .public
-  chosen content = ap (λ (r : model.Row). r .public) (known .row-is content)
+  chosen : (offered : Bytes) → rows.publicOf (row .public) ≡ rowOf g disk slot (waitingBy offered) .public
+  chosen offered = ap (λ (r : model.Row). r .public) (known .row-is offered)
 
   live-is : isLiveFor g slot owner ≡ isLive g disk slot
   live-is = isLive-owned g disk slot (ownerOf g disk slot) refl owner (known .owned)
 
   blocked-is :
-      (content : Bytes) → isBlocked g disk slot (waitingBy content) ≡
+      (offered : Bytes) → isBlocked g disk slot (waitingBy offered) ≡
       (isDamagedFor owner || not (isLive g disk slot) &&
       (isWaitingOffer (state .offer) && isDamaged (walk g disk (number .0) .end)))
-  blocked-is content =
+  blocked-is offered =
       rw (
         isOwnerDamaged-owned g disk slot (ownerOf g disk slot) refl owner (known .owned),
-        isNextDamaged-is g disk (state .offer) (number .0) content,
+        isNextDamaged-is g disk (state .offer) (number .0) offered,
       )
 
-  planned-back : ((content : Bytes) → isBlocked g disk slot (waitingBy content) ≡ true) →
+  planned-back : ((offered : Bytes) → isBlocked g disk slot (waitingBy offered) ≡ true) →
       Planned g disk slot state (number .0) (plansBy plan.Back)
-  unfolding hiddenHalf
   planned-back blocked =
       record {
         chosen = chosen;
-        half-is = λ content random. cond-true _ _ (blocked content);
+        half-is = λ offered random. hiddenHalf-blocked g disk slot random _ (blocked offered);
         placed = tt;
       }
 
   -- the half by the table's choice
   half-by :
-      (choice : model.HiddenChoice) → rows.hiddenOf (row .hidden) ≡ choice → (content random : Bytes) →
-      isBlocked g disk slot (waitingBy content) ≡ false →
-      hiddenHalf g disk slot random (stateOf state (number .0) content) ≡
-      hiddenBy choice g disk slot random (stateOf state (number .0) content) (waitingBy content)
-  unfolding hiddenHalf
-  half-by choice e content random free =
-      cond-false _ _ free
+      (choice : model.HiddenChoice) → rows.hiddenOf (row .hidden) ≡ choice → (offered random : Bytes) →
+      isBlocked g disk slot (waitingBy offered) ≡ false →
+      hiddenHalf g disk slot random (stateOf state (number .0) offered) ≡
+      hiddenBy choice g disk slot random (stateOf state (number .0) offered) (waitingBy offered)
+  half-by choice e offered random free =
+      hiddenHalf-free g disk slot random _ free
       ∙ ap (λ (c : model.HiddenChoice).
-      hiddenBy c g disk slot random (stateOf state (number .0) content) (waitingBy content))
-      (sym (ap (λ (r : model.Row). r .hidden) (known .row-is content)) ∙ e)
+      hiddenBy c g disk slot random (stateOf state (number .0) offered) (waitingBy offered))
+      (sym (ap (λ (r : model.Row). r .hidden) (known .row-is offered)) ∙ e)
 
   rule :
       (choice : model.HiddenChoice) → rows.hiddenOf (row .hidden) ≡ choice →
@@ -188,7 +161,6 @@ module _ (g : Geometry) (disk : Bytes) (slot : ℕ) (state : State) (number : Hi
     planned-kept :
         rows.hiddenOf (row .hidden) ≡ model.keepHidden → (told : Owner) → owner ≡ told →
         Planned g disk slot state (number .0) (plansBy (keptPlan told))
-    unfolding hiddenBy
     planned-kept e Nobody o =
         true-is-not-false
         (live-of-keep (isLive g disk slot) (isWaitingOffer (state .offer)) (rule model.keepHidden e))
@@ -196,15 +168,16 @@ module _ (g : Geometry) (disk : Bytes) (slot : ℕ) (state : State) (number : Hi
     planned-kept e (Number own trail) o =
         let live = live-of-keep (isLive g disk slot) (isWaitingOffer (state .offer))
         (rule model.keepHidden e) in
-        let owned = subst (Owned g disk (ownerOf g disk slot)) o (known .owned) in
+        let owned = subst (OwnerWalked g disk (ownerOf g disk slot)) o (known .owned) in
         let walked = owned .1 .1 in
         record {
           chosen = chosen;
-          half-is = λ content random.
-              half-by model.keepHidden e content random (blocked-is content ∙ rw (sound, live))
+          half-is = λ offered random.
+              half-by model.keepHidden e offered random (blocked-is offered ∙ rw (sound, live))
+              ∙ hiddenBy-keep g disk slot random _ _
               ∙ ap₂ (λ (n : ℕ) (xs : List Bytes).
-              half (pathStores g n slot (blockAt (g .blockSize) disk (levelAddress g slot 0)) xs)
-              (stateOf state (number .0) content)) (sym (owned .0))
+              half (pathStores g n slot (blockAt (blockWidth g) disk (levelAddress g slot 0)) xs)
+              (stateOf state (number .0) offered)) (sym (owned .0))
               (sym (blocks-walked g disk (ownerOf g disk slot) trail walked));
           placed = placed-walked g disk (ownerOf g disk slot) trail walked;
         }
@@ -215,38 +188,38 @@ module _ (g : Geometry) (disk : Bytes) (slot : ℕ) (state : State) (number : Hi
       stale = stale-of-place (isLive g disk slot) (isWaitingOffer (state .offer)) (rule model.placeHidden e)
 
       -- the number's walk decides
-      blocked-next : (content : Bytes) → isBlocked g disk slot (waitingBy content) ≡
+      blocked-next : (offered : Bytes) → isBlocked g disk slot (waitingBy offered) ≡
           isDamaged (endOf (trail .end))
-      blocked-next content =
-          blocked-is content ∙ rw (sound, stale .0, stale .1) (ap isDamaged (sym (walked .end-is)))
+      blocked-next offered =
+          blocked-is offered ∙ rw (sound, stale .0, stale .1) (ap isDamaged (sym (walked .end-is)))
 
       after : HiddenState
       after = record { waiting = []; placed = 1; metDamage = state .«met_damage» }
 
       placed-by :
-          (content random : Bytes) (offer : Offer) → isWaitingOffer offer ≡ true →
+          (offered random : Bytes) (offer : Offer) → isWaitingOffer offer ≡ true →
           hiddenBy model.placeHidden g disk slot random
-          (stateOf (record { offer = offer; «met_damage» = state .«met_damage» }) (number .0) content)
-          (waitingOf offer (number .0) content) ≡
-          half (pathStores g (number .0) slot content (walk g disk (number .0) .nodes)) after
-      unfolding hiddenBy after
-      placed-by content random offers.Absent w = true-is-not-false w refl
-      placed-by content random offers.Waiting w = refl
-      placed-by content random offers.Placed w = true-is-not-false w refl
+          (stateOf (record { offer = offer; «met_damage» = state .«met_damage» }) (number .0) offered)
+          (waitingOf offer (number .0) offered) ≡
+          half (pathStores g (number .0) slot offered (walk g disk (number .0) .nodes)) after
+      unfolding after
+      placed-by offered random offers.Absent w = true-is-not-false w refl
+      placed-by offered random offers.Waiting w = hiddenBy-place g disk slot random _ _ []
+      placed-by offered random offers.Placed w = true-is-not-false w refl
 
       planned-placed :
           (damaged : Bool) → isDamaged (endOf (trail .end)) ≡ damaged →
           Planned g disk slot state (number .0)
           (plansBy (cond damaged plan.Back (plan.Path number (trail .nodes) Offered)))
       unfolding after
-      planned-placed true d = planned-back (λ content. blocked-next content ∙ d)
+      planned-placed true d = planned-back (λ offered. blocked-next offered ∙ d)
       planned-placed false d =
           record {
             chosen = chosen;
-            half-is = λ content random.
-                half-by model.placeHidden e content random (blocked-next content ∙ d)
-                ∙ placed-by content random (state .offer) (stale .1)
-                ∙ ap (λ (xs : List Bytes). half (pathStores g (number .0) slot content xs) after)
+            half-is = λ offered random.
+                half-by model.placeHidden e offered random (blocked-next offered ∙ d)
+                ∙ placed-by offered random (state .offer) (stale .1)
+                ∙ ap (λ (xs : List Bytes). half (pathStores g (number .0) slot offered xs) after)
                 (sym (blocks-walked g disk (number .0) trail walked));
             placed = placed-walked g disk (number .0) trail walked;
           }
@@ -254,14 +227,14 @@ module _ (g : Geometry) (disk : Bytes) (slot : ℕ) (state : State) (number : Hi
     planned-filled :
         rows.hiddenOf (row .hidden) ≡ model.fillHidden →
         Planned g disk slot state (number .0) (plansBy plan.Fill)
-    unfolding hiddenBy
     planned-filled e =
         let stale = stale-of-fill (isLive g disk slot) (isWaitingOffer (state .offer))
         (rule model.fillHidden e) in
         record {
           chosen = chosen;
-          half-is = λ content random.
-              half-by model.fillHidden e content random (blocked-is content ∙ rw (sound, stale .0, stale .1));
+          half-is = λ offered random.
+              half-by model.fillHidden e offered random (blocked-is offered ∙ rw (sound, stale .0, stale .1))
+              ∙ hiddenBy-fill g disk slot random _ _;
           placed = tt;
         }
 
@@ -279,14 +252,14 @@ module _ (g : Geometry) (disk : Bytes) (slot : ℕ) (state : State) (number : Hi
       (hidden : HiddenPlan) → HalfPlanned g disk (row .hidden) owner number hidden → (after : State) →
       after ≡ stateAfter state hidden →
       Planned g disk slot state (number .0)
-      (record { public = row .public; hidden = hidden; after = after })
+      (record { choice = row .public; plan = hidden; after = after })
   planned hidden h after a =
       subst
       (λ (later : State). Planned g disk slot state (number .0)
-      (record { public = row .public; hidden = hidden; after = later }))
+      (record { choice = row .public; plan = hidden; after = later }))
       (sym a) (by (bool-cases (isDamagedFor owner)))
     where
       by : (isDamagedFor owner ≡ true) ⊎ (isDamagedFor owner ≡ false) →
           Planned g disk slot state (number .0) (plansBy hidden)
-      by (inl d) = planned-as (h .stopped d) (planned-back (λ content. blocked-is content ∙ rw d))
+      by (inl d) = planned-as (h .stopped d) (planned-back (λ offered. blocked-is offered ∙ rw d))
       by (inr d) = planned-by d (row .hidden) refl hidden (h .chosen d)

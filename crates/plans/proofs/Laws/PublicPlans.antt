@@ -10,8 +10,9 @@ use Rattle.model.specs.Geometry.{Geometry}
 use Rattle.model.specs.Blocks.{Bytes, DiskAddress}
 use Rattle.model.specs.Layout.{Drive, slotOf, isShared, mapEntry}
 use Rattle.model.specs.Stores.{Trace}
-use Rattle.model.specs.Rounds.{mapStore, mapStores}
+use Rattle.model.specs.Rounds.{mapStore}
 use Rattle.model.proofs.Laws.PublicHalf.{bitStores-none, bitStores-both, bitStores-each}
+use Rattle.model.proofs.Laws.Traces.{mapStores-keep, mapStores-write}
 use Rattle.layout.specs.declared.numbers.PublicNumber.{PublicNumber}
 use Rattle.table.specs.declared.PublicChoice.{PublicChoice}
 use Rattle.table.specs.declared.PublicChoice.the-variants as choice
@@ -54,19 +55,17 @@ module _ (g : Geometry) (slot : ℕ) (inside : slot < g .slots) (entry : DiskAdd
 
 module _ (g : Geometry) (disk : Bytes) (slot : ℕ) (chosen : PublicChoice) where
   pub public-kept : (number : ℕ) → chosen ≡ choice.Keep → PublicPlanned g disk number slot chosen Keep
-  unfolding mapStores
-  public-kept number e = record { chosen = rw e; stores-are = rw e; placed = tt }
+  public-kept number e = record { chosen = rw e; stores-are = rw (e, mapStores-keep); placed = tt }
 
   pub public-written :
       (number : PublicNumber) → chosen ≡ choice.Write → Drive g disk → number .0 < g .publics →
       (entry : DiskAddress) → entry ≡ mapEntry g disk (number .0) → (bits : Bits) →
       BitsPlanned g slot entry bits → PublicPlanned g disk (number .0) slot chosen (Write number bits)
-  unfolding mapStores
   public-written number e drive counted entry at bits planned =
       record {
         chosen = rw e;
         stores-are =
-            rw (e, ← at)
+            rw (e, mapStores-write, ← at)
             (ap {B = Trace} (λ (xs : Trace). mapStore g disk (number .0) slot ∷ xs)
             (planned .stores-are disk drive));
         placed = (counted, planned .placed);

@@ -1,34 +1,34 @@
 -- Where a planned round stores: the addresses of its stores in order, none of them twice, and that what a
 -- store takes of the disk is none of the blocks stored before it. Assumes nothing.
-use mathlib.Core.Path.{_≡_, refl, sym, ap₂, _∙_}
+use mathlib.Core.Path.{_≡_, sym, ap₂, _∙_}
 use mathlib.Core.Logic.{_≢_, _⊎_, inl, inr}
 use mathlib.Core.Bool.{true}
 use mathlib.Core.List.{List, [], _∷_, _++_, append-assoc}
-use Prim.Native.Nat.{ℕ, zero, suc, _+_, _≤_, _<_}
-use native.Mathlib.Nat.{suc-mul, mul-le-mul-right}
+use Prim.Native.Nat.{ℕ, zero, suc, _≤_, _<_}
 use native.Mathlib.Omega.{arith}
 use lib.ListN.{length, getD, take}
 use lib.Seq.{take-append-le}
 use borrow.Author.Tests.{eqb-false}
-use Rattle.laws.proofs.Cases.{lt-cases}
 use Rattle.laws.proofs.Members.{All, Distinct, distinct-append, distinct-before}
 use Rattle.model.specs.Geometry.{Geometry, Fits, areaStart, rootAddress}
 use Rattle.model.specs.Blocks.{Bytes, DiskAddress}
-use Rattle.model.specs.Layout.{slotStart, slotOf, isWellFormed, bitAddress, mapAddress}
+use Rattle.model.specs.Layout.{Drive, slotStart, slotOf, isWellFormed, bitAddress, mapAddress}
 use Rattle.model.specs.Stores.{Trace, addresses}
 use Rattle.model.specs.Simulator.{addressesFrom}
 use Rattle.model.proofs.Laws.Geometry.{mapAddress-lt, bitAddress-lt, bitAddress-ge}
 use Rattle.model.proofs.Laws.RoundCounts.{length-addressesFrom}
 use Rattle.model.proofs.Laws.RoundStores.{all-addressesFrom, distinct-addressesFrom, take-addressesFrom}
+use Rattle.model.proofs.Laws.SlotStores.{slotBlock-apart}
 use Rattle.model.proofs.Laws.Slots.{slotBlock-of}
 use Rattle.model.proofs.Laws.Stores.{addresses-append, addresses-take, length-addresses}
+use Rattle.model.proofs.Laws.Traces.{addresses-nil, addresses-cons}
 use Rattle.plans.specs.declared.public_plans.Bits.the-variants.{New, Shared, Apart}
 use Rattle.plans.specs.declared.public_plans.PublicPlan.{PublicPlan}
 use Rattle.plans.specs.declared.public_plans.PublicPlan.the-variants.{Keep, Write}
 use Rattle.plans.specs.PublicPlans.{PublicPlaced}
 use Rattle.slot_stores.specs.Slots.{slotTrace}
 use Rattle.slot_stores.proofs.Laws.Addresses.{addresses-slotTrace}
-use Rattle.round_stores.specs.declared.planned.Round.{Round}
+use Rattle.round_stores.specs.declared.planned.PlannedRound.{PlannedRound}
 use Rattle.round_stores.specs.Endings.{endingTrace}
 use Rattle.round_stores.specs.Planned.{plannedTrace, Storable}
 
@@ -45,11 +45,10 @@ endingAddresses (Write number (Apart old)) g slot =
 addresses-endingTrace :
     (public : PublicPlan) (g : Geometry) (disk : Bytes) (slot : ℕ) →
     addresses (endingTrace public g disk slot) ≡ endingAddresses public g slot
-unfolding addresses
-addresses-endingTrace Keep g disk slot = refl
-addresses-endingTrace (Write number New) g disk slot = refl
-addresses-endingTrace (Write number (Shared old)) g disk slot = refl
-addresses-endingTrace (Write number (Apart old)) g disk slot = refl
+addresses-endingTrace Keep g disk slot = simp (addresses-cons, addresses-nil)
+addresses-endingTrace (Write number New) g disk slot = simp (addresses-cons, addresses-nil)
+addresses-endingTrace (Write number (Shared old)) g disk slot = simp (addresses-cons, addresses-nil)
+addresses-endingTrace (Write number (Apart old)) g disk slot = simp (addresses-cons, addresses-nil)
 
 -- all below a bound, and none twice
 abbrev Front : (bound : ℕ) → List DiskAddress → Type 0
@@ -106,18 +105,8 @@ module _ (g : Geometry) (f : Fits g) (slot : ℕ) (inside : slot < g .slots) whe
 
 -- ---- the round ----
 
--- a block of a level of some slot is none of a slot's blocks of lower places
-level-apart :
-    (g : Geometry) (slot other level place : ℕ) → level < g .height → place < suc level →
-    slotStart g other + suc level ≢ slotStart g slot + place
-level-apart g slot other level place h l e = by (lt-cases other slot)
-  where
-    by : (other < slot) ⊎ (slot ≤ other) → ⊥
-    by (inl k) = omega (arith, mul-le-mul-right (g .height + 1) k, suc-mul other (g .height + 1))
-    by (inr k) = omega (arith, mul-le-mul-right (g .height + 1) k)
-
-module _ {g : Geometry} {disk : Bytes} {round : Round} {content offered random : Bytes}
-    (storable : Storable g disk round content offered random) where
+module _ {g : Geometry} {disk : Bytes} {round : PlannedRound} {content offered random : Bytes}
+    (drive : Drive g disk) (storable : Storable g round content offered random) where
   abbrev trace : Trace
   trace = plannedTrace round g disk content offered random
 
@@ -133,7 +122,7 @@ module _ {g : Geometry} {disk : Bytes} {round : Round} {content offered random :
       addresses-append (slotTrace (round .public) (round .hidden) g disk slot content offered random)
       (endingTrace (round .public) g disk slot)
       ∙ ap₂ (λ (xs ys : List ℕ). xs ++ ys)
-      (addresses-slotTrace g disk (storable .drive) slot (storable .placed .slot-inside) offered random
+      (addresses-slotTrace g disk drive slot (storable .placed .slot-inside) offered random
       (storable .offered-whole) (storable .random-enough) content (round .public) (round .hidden)
       (storable .placed .hidden-placed))
       (addresses-endingTrace (round .public) g disk slot)
@@ -142,7 +131,7 @@ module _ {g : Geometry} {disk : Bytes} {round : Round} {content offered random :
 
   distinct-planned : Distinct (addresses trace)
   distinct-planned =
-      let below = front-placed g (storable .drive .fits) slot (storable .placed .slot-inside)
+      let below = front-placed g (drive .fits) slot (storable .placed .slot-inside)
       (round .public) (storable .placed .public-placed) in
       rw addresses-planned
       (distinct-append (λ (a : ℕ). areaStart g ≤ a) (λ (a : ℕ). a < areaStart g) (λ x y h k e. omega arith)
@@ -169,7 +158,8 @@ module _ {g : Geometry} {disk : Bytes} {round : Round} {content offered random :
         take-addressesFrom (slotStart g slot) (suc level) (suc (g .height)) (omega arith),
       )
       (all-addressesFrom (λ (other : ℕ). address ≢ other) (slotStart g slot) (suc level)
-      (λ i l q. level-apart g slot (slotOf g address) level i (omega arith) l (sym (block .address-is) ∙ q)))
+      (λ i l q.
+      slotBlock-apart g slot (slotOf g address) level i (omega arith) l (sym (block .address-is) ∙ q)))
 
   pub takes-apart :
       (place : ℕ) (address own : DiskAddress) → place < length trace → own ≡ getD (addresses trace) place 0 →

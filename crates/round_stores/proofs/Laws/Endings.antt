@@ -13,7 +13,7 @@ use Rattle.model.specs.Layout.{slotStart, nextSlot, mapAddress, bitAddress, bit
 use Rattle.model.specs.Stores.{Trace, store}
 use Rattle.model.specs.Rounds.{mapStore, bitStore, headerStore}
 use Rattle.model.proofs.Laws.Geometry.{mapAddress-lt, bitAddress-lt}
-use Rattle.model.proofs.Laws.Bitmap.{bitPlace-byte-lt}
+use Rattle.model.proofs.Laws.Bitmap.{bitmapWith-is, bitPlace-byte-lt}
 use Rattle.model.proofs.Laws.PublicMap.{map-index-fits}
 use Rattle.layout.specs.declared.numbers.DiskAddress.{DiskAddress}
 use Rattle.stores.specs.declared.changes.Change.the-variants.{Nothing, Entry, Bit}
@@ -46,10 +46,9 @@ module _ (g : Geometry) (f : Fits g) where
       address .0 ≡ bitAddress g slot → bit ≡ bitPlace g slot → {descriptor : Descriptor} →
       descriptor ≡ ownOf address (Bit bit isSet) Nothing → (place : ℕ) →
       Describes g place (λ disk content offered random. bitStore g disk slot isSet) descriptor
-  unfolding bitmapWith
   describes-bit slot isSet inside address bit e b d place =
       describes-own address (Bit bit isSet) Nothing d (omega (arith, bitAddress-lt g f slot inside))
-      (rw b (bitPlace-byte-lt g f slot)) tt (λ disk content offered random. rw (e, b))
+      (rw b (bitPlace-byte-lt g f slot)) tt (λ disk content offered random. rw (e, b, bitmapWith-is))
 
   pub describes-both-bits :
       (slot old : ℕ) → slot < g .slots → (address : DiskAddress) (new-bit old-bit : ℕ) →
@@ -58,11 +57,10 @@ module _ (g : Geometry) (f : Fits g) where
       descriptor ≡ ownOf address (Bit new-bit true) (Bit old-bit false) → (place : ℕ) →
       Describes g place (λ disk content offered random.
       store (bitAddress g slot) (setBit (bitPlace g old) false (bitmapWith g disk slot true))) descriptor
-  unfolding bitmapWith
   describes-both-bits slot old inside address new-bit old-bit e n o d place =
       describes-own address (Bit new-bit true) (Bit old-bit false) d
       (omega (arith, bitAddress-lt g f slot inside)) (rw n (bitPlace-byte-lt g f slot))
-      (rw o (bitPlace-byte-lt g f old)) (λ disk content offered random. rw (e, n, o))
+      (rw o (bitPlace-byte-lt g f old)) (λ disk content offered random. rw (e, n, o, bitmapWith-is))
 
   pub describes-header :
       (slot : ℕ) (address : DiskAddress) → address .0 ≡ 0 → {descriptor : Descriptor} →

@@ -11,14 +11,14 @@ use Rattle.stores.specs.Described.{storeAt, Describes}
 use Rattle.slot_stores.specs.Slots.{slotTrace}
 use Rattle.slot_stores.proofs.Laws.Places.{length-slotTrace}
 use Rattle.stores.proofs.Laws.Described.{storeAt-first, storeAt-past, describes-same}
-use Rattle.round_stores.specs.declared.planned.Round.{Round}
+use Rattle.round_stores.specs.declared.planned.PlannedRound.{PlannedRound}
 use Rattle.round_stores.specs.Endings.{endingTrace}
 use Rattle.round_stores.specs.Planned.{plannedTrace, plannedCount}
 use Rattle.round_stores.proofs.Laws.Endings.{length-endingTrace}
 
 -- ---- a store of a round ----
 
-module _ (g : Geometry) (f : Fits g) (round : Round) {place : ℕ} {descriptor : Descriptor} where
+module _ (g : Geometry) (f : Fits g) (round : PlannedRound) {place : ℕ} {descriptor : Descriptor} where
   pub describes-in-slot :
       place < g .height + 2 →
       Describes g place (λ disk content offered random.
@@ -49,7 +49,7 @@ module _ (g : Geometry) (f : Fits g) (round : Round) {place : ℕ} {descriptor :
 -- ---- count ----
 
 pub length-plannedTrace :
-    (g : Geometry) → Fits g → (round : Round) (disk content offered random : Bytes) →
+    (g : Geometry) → Fits g → (round : PlannedRound) (disk content offered random : Bytes) →
     length (plannedTrace round g disk content offered random) ≡ plannedCount g round
 length-plannedTrace g f round disk content offered random =
     let slotted = slotTrace (round .public) (round .hidden) g disk (round .slot) content offered random in

@@ -9,7 +9,7 @@ use native.Mathlib.Omega.{arith}
 use lib.ListN.{length, drop, length-append, length-drop}
 use lib.Seq.{drop-drop}
 use Rattle.laws.proofs.Cases.{cond-true, cond-false}
-use Rattle.model.specs.Geometry.{Geometry}
+use Rattle.model.specs.Geometry.{Geometry, blockWidth}
 use Rattle.model.specs.Blocks.{Bytes, DiskAddress}
 use Rattle.model.specs.Layout.{Drive, nextSlot}
 use Rattle.model.specs.Stores.{Trace, apply}
@@ -20,28 +20,27 @@ use Rattle.model.proofs.Laws.HiddenHalf.{WholeWrite, hiddenHalf-hides}
 use Rattle.model.proofs.Laws.Paths.{Hides}
 use Rattle.model.proofs.Laws.Places.{Placed}
 use Rattle.model.proofs.Laws.RoundStores.{Round, round-stored}
+use Rattle.model.proofs.Laws.RunSteps.{after, after-nothing, after-round, after-stopped, restBy}
+use Rattle.model.proofs.Laws.RunSteps.{runFrom-suc, runFrom-zero, keep-of-goesOn}
 use Rattle.model.proofs.Laws.Slots.{nextSlot-lt}
 use Rattle.model.proofs.Laws.Wrote.{placed-kept}
 use Rattle.layout.proofs.Laws.PublicMap.{entry-of-placed}
-use Rattle.stores.specs.Made.{Made}
-use Rattle.stores.proofs.Laws.Made.{made-nothing, made-then, drive-made, length-made-list}
+use Rattle.stores.specs.Made.{LentFor, Made}
+use Rattle.stores.proofs.Laws.Made.{disk-after, next-after, made-nothing, made-then, drive-made}
+use Rattle.stores.proofs.Laws.Made.{length-made-list}
 use Rattle.plans.specs.declared.states.State.{State}
 use Rattle.rounds.specs.declared.rounds.Step.{Step}
 use Rattle.plans.specs.States.{stateOf}
-use Rattle.rounds.specs.Rounds.{choiceAt, roundAt, Ready, Stepped}
+use Rattle.rounds.specs.Rounds.{choiceAt, roundAt, RoundReady, RoundDone}
 use Rattle.rounds.specs.Runs.{Runnable}
 use Rattle.rounds.proofs.Laws.Steps.{waiting-whole}
-use Rattle.rounds.proofs.Laws.Runs.{after, after-nothing, after-round, after-stopped, restBy}
-use Rattle.rounds.proofs.Laws.Runs.{runFrom-round, runFrom-zero, keep-of-goes-on}
 
 -- what holds whenever the loop's test is reached
-pub record Going (g : Geometry) (number : ℕ) (content random hidden : Bytes) (offered : ℕ) (run : Run)
-    (disk : Bytes)
-    (list : List DiskAddress) (next : ℕ) (diskNow : Bytes) (listNow : List DiskAddress) (slot at : ℕ)
-    (state : State)
-    (done : ℕ) : Type 0 where
+pub record Going (g : Geometry) (number : ℕ) (content random offered : Bytes) (hiddenNumber : ℕ) (run : Run)
+    (disk : Bytes) (list : List DiskAddress) (first : ℕ) (diskNow : Bytes) (listNow : List DiskAddress)
+    (slot next : ℕ) (state : State) (done : ℕ) : Type 0 where
   pub front : Trace
-  pub made : Made (g .blockSize) front disk list next diskNow listNow at
+  pub made : Made (blockWidth g) front disk list first diskNow listNow next
   pub within : done ≤ g .slots
   pub drive : Drive g diskNow
   pub inside : slot < g .slots
@@ -49,22 +48,22 @@ pub record Going (g : Geometry) (number : ℕ) (content random hidden : Bytes) (
   pub list-kept : length listNow ≡ length list
   pub run-is :
       run ≡ after front done (runFrom (g .slots - done) g number content slot
-      (drop (done * (g .height * g .blockSize)) random) diskNow (stateOf state offered hidden))
+      (drop (done * (g .height * g .blockSize)) random) diskNow (stateOf state hiddenNumber offered))
 
-module _ (g : Geometry) (number : ℕ) (content random hidden : Bytes) (offered : ℕ) (disk : Bytes) (head : ℕ)
-    (list : List DiskAddress) (next : ℕ) (state : State) where
+module _ (g : Geometry) (number : ℕ) (content random offered : Bytes) (hiddenNumber : ℕ) (disk : Bytes)
+    (head : ℕ) (list : List DiskAddress) (first : ℕ) (state : State) where
   abbrev pub theRun : Run
-  theRun = runFrom (g .slots) g number content head random disk (stateOf state offered hidden)
+  theRun = runFrom (g .slots) g number content head random disk (stateOf state hiddenNumber offered)
 
   pub going-none :
-      Runnable g disk number head content random hidden theRun next (length list) →
-      Going g number content random hidden offered theRun disk list next disk list head next state 0
+      Runnable g disk number head content random offered theRun first (length list) →
+      Going g number content random offered hiddenNumber theRun disk list first disk list head first state 0
   going-none r =
       let e : g .slots ≡ g .slots - 0 = omega arith in
       let z : 0 ≡ 0 * (g .height * g .blockSize) = omega arith in
       record {
         front = [];
-        made = made-nothing (g .blockSize) disk list next (omega (arith, r .room-enough));
+        made = made-nothing (blockWidth g) disk list first (omega (arith, r .room-enough));
         within = omega arith;
         drive = r .drive;
         inside = r .head-inside;
@@ -73,19 +72,19 @@ module _ (g : Geometry) (number : ℕ) (content random hidden : Bytes) (offered 
         run-is =
             after-nothing theRun
             ∙ ap₂ (λ (n m : ℕ).
-            after [] 0 (runFrom n g number content head (drop m random) disk (stateOf state offered hidden)))
-            e z;
+            after [] 0 (runFrom n g number content head (drop m random) disk
+            (stateOf state hiddenNumber offered))) e z;
       }
 
-module _ {g : Geometry} {number head : ℕ} {content random hidden : Bytes} {offered : ℕ} {run : Run}
-    {disk : Bytes} {list : List DiskAddress} {next : ℕ}
-    (ready : Runnable g disk number head content random hidden run next (length list)) {diskNow : Bytes}
-    {listNow : List DiskAddress} {slot at : ℕ} {state : State} {done : ℕ}
-    (going : Going g number content random hidden offered run disk list next diskNow listNow slot at state
-    done)
+module _ {g : Geometry} {number head : ℕ} {content random offered : Bytes} {hiddenNumber : ℕ} {run : Run}
+    {disk : Bytes} {list : List DiskAddress} {first : ℕ}
+    (ready : Runnable g disk number head content random offered run first (length list)) {diskNow : Bytes}
+    {listNow : List DiskAddress} {slot next : ℕ} {state : State} {done : ℕ}
+    (going : Going g number content random offered hiddenNumber run disk list first diskNow listNow slot next
+    state done)
   where
     abbrev stateNow : HiddenState
-    stateNow = stateOf state offered hidden
+    stateNow = stateOf state hiddenNumber offered
 
     abbrev randomNow : Bytes
     randomNow = drop (done * (g .height * g .blockSize)) random
@@ -96,7 +95,7 @@ module _ {g : Geometry} {number head : ℕ} {content random hidden : Bytes} {off
     abbrev rest : Run
     rest =
         restBy (choiceAt g diskNow slot stateNow) (g .slots - (done + 1)) g number content (nextSlot g slot)
-        (drop (g .height * g .blockSize) randomNow) (apply (g .blockSize) round diskNow)
+        (drop (g .height * g .blockSize) randomNow) (apply (blockWidth g) round diskNow)
         (hiddenHalf g diskNow slot randomNow stateNow .state)
 
     pub going-over :
@@ -109,9 +108,9 @@ module _ {g : Geometry} {number head : ℕ} {content random hidden : Bytes} {off
         ∙ ap (after (going .front) done) (runFrom-zero g number content slot randomNow diskNow stateNow)
         ∙ after-stopped (going .front) done stateNow
 
-    pub made-over : g .slots ≤ done → Made (g .blockSize) (run .trace) disk list next diskNow listNow at
+    pub made-over : g .slots ≤ done → Made (blockWidth g) (run .trace) disk list first diskNow listNow next
     made-over h =
-        subst (λ (r : Run). Made (g .blockSize) (r .trace) disk list next diskNow listNow at)
+        subst (λ (r : Run). Made (blockWidth g) (r .trace) disk list first diskNow listNow next)
         (sym (going-over h))
         (going .made)
 
@@ -123,7 +122,7 @@ module _ {g : Geometry} {number head : ℕ} {content random hidden : Bytes} {off
           ∙ ap (λ (n : ℕ). after (going .front) done (runFrom n g number content slot randomNow diskNow
           stateNow)) e
           ∙ ap (after (going .front) done)
-          (runFrom-round (g .slots - (done + 1)) g number content slot randomNow diskNow stateNow)
+          (runFrom-suc (g .slots - (done + 1)) g number content slot randomNow diskNow stateNow)
           ∙ after-round (going .front) done round rest
 
       pub random-from : done * (g .height * g .blockSize) + g .height * g .blockSize ≤ length random
@@ -137,7 +136,7 @@ module _ {g : Geometry} {number head : ℕ} {content random hidden : Bytes} {off
             ready .random-enough,
           )
 
-      pub round-room : at + length round ≤ length listNow
+      round-room : next + length round ≤ length listNow
       round-room =
           let longs : length (run .trace) ≡ length ((going .front ++ round) ++ rest .trace) =
           ap (λ (r : Run). length (r .trace)) run-round in
@@ -146,22 +145,25 @@ module _ {g : Geometry} {number head : ℕ} {content random hidden : Bytes} {off
             longs,
             length-append (going .front ++ round) (rest .trace),
             length-append (going .front) round,
-            going .made .counted,
+            next-after (going .made),
             going .list-kept,
             ready .room-enough,
           )
 
+      pub round-lent : {buffer : Bytes} → length buffer ≡ g .blockSize →
+          LentFor g diskNow buffer listNow next (length round)
+      round-lent whole = record { drive = going .drive; whole = whole; room = round-room }
+
       random-here : g .height * g .blockSize ≤ length randomNow
       random-here = simp length-drop (omega (arith, random-from))
 
-      pub round-ready : Ready g diskNow number slot content randomNow hidden
+      pub round-ready : RoundReady g diskNow number slot content randomNow offered
       round-ready =
           record {
-            drive = going .drive;
             number-inside = ready .number-inside;
             slot-inside = going .inside;
             content-whole = ready .content-whole;
-            hidden-whole = ready .hidden-whole;
+            offered-whole = ready .offered-whole;
             random-enough = random-here;
             old-entry = entry-of-placed g diskNow number (going .placed);
           }
@@ -170,8 +172,8 @@ module _ {g : Geometry} {number head : ℕ} {content random hidden : Bytes} {off
       hides =
           hiddenHalf-hides g (going .drive .fits) diskNow (going .drive .whole) slot (going .inside) randomNow
           random-here
-          (WholeWrite g) (λ write h. h) stateNow (waiting-whole g (state .offer) offered hidden
-          (ready .hidden-whole)) .hides
+          (WholeWrite g) (λ write h. h) stateNow (waiting-whole g (state .offer) hiddenNumber offered
+          (ready .offered-whole)) .hides
 
       this-round : Round g diskNow number slot content (hiddenHalf g diskNow slot randomNow stateNow .trace)
       this-round =
@@ -186,14 +188,13 @@ module _ {g : Geometry} {number head : ℕ} {content random hidden : Bytes} {off
           }
 
       module _ {diskAfter : Bytes} {listAfter : List DiskAddress} {step : Step}
-          (stepped : Stepped g diskNow listNow at number slot content randomNow state offered hidden diskAfter
-          listAfter
-          step) where
-        made-round : Made (g .blockSize) (going .front ++ round) disk list next diskAfter listAfter
+          (stepped : RoundDone g diskNow listNow next number slot content randomNow state hiddenNumber offered
+          diskAfter listAfter step) where
+        made-round : Made (blockWidth g) (going .front ++ round) disk list first diskAfter listAfter
             (step .next)
         made-round =
-            made-then (going .front) round (omega (arith, round-room, going .made .counted, going .list-kept))
-            (going .made)
+            made-then (going .front) round
+            (omega (arith, round-room, next-after (going .made), going .list-kept)) (going .made)
             (stepped .made)
 
         -- no other round follows: all of the run is done
@@ -202,7 +203,7 @@ module _ {g : Geometry} {number head : ℕ} {content random hidden : Bytes} {off
             run ≡ record {
               trace = going .front ++ round;
               rounds = done + 1;
-              state = stateOf (step .state) offered hidden;
+              state = stateOf (step .state) hiddenNumber offered;
             }
         run-ends e =
             run-round
@@ -212,22 +213,22 @@ module _ {g : Geometry} {number head : ℕ} {content random hidden : Bytes} {off
             (sym (stepped .state-is))
 
         pub made-ends :
-            step .«goes_on» ≡ false → Made (g .blockSize) (run .trace) disk list next diskAfter listAfter
+            step .«goes_on» ≡ false → Made (blockWidth g) (run .trace) disk list first diskAfter listAfter
             (step .next)
         made-ends e =
-            subst (λ (r : Run). Made (g .blockSize) (r .trace) disk list next diskAfter listAfter
+            subst (λ (r : Run). Made (blockWidth g) (r .trace) disk list first diskAfter listAfter
             (step .next))
             (sym (run-ends e)) made-round
 
         -- another round follows
         pub going-next :
             step .«goes_on» ≡ true →
-            Going g number content random hidden offered run disk list next diskAfter listAfter
+            Going g number content random offered hiddenNumber run disk list first diskAfter listAfter
             (nextSlot g slot)
             (step .next) (step .state) (done + 1)
         going-next e =
             let on : goesOn (choiceAt g diskNow slot stateNow) ≡ true = sym (stepped .goes-on) ∙ e in
-            let kept = keep-of-goes-on (choiceAt g diskNow slot stateNow) on in
+            let kept = keep-of-goesOn (choiceAt g diskNow slot stateNow) on in
             record {
               front = going .front ++ round;
               made = made-round;
@@ -237,9 +238,9 @@ module _ {g : Geometry} {number head : ℕ} {content random hidden : Bytes} {off
                   (round-stored this-round (choiceAt g diskNow slot stateNow));
               inside = nextSlot-lt g slot (going .drive .fits);
               placed =
-                  subst (λ (d : Bytes). Placed g d number) (sym (stepped .made .on-disk))
+                  subst (λ (d : Bytes). Placed g d number) (sym (disk-after (stepped .made)))
                   (subst (λ (choice : PublicChoice).
-                  Placed g (apply (g .blockSize) (roundTrace choice g diskNow number slot content
+                  Placed g (apply (blockWidth g) (roundTrace choice g diskNow number slot content
                   (hiddenHalf g diskNow slot randomNow stateNow .trace)) diskNow) number) (sym kept)
                   (placed-kept this-round));
               list-kept = length-made-list (stepped .made) round-room ∙ going .list-kept;
@@ -250,11 +251,11 @@ module _ {g : Geometry} {number head : ℕ} {content random hidden : Bytes} {off
           where
             rest-same :
                 runFrom (g .slots - (done + 1)) g number content (nextSlot g slot)
-                (drop (g .height * g .blockSize) randomNow) (apply (g .blockSize) round diskNow)
+                (drop (g .height * g .blockSize) randomNow) (apply (blockWidth g) round diskNow)
                 (hiddenHalf g diskNow slot randomNow stateNow .state) ≡
                 runFrom (g .slots - (done + 1)) g number content (nextSlot g slot)
                 (drop ((done + 1) * (g .height * g .blockSize)) random) diskAfter
-                (stateOf (step .state) offered hidden)
+                (stateOf (step .state) hiddenNumber offered)
             rest-same =
                 let width : ℕ = g .height * g .blockSize in
                 let moved : done * (g .height * g .blockSize) + g .height * g .blockSize ≡
@@ -266,16 +267,18 @@ module _ {g : Geometry} {number head : ℕ} {content random hidden : Bytes} {off
                 ∙ ap (λ (n : ℕ). drop n random) moved in
                 ap₂ (λ (xs ds : Bytes).
                 runFrom (g .slots - (done + 1)) g number content (nextSlot g slot) xs ds
-                (hiddenHalf g diskNow slot randomNow stateNow .state)) dropped (sym (stepped .made .on-disk))
+                (hiddenHalf g diskNow slot randomNow stateNow .state)) dropped
+                (sym (disk-after (stepped .made)))
                 ∙ ap (runFrom (g .slots - (done + 1)) g number content (nextSlot g slot)
                 (drop ((done + 1) * (g .height * g .blockSize)) random) diskAfter) (sym (stepped .state-is))
 
 -- the loop's invariant: that, and a buffer as long as it was
-pub record Looping (g : Geometry) (number : ℕ) (content random hidden : Bytes) (offered : ℕ) (run : Run)
-    (disk : Bytes)
-    (list : List DiskAddress) (next : ℕ) (block diskNow : Bytes) (listNow : List DiskAddress)
-    (blockNow : Bytes) (slot at : ℕ) (state : State) (done : ℕ) : Type 0 where
-  pub going : Going g number content random hidden offered run disk list next diskNow listNow slot at state
-      done
-  pub disk-kept : length diskNow ≡ length disk
-  pub block-kept : length blockNow ≡ length block
+pub record Looping (g : Geometry) (number : ℕ) (content random offered : Bytes) (hiddenNumber : ℕ) (run : Run)
+    (disk : Bytes) (list : List DiskAddress) (first : ℕ) (buffer diskNow : Bytes)
+    (listNow : List DiskAddress) (bufferNow : Bytes) (slot next : ℕ) (state : State) (done : ℕ) : Type 0
+  where
+    pub going :
+        Going g number content random offered hiddenNumber run disk list first diskNow listNow slot next state
+        done
+    pub disk-kept : length diskNow ≡ length disk
+    pub buffer-kept : length bufferNow ≡ length buffer

@@ -11,9 +11,9 @@ use native.Mathlib.Omega.{arith}
 use lib.ListN.{length, getD, take}
 use lib.Seq.{take-suc, take-all, length-take-le}
 use Rattle.laws.proofs.Members.{All, all-append}
-use Rattle.model.specs.Geometry.{Geometry, blockCount}
+use Rattle.model.specs.Geometry.{Geometry, blockCount, blockWidth}
 use Rattle.model.specs.Blocks.{Bytes, DiskAddress}
-use Rattle.model.specs.Layout.{Drive, levelPlace}
+use Rattle.model.specs.Layout.{levelPlace}
 use Rattle.model.specs.Stores.{Store, Trace, store, addresses}
 use Rattle.model.proofs.Laws.Slots.{slotBlock-of}
 use Rattle.model.proofs.Laws.Stores.{Stored, getD-addresses}
@@ -23,54 +23,52 @@ use Rattle.stores.specs.declared.descriptors.Descriptor.{Descriptor}
 use Rattle.stores.specs.Changes.{changed}
 use Rattle.stores.specs.Descriptors.{sourceBlock, Takeable, storeOf, Makeable}
 use Rattle.stores.specs.Described.{storeAt, Takes, Describes}
-use Rattle.stores.specs.Made.{Made}
+use Rattle.stores.specs.Made.{LentFor, Made}
 use Rattle.stores.proofs.Laws.Descriptors.{storeOf-stored}
-use Rattle.stores.proofs.Laws.Made.{made-nothing, made-store, made-then, length-made-list, drive-made}
-use Rattle.stores.proofs.Laws.Made.{blockAt-made-outside}
-use Rattle.round_stores.specs.declared.planned.Round.{Round}
+use Rattle.stores.proofs.Laws.Made.{next-after, made-nothing, made-store, made-then, length-made-list}
+use Rattle.stores.proofs.Laws.Made.{blockAt-made-outside, drive-made}
+use Rattle.round_stores.specs.declared.planned.PlannedRound.{PlannedRound}
 use Rattle.round_stores.specs.Planned.{plannedTrace, Storable}
 use Rattle.round_stores.proofs.Laws.Addresses.{takes-apart}
 
 -- so many stores of a trace are made, each whole and inside the drive
-pub record SoFar (g : Geometry) (trace : Trace) (disk : Bytes) (list : List DiskAddress) (next : ℕ)
-    (diskNow : Bytes) (listNow : List DiskAddress) (place at : ℕ) : Type 0 where
+pub record SoFar (g : Geometry) (trace : Trace) (disk : Bytes) (list : List DiskAddress) (first : ℕ)
+    (diskNow : Bytes) (listNow : List DiskAddress) (place next : ℕ) : Type 0 where
   pub within : place ≤ length trace
-  pub made : Made (g .blockSize) (take place trace) disk list next diskNow listNow at
-  pub stored : All (Stored (g .blockSize) (blockCount g)) (take place trace)
+  pub made : Made (blockWidth g) (take place trace) disk list first diskNow listNow next
+  pub stored : All (Stored (blockWidth g) (blockCount g)) (take place trace)
 
 pub none-so-far :
-    (g : Geometry) (trace : Trace) (disk : Bytes) (list : List DiskAddress) (next : ℕ) → next ≤ length list →
-    SoFar g trace disk list next disk list 0 next
-none-so-far g trace disk list next room =
-    record { within = omega arith; made = made-nothing (g .blockSize) disk list next room; stored = tt }
+    (g : Geometry) (trace : Trace) (disk : Bytes) (list : List DiskAddress) (first : ℕ) →
+    first ≤ length list → SoFar g trace disk list first disk list 0 first
+none-so-far g trace disk list first room =
+    record { within = omega arith; made = made-nothing (blockWidth g) disk list first room; stored = tt }
 
 pub all-made :
     {g : Geometry} {trace : Trace} {disk diskNow : Bytes} {list listNow : List DiskAddress}
-    {next place at : ℕ} → SoFar g trace disk list next diskNow listNow place at → length trace ≤ place →
-    Made (g .blockSize) trace disk list next diskNow listNow at
-all-made {g} {trace} {disk} {diskNow} {list} {listNow} {next} {place} {at} so h =
-    subst (λ (xs : Trace). Made (g .blockSize) xs disk list next diskNow listNow at) (take-all place trace h)
+    {first place next : ℕ} → SoFar g trace disk list first diskNow listNow place next → length trace ≤ place →
+    Made (blockWidth g) trace disk list first diskNow listNow next
+all-made {g} {trace} {disk} {diskNow} {list} {listNow} {first} {place} {next} so h =
+    subst (λ (xs : Trace). Made (blockWidth g) xs disk list first diskNow listNow next)
+    (take-all place trace h)
     (so .made)
 
 -- what holds whenever the loop's test is reached: so many stores are made, and what is lent is as long as it
 -- was
-pub record Storing (g : Geometry) (trace : Trace) (disk : Bytes) (list : List DiskAddress) (next : ℕ)
-    (block : Bytes) (diskNow : Bytes) (listNow : List DiskAddress) (blockNow : Bytes) (place at : ℕ) :
+pub record Storing (g : Geometry) (trace : Trace) (disk : Bytes) (list : List DiskAddress) (first : ℕ)
+    (buffer : Bytes) (diskNow : Bytes) (listNow : List DiskAddress) (bufferNow : Bytes) (place next : ℕ) :
     Type 0 where
-  pub so-far : SoFar g trace disk list next diskNow listNow place at
+  pub so-far : SoFar g trace disk list first diskNow listNow place next
   pub disk-kept : length diskNow ≡ length disk
   pub list-kept : length listNow ≡ length list
-  pub block-kept : length blockNow ≡ length block
+  pub buffer-kept : length bufferNow ≡ length buffer
 
 -- ---- a turn ----
 
-module _ {g : Geometry} {disk : Bytes} {round : Round} {content offered random : Bytes}
-    (storable : Storable g disk round content offered random) where
-  abbrev trace : Trace
-  trace = plannedTrace round g disk content offered random
-
+module _ {g : Geometry} {round : PlannedRound} {content offered random : Bytes}
+    (storable : Storable g round content offered random) where
   -- the store at a place of the round, on every disk
-  abbrev pub StoreOf : (place : ℕ) → Descriptor → Type 0
+  abbrev StoreOf : (place : ℕ) → Descriptor → Type 0
   StoreOf place descriptor =
       Describes g place (λ disk content offered random.
       storeAt place (plannedTrace round g disk content offered random)) descriptor
@@ -101,17 +99,31 @@ module _ {g : Geometry} {disk : Bytes} {round : Round} {content offered random :
           second-inside = described .second-inside;
         }
 
-    module _ {diskNow : Bytes} {list listNow : List DiskAddress} {next at : ℕ}
-        (room : next + length trace ≤ length list)
-        (so : SoFar g trace disk list next diskNow listNow place at) (more : place < length trace) where
-      pub turn-drive : Drive g diskNow
-      turn-drive = drive-made g (so .made) (storable .drive) (so .stored)
+    module _ {disk buffer diskNow : Bytes} {list listNow : List DiskAddress} {first next : ℕ}
+        (lent : LentFor g disk buffer list first (length (plannedTrace round g disk content offered random)))
+        (so : SoFar g (plannedTrace round g disk content offered random) disk list first diskNow listNow place
+        next) (more : place < length (plannedTrace round g disk content offered random)) where
+      abbrev trace : Trace
+      trace = plannedTrace round g disk content offered random
 
       long : length (take place trace) ≡ place
       long = length-take-le place trace (so .within)
 
-      pub turn-room : at < length listNow
-      turn-room = omega (arith, so .made .counted, long, length-made-list (so .made) (omega (arith, long)))
+      pub turn-lent : {bufferNow : Bytes} → length bufferNow ≡ length buffer →
+          LentFor g diskNow bufferNow listNow next 1
+      turn-lent kept =
+          record {
+            drive = drive-made g (so .made) (lent .drive) (so .stored);
+            whole = kept ∙ lent .whole;
+            room =
+                omega (
+                  arith,
+                  next-after (so .made),
+                  long,
+                  length-made-list (so .made) (omega (arith, long, lent .room)),
+                  lent .room,
+                );
+          }
 
       own-is : descriptor .address .0 ≡ getD (addresses trace) place 0
       own-is =
@@ -124,8 +136,8 @@ module _ {g : Geometry} {disk : Bytes} {round : Round} {content offered random :
           sourceBlock source g diskNow content offered random ≡
           sourceBlock source g disk content offered random
       source-kept (Disk address) takes =
-          blockAt-made-outside (so .made) (blockCount g) (address .0) (storable .drive .whole) (so .stored)
-          (takes-apart storable place (address .0) (descriptor .address .0) more own-is takes)
+          blockAt-made-outside (so .made) (blockCount g) (address .0) (lent .drive .whole) (so .stored)
+          (takes-apart (lent .drive) storable place (address .0) (descriptor .address .0) more own-is takes)
       source-kept Zeros takes = refl
       source-kept Content takes = refl
       source-kept Offered takes = refl
@@ -141,22 +153,22 @@ module _ {g : Geometry} {disk : Bytes} {round : Round} {content offered random :
 
       pub turn-made :
           {after : Bytes} {entered : List DiskAddress} {last : ℕ} →
-          Made (g .blockSize) (storeOf descriptor g diskNow content offered random ∷ []) diskNow listNow at
+          Made (blockWidth g) (storeOf descriptor g diskNow content offered random ∷ []) diskNow listNow next
           after entered last →
-          SoFar g trace disk list next after entered (place + 1) last
+          SoFar g trace disk list first after entered (place + 1) last
       turn-made made =
           let here = storeAt place trace in
           let grown : take (place + 1) trace ≡ take place trace ++ (here ∷ []) =
           ap (λ (n : ℕ). take n trace) (add-one place) ∙ take-suc trace place (store 0 []) more in
-          let Whole = Stored (g .blockSize) (blockCount g) in
+          let Whole = Stored (blockWidth g) (blockCount g) in
           let whole : Whole here =
           subst Whole (described .means disk content offered random)
-          (storeOf-stored g disk content offered random (storable .drive) descriptor turn-makeable) in
+          (storeOf-stored g disk content offered random (lent .drive) descriptor turn-makeable) in
           record {
             within = omega arith;
             made =
                 rw grown
-                (made-then (take place trace) (here ∷ []) (omega (arith, long)) (so .made)
+                (made-then (take place trace) (here ∷ []) (omega (arith, long, lent .room)) (so .made)
                 (made-store store-is made));
             stored = rw grown (all-append Whole (take place trace) (here ∷ []) (so .stored) (whole, tt));
           }

@@ -15,6 +15,7 @@ use Rattle.model.proofs.Laws.Geometry.{slot-block-lt}
 use Rattle.model.proofs.Laws.Paths.{Hides, addressesFrom-suc, blockAt-whole}
 use Rattle.model.proofs.Laws.Paths.{writtenBack-hides, dummyStores-hides, pathStores-hides}
 use Rattle.model.proofs.Laws.RoundStores.{publicStore-address}
+use Rattle.model.proofs.Laws.Traces.{addresses-cons}
 use Rattle.hidden_map.specs.Nodes.{addressAt, pathBlocks}
 use Rattle.hidden_map.proofs.Laws.Nodes.{length-nodeBlocks, nodeBlocks-whole}
 use Rattle.plans.specs.declared.hidden_plans.Data.{Data}
@@ -56,9 +57,9 @@ module _ (g : Geometry) (disk : Bytes) (drive : Drive g disk) (slot : ℕ) (insi
   pub addresses-slotTrace :
       (content : Bytes) (public : PublicPlan) (hidden : HiddenPlan) → PathPlaced g hidden →
       addresses (slotTrace public hidden g disk slot content offered random) ≡ slotAddresses g slot
-  unfolding addresses
   addresses-slotTrace content public hidden placed =
-      ap (λ (xs : List ℕ). publicStore (choiceOf public) g disk slot content .address ∷ xs)
+      addresses-cons (publicStore (choiceOf public) g disk slot content) _
+      ∙ ap (λ (xs : List ℕ). publicStore (choiceOf public) g disk slot content .address ∷ xs)
       (hiddenTrace-hides hidden placed .runs)
       ∙ rw (
         publicStore-address (choiceOf public) g disk slot content,

@@ -4,13 +4,16 @@ use mathlib.Core.Path.{_≡_, refl, sym, ap, _∙_}
 use mathlib.Core.Logic.{_≢_}
 use Prim.Native.Nat.{ℕ, suc, _+_, _-_, _≤_, _<_}
 use native.Mathlib.Omega.{arith}
-use Rattle.model.specs.Geometry.{Geometry, rootAddress}
+use Rattle.model.specs.Geometry.{Geometry, rootAddress, blockWidth}
 use Rattle.model.specs.Blocks.{blockAt}
 use Rattle.model.specs.Layout.{slotStart}
 use Rattle.model.specs.Stores.{store}
 use Rattle.model.specs.Paths.{keptBlock, writtenBack, dummyStores}
 use Rattle.model.specs.Rounds.{publicStore}
 use Rattle.model.proofs.Laws.Geometry.{slot-block-lt, slotStart-lt, rootAddress-lt}
+use Rattle.model.proofs.Laws.SlotStores.{getD-writtenBack, getD-writtenBack-root}
+use Rattle.model.proofs.Laws.SlotStores.{getD-dummyStores, getD-dummyStores-root}
+use Rattle.model.proofs.Laws.Traces.{publicStore-keep, publicStore-write}
 use Rattle.layout.specs.declared.numbers.DiskAddress.{DiskAddress}
 use Rattle.layout.specs.declared.numbers.PublicNumber.{PublicNumber}
 use Rattle.plans.specs.declared.hidden_plans.HiddenPlan.{HiddenPlan}
@@ -26,33 +29,30 @@ use Rattle.stores.specs.Descriptors.{plainOf, ownOf}
 use Rattle.stores.specs.Described.{storeAt, Describes}
 use Rattle.stores.proofs.Laws.Described.{describes-own, describes-plain, describes-same}
 use Rattle.slot_stores.specs.Slots.{slotTrace}
-use Rattle.slot_stores.proofs.Laws.Places.{storeAt-writtenBack, storeAt-writtenBack-root}
-use Rattle.slot_stores.proofs.Laws.Places.{storeAt-dummyStores, storeAt-dummyStores-root}
 
 -- ---- the public block ----
 
 module _ (g : Geometry) (slot : ℕ) (inside : slot < g .slots) {public : PublicPlan} (address : DiskAddress)
     (to : address .0 ≡ slotStart g slot) {descriptor : Descriptor} where
-  pub public-kept :
+  pub describes-public-kept :
       public ≡ Keep → descriptor ≡ ownOf address Nothing Nothing →
       Describes g 0 (λ disk content offered random.
       publicStore (choiceOf public) g disk slot content) descriptor
-  unfolding publicStore
-  public-kept kept e =
+  describes-public-kept kept e =
       rw kept
       (describes-own address Nothing Nothing e (rw to (slotStart-lt g slot inside)) tt tt
-      (λ disk content offered random. ap (keptBlock g disk) to))
+      (λ disk content offered random. ap (keptBlock g disk) to ∙ sym (publicStore-keep g disk slot content)))
 
-  pub public-written :
+  pub describes-public-written :
       (number : PublicNumber) (bits : Bits) → public ≡ Write number bits →
       descriptor ≡ plainOf address source.Content →
       Describes g 0 (λ disk content offered random.
       publicStore (choiceOf public) g disk slot content) descriptor
-  unfolding publicStore
-  public-written number bits written e =
+  describes-public-written number bits written e =
       rw written
       (describes-plain address source.Content e (rw to (slotStart-lt g slot inside)) tt
-      (λ disk content offered random. ap (λ (a : ℕ). store a content) to))
+      (λ disk content offered random.
+      ap (λ (a : ℕ). store a content) to ∙ sym (publicStore-write g disk slot content)))
 
 -- ---- blocks written back, and random blocks ----
 
@@ -65,7 +65,7 @@ module _ (g : Geometry) (slot place : ℕ) {descriptor : Descriptor} (address : 
   root-kept low high to e =
       describes-own address Nothing Nothing e (rw to (rootAddress-lt g)) tt tt
       (λ disk content offered random.
-      ap (keptBlock g disk) to ∙ sym (storeAt-writtenBack-root g disk slot place (omega arith)))
+      ap (keptBlock g disk) to ∙ sym (getD-writtenBack-root g disk slot place (omega arith)))
 
   module _ (inside : slot < g .slots) (low : 1 ≤ place) (high : place ≤ g .height)
       (to : address .0 ≡ slotStart g slot + place) where
@@ -76,7 +76,7 @@ module _ (g : Geometry) (slot place : ℕ) {descriptor : Descriptor} (address : 
     block-kept e =
         describes-own address Nothing Nothing e (rw to (slot-block-lt g slot place inside high)) tt tt
         (λ disk content offered random.
-        ap (keptBlock g disk) to ∙ sym (storeAt-writtenBack g disk slot place low high))
+        ap (keptBlock g disk) to ∙ sym (getD-writtenBack g disk slot place low high))
 
     pub block-random :
         descriptor ≡ plainOf address (source.Random (place - 1)) →
@@ -86,8 +86,8 @@ module _ (g : Geometry) (slot place : ℕ) {descriptor : Descriptor} (address : 
         describes-plain address (source.Random (place - 1)) e
         (rw to (slot-block-lt g slot place inside high)) (omega arith)
         (λ disk content offered random.
-        ap (λ (a : ℕ). store a (blockAt (g .blockSize) random (place - 1))) to
-        ∙ sym (storeAt-dummyStores g disk slot place random low high))
+        ap (λ (a : ℕ). store a (blockAt (blockWidth g) random (place - 1))) to
+        ∙ sym (getD-dummyStores g disk slot place random low high))
 
 -- after random blocks the root is as after blocks that are written back
 pub root-of-dummy :
@@ -98,7 +98,7 @@ pub root-of-dummy :
     storeAt (place - 1) (dummyStores g disk slot random)) descriptor
 root-of-dummy g slot place low high d =
     describes-same d refl
-    (λ disk content offered random. storeAt-dummyStores-root g disk slot place random (omega arith))
+    (λ disk content offered random. getD-dummyStores-root g disk slot place random (omega arith))
 
 -- ---- a plan that is known ----
 

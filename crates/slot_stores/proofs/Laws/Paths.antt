@@ -3,21 +3,22 @@
 use mathlib.Core.Path.{_≡_, refl, sym, ap, ap₂, _∙_}
 use mathlib.Core.Logic.{_≢_, inl, inr}
 use mathlib.Core.Option.{Option}
-use Prim.Native.Nat.{ℕ, zero, suc, _+_, _-_, _≤_, _<_}
+use Prim.Native.Nat.{ℕ, _+_, _-_, _≤_, _<_}
 use native.Mathlib.Omega.{arith}
-use Rattle.model.specs.Geometry.{Geometry, Fits, fanout, rootAddress, blockCount}
+use Rattle.model.specs.Geometry.{Geometry, Fits, fanout, rootAddress, blockWidth}
 use Rattle.model.specs.Blocks.{Bytes, blockAt, setEntry}
-use Rattle.model.specs.Layout.{levelPlace, levelAddress}
+use Rattle.model.specs.Layout.{levelAddress}
 use Rattle.model.specs.HiddenTree.{branchAt}
 use Rattle.model.specs.Stores.{store}
 use Rattle.model.specs.Paths.{linkedNode, pathStores}
-use Rattle.model.proofs.Laws.Geometry.{slot-block-lt, rootAddress-lt}
-use Rattle.model.proofs.Laws.Slots.{levelPlace-le}
+use Rattle.model.proofs.Laws.Geometry.{rootAddress-lt}
+use Rattle.model.proofs.Laws.Slots.{levelAddress-lt}
 use Rattle.model.proofs.Laws.Paths.{branchAt-fits}
+use Rattle.model.proofs.Laws.SlotStores.{linkedNode-leaf, linkedNode-above}
 use Rattle.layout.specs.declared.numbers.DiskAddress.{DiskAddress}
 use Rattle.hidden_map.specs.declared.nodes.Node.{Node}
 use Rattle.hidden_map.specs.declared.nodes.Node.the-variants.{Read, NotReached}
-use Rattle.hidden_map.specs.Nodes.{nodeOf, nodeBlock, pathBlocks, Placed}
+use Rattle.hidden_map.specs.Nodes.{nodeOf, nodeBlock, pathBlocks, StandsByLevel}
 use Rattle.plans.specs.declared.hidden_plans.Data.{Data}
 use Rattle.plans.specs.declared.hidden_plans.Data.the-variants.{Own, Offered}
 use Rattle.plans.specs.HiddenPlans.{dataOf}
@@ -28,30 +29,12 @@ use Rattle.stores.specs.declared.descriptors.Descriptor.{Descriptor}
 use Rattle.stores.specs.Changes.{changed, Inside}
 use Rattle.stores.specs.Descriptors.{sourceBlock, plainOf, ownOf}
 use Rattle.stores.specs.Described.{storeAt, Takes, Describes}
+use Rattle.slot_stores.specs.Slots.{SlotPlace}
 use Rattle.slot_stores.specs.Sources.{nodeSource, dataSource}
 use Rattle.slot_stores.proofs.Laws.Places.{storeAt-path-node, storeAt-path-data, storeAt-path-root}
 use Rattle.stores.proofs.Laws.Described.{describes-own, describes-plain, describes-same}
 
 -- ---- a node ----
-
-entry-of-leaf :
-    (g : Geometry) (number slot level : ℕ) (node : Bytes) → level ≡ 0 →
-    setEntry (fanout g - 1) number (setEntry (branchAt g number level) (levelAddress g slot level) node) ≡
-    linkedNode g number slot level node
-unfolding linkedNode
-entry-of-leaf g number slot zero node z = refl
-entry-of-leaf g number slot (suc level) node z = absurd (omega arith)
-
-entry-of-level :
-    (g : Geometry) (number slot level : ℕ) (node : Bytes) → level ≢ 0 →
-    setEntry (branchAt g number level) (levelAddress g slot level) node ≡ linkedNode g number slot level node
-unfolding linkedNode
-entry-of-level g number slot zero node h = absurd (h refl)
-entry-of-level g number slot (suc level) node h = refl
-
-levelAddress-lt : (g : Geometry) (slot level : ℕ) → slot < g .slots → level < g .height →
-    levelAddress g slot level < blockCount g
-levelAddress-lt g slot level h k = slot-block-lt g slot (levelPlace g level) h (levelPlace-le g level k)
 
 nodeSource-block :
     (node : Node) (g : Geometry) (disk content offered random : Bytes) →
@@ -60,7 +43,8 @@ nodeSource-block (Read address) g disk content offered random = refl
 nodeSource-block NotReached g disk content offered random = refl
 
 nodeSource-takes :
-    (node : Node) (g : Geometry) (at : ℕ → Option ℕ) (level own : ℕ) → Placed g at → level < g .height →
+    (node : Node) (g : Geometry) (at : ℕ → Option ℕ) (level own : ℕ) → StandsByLevel g at →
+    level < g .height →
     nodeOf node ≡ at level → Takes g level own (nodeSource node)
 nodeSource-takes (Read address) g at level own placed high e =
     inr (high, placed .well-formed level (address .0) (sym e))
@@ -68,13 +52,10 @@ nodeSource-takes NotReached g at level own placed high e = tt
 
 -- what the node of a level is stored with: where it goes, its entry, which leads to the slot's block of the
 -- level below, and the node that it is taken from
-pub record Linked (g : Geometry) (slot number level : ℕ) (at : ℕ → Option ℕ) (address below : DiskAddress)
+pub record NodeLinked (g : Geometry) (slot number level : ℕ) (at : ℕ → Option ℕ) (address below : DiskAddress)
     (branch : ℕ) (node : Node) (taken : Source) : Type 0 where
-  pub fits : Fits g
-  pub inside : slot < g .slots
-  pub placed : Placed g at
-  pub low : 1 ≤ level
-  pub high : level < g .height
+  pub at-level : SlotPlace g slot 1 (g .height) level
+  pub placed : StandsByLevel g at
   pub to : address .0 ≡ levelAddress g slot level
   pub under : below .0 ≡ levelAddress g slot (level - 1)
   pub branches : branch ≡ branchAt g number (level - 1)
@@ -82,7 +63,8 @@ pub record Linked (g : Geometry) (slot number level : ℕ) (at : ℕ → Option 
   pub takes : taken ≡ nodeSource node
 
 module _ {g : Geometry} {slot number level : ℕ} {at : ℕ → Option ℕ} {address below : DiskAddress} {branch : ℕ}
-    {node : Node} {taken : Source} (l : Linked g slot number level at address below branch node taken) where
+    {node : Node} {taken : Source}
+    (l : NodeLinked g slot number level at address below branch node taken) where
   -- what is taken is the level's node
   node-block :
       (disk content offered random : Bytes) →
@@ -115,7 +97,7 @@ module _ {g : Geometry} {slot number level : ℕ} {at : ℕ → Option ℕ} {add
 
   -- if that change makes of the node with its entry the one that is stored
   node-described :
-      (second : Change) → Inside (g .blockSize) second →
+      (second : Change) → Inside (blockWidth g) second →
       ((block : Bytes) →
       changed second
       (setEntry (branchAt g number (level - 1)) (levelAddress g slot (level - 1)) block) ≡
@@ -127,23 +109,25 @@ module _ {g : Geometry} {slot number level : ℕ} {at : ℕ → Option ℕ} {add
             ap₂ store (l .to)
             (ap (changed second) (node-entry disk content offered random)
             ∙ links (nodeBlock g disk (at level)));
-        address-inside = rw (l .to) (levelAddress-lt g slot level (l .inside) (l .high));
-        first-inside = rw (l .branches) (branchAt-fits g (l .fits) number (level - 1));
+        address-inside =
+            rw (l .to) (levelAddress-lt g slot level (l .at-level .slot-inside) (l .at-level .high));
+        first-inside = rw (l .branches) (branchAt-fits g (l .at-level .fits) number (level - 1));
         second-inside = within;
         takes =
             rw (l .takes)
-            (nodeSource-takes node g at level (address .0) (l .placed) (l .high) (l .read));
+            (nodeSource-takes node g at level (address .0) (l .placed) (l .at-level .high) (l .read));
       }
 
   pub leaf-described : level ≡ 1 → OfNode (Entry (fanout g - 1) number)
   leaf-described e =
-      node-described (Entry (fanout g - 1) number) (omega (arith, l .fits .size-entries, l .fits .size-low))
-      (λ block. entry-of-leaf g number slot (level - 1) block (omega arith))
+      let f = l .at-level .fits in
+      node-described (Entry (fanout g - 1) number) (omega (arith, f .size-entries, f .size-low))
+      (λ block. sym (linkedNode-leaf g number slot (level - 1) block (omega arith)))
 
   pub above-described : level ≢ 1 → OfNode Nothing
   above-described ne =
-      node-described Nothing tt
-      (λ block. entry-of-level g number slot (level - 1) block (λ z. ne (omega (arith, l .low))))
+      let higher : level - 1 ≢ 0 = λ z. ne (omega (arith, l .at-level .low)) in
+      node-described Nothing tt (λ block. sym (linkedNode-above g number slot (level - 1) block higher))
 
 -- ---- data and root ----
 
@@ -157,7 +141,7 @@ dataSource-block :
     (which : Data) (g : Geometry) (slot : ℕ) (own : DiskAddress) (disk content offered random : Bytes) →
     own .0 ≡ levelAddress g slot 0 →
     sourceBlock (dataSource own which) g disk content offered random ≡ dataOf which g disk slot offered
-dataSource-block Own g slot own disk content offered random e = ap (blockAt (g .blockSize) disk) e
+dataSource-block Own g slot own disk content offered random e = ap (blockAt (blockWidth g) disk) e
 dataSource-block Offered g slot own disk content offered random e = refl
 
 pub data-described :
@@ -181,17 +165,17 @@ pub root-described :
     {descriptor : Descriptor} → descriptor ≡ ownOf root (Entry branch (below .0)) Nothing →
     Describes g (g .height + 1) (λ disk content offered random.
     store (rootAddress g)
-    (linkedNode g number slot (g .height - 1) (blockAt (g .blockSize) disk (rootAddress g)))) descriptor
+    (linkedNode g number slot (g .height - 1) (blockAt (blockWidth g) disk (rootAddress g)))) descriptor
 root-described g fits slot number branch root below to under branches e =
     describes-own root (Entry branch (below .0)) Nothing e (rw to (rootAddress-lt g))
     (rw branches (branchAt-fits g fits number (g .height - 1))) tt
     (λ disk content offered random.
     ap₂ store to
-    (ap₂ (λ (b a : ℕ). setEntry b a (blockAt (g .blockSize) disk (root .0))) branches under
+    (ap₂ (λ (b a : ℕ). setEntry b a (blockAt (blockWidth g) disk (root .0))) branches under
     ∙ ap (λ (a : ℕ). setEntry (branchAt g number (g .height - 1)) (levelAddress g slot (g .height - 1))
-    (blockAt (g .blockSize) disk a)) to
-    ∙ entry-of-level g number slot (g .height - 1) (blockAt (g .blockSize) disk (rootAddress g))
-    (λ z. omega (arith, fits .height-low))))
+    (blockAt (blockWidth g) disk a)) to
+    ∙ sym (linkedNode-above g number slot (g .height - 1) (blockAt (blockWidth g) disk (rootAddress g))
+    (λ z. omega (arith, fits .height-low)))))
 
 -- ---- a path by its places ----
 
@@ -204,34 +188,34 @@ module _ (g : Geometry) (fits : Fits g) (number slot place : ℕ) (which : Data)
       storeAt (place - 1)
       (pathStores g number slot (dataOf which g disk slot offered) (pathBlocks g disk at))) descriptor
 
-  pub path-node :
+  pub describes-path-node :
       {descriptor : Descriptor} → 1 ≤ place → place < g .height →
       Describes g place (λ disk content offered random.
       store (levelAddress g slot place)
       (linkedNode g number slot (place - 1) (nodeBlock g disk (at place)))) descriptor →
       OfPath descriptor
-  path-node low high d =
+  describes-path-node low high d =
       describes-same d refl
       (λ disk content offered random.
       storeAt-path-node g fits number slot place (dataOf which g disk slot offered) disk at low high)
 
-  pub path-data :
+  pub describes-path-data :
       {descriptor : Descriptor} → place ≡ g .height →
       Describes g (g .height) (λ disk content offered random.
       store (levelAddress g slot 0) (dataOf which g disk slot offered)) descriptor →
       OfPath descriptor
-  path-data e d =
+  describes-path-data e d =
       describes-same d e
       (λ disk content offered random.
       storeAt-path-data g fits number slot place (dataOf which g disk slot offered) disk at e)
 
-  pub path-root :
+  pub describes-path-root :
       {descriptor : Descriptor} → g .height < place → place < g .height + 2 →
       Describes g (g .height + 1) (λ disk content offered random.
       store (rootAddress g) (linkedNode g number slot (g .height - 1)
-      (blockAt (g .blockSize) disk (rootAddress g)))) descriptor →
+      (blockAt (blockWidth g) disk (rootAddress g)))) descriptor →
       OfPath descriptor
-  path-root low high d =
+  describes-path-root low high d =
       let e : place ≡ g .height + 1 = omega arith in
       describes-same d e
       (λ disk content offered random.

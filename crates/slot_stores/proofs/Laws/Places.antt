@@ -1,20 +1,23 @@
--- Laws of a slot's stores by their places: the slot's hidden blocks and the root, whose places are counted
--- from 1, and lengths. Assumes nothing.
-use mathlib.Core.Path.{_≡_, sym, ap, _∙_}
+-- Laws of a path's stores by their places, which are counted from 1: its nodes from the leaf up, data and
+-- root; and how many stores a slot has. Assumes nothing.
+use mathlib.Core.Path.{_≡_, ap, _∙_}
+use mathlib.Core.Logic.{_⊎_, inl, inr}
 use mathlib.Core.List.{[], _∷_, _++_}
 use mathlib.Core.Option.{Option}
-use Prim.Native.Nat.{ℕ, suc, _+_, _-_, _≤_, _<_}
+use Prim.Native.Nat.{ℕ, zero, suc, _+_, _-_, _≤_, _<_}
 use native.Mathlib.Omega.{arith}
 use lib.ListN.{length, length-append}
 use lib.Seq.{getD-at}
-use Rattle.model.specs.Geometry.{Geometry, Fits, rootAddress}
+use Rattle.laws.proofs.Cases.{lt-cases}
+use Rattle.model.specs.Geometry.{Geometry, Fits, rootAddress, blockWidth}
 use Rattle.model.specs.Blocks.{Bytes, DiskAddress, blockAt}
-use Rattle.model.specs.Layout.{slotStart, levelAddress}
-use Rattle.model.specs.Stores.{Trace, store}
-use Rattle.model.specs.Paths.{linkedNode, pathStores, keptBlock, keptBlocks, writtenBack}
-use Rattle.model.specs.Paths.{randomBlocks, dummyStores}
-use Rattle.hidden_map.specs.Nodes.{addressAt, nodeBlock, pathBlocks}
-use Rattle.hidden_map.proofs.Laws.Nodes.{length-nodeBlocks}
+use Rattle.model.specs.Layout.{levelAddress}
+use Rattle.model.specs.Stores.{Store, Trace, store}
+use Rattle.model.specs.Paths.{linkedNode, nodeStores, pathStores}
+use Rattle.model.proofs.Laws.SlotStores.{nodeStores-cons, length-nodeStores, pathStores-cons}
+use Rattle.model.proofs.Laws.SlotStores.{length-writtenBack, length-dummyStores}
+use Rattle.hidden_map.specs.Nodes.{addressAt, nodeBlock, nodeBlocks, pathBlocks}
+use Rattle.hidden_map.proofs.Laws.Nodes.{nodeBlocks-suc, length-nodeBlocks}
 use Rattle.plans.specs.declared.hidden_plans.HiddenPlan.{HiddenPlan}
 use Rattle.plans.specs.declared.hidden_plans.HiddenPlan.the-variants.{Back, Path, Fill}
 use Rattle.plans.specs.declared.public_plans.PublicPlan.{PublicPlan}
@@ -22,58 +25,48 @@ use Rattle.plans.specs.HiddenPlans.{dataOf, hiddenTrace}
 use Rattle.stores.specs.Described.{storeAt}
 use Rattle.stores.proofs.Laws.Described.{storeAt-first, storeAt-past}
 use Rattle.slot_stores.specs.Slots.{slotTrace}
-use Rattle.slot_stores.proofs.Laws.Runs.{length-keptBlocks, storeAt-keptBlocks}
-use Rattle.slot_stores.proofs.Laws.Runs.{length-randomBlocks, storeAt-randomBlocks}
-use Rattle.slot_stores.proofs.Laws.Runs.{lowestStores, length-lowestStores, storeAt-lowestStores}
 
--- ---- written back, and random bytes ----
+-- ---- the nodes of a path ----
 
-module _ (g : Geometry) (disk : Bytes) (slot place : ℕ) where
-  -- the root written back after so many blocks as the tree is high
-  then-root :
-      (hidden : Trace) → length hidden ≡ g .height → place ≡ g .height + 1 →
-      storeAt (place - 1) (hidden ++ (keptBlock g disk (rootAddress g) ∷ [])) ≡
-      keptBlock g disk (rootAddress g)
-  then-root hidden long e =
-      getD-at hidden (keptBlock g disk (rootAddress g)) [] (store 0 []) (place - 1) (omega arith)
+module _ (g : Geometry) (number slot : ℕ) (disk : Bytes) (at : ℕ → Option DiskAddress) where
+  -- the stores of so many of the lowest nodes, each read where it is said to be
+  abbrev lowestStores : (count : ℕ) → Trace
+  lowestStores count = nodeStores g number slot (nodeBlocks g disk at count)
 
-  pub storeAt-writtenBack :
-      1 ≤ place → place ≤ g .height →
-      storeAt (place - 1) (writtenBack g disk slot) ≡ keptBlock g disk (slotStart g slot + place)
-  storeAt-writtenBack low high =
-      let e : slotStart g slot + 1 + (place - 1) ≡ slotStart g slot + place = omega arith in
-      storeAt-first (keptBlocks g disk (slotStart g slot + 1) (g .height)) _ (g .height) (place - 1)
-      (length-keptBlocks g disk (slotStart g slot + 1) (g .height)) (omega arith)
-      ∙ storeAt-keptBlocks g disk (slotStart g slot + 1) (g .height) (place - 1) (omega arith)
-      ∙ ap (keptBlock g disk) e
+  -- the store of the node whose entry is of this level
+  abbrev nodeStore : (level : ℕ) → Store
+  nodeStore level =
+      store (levelAddress g slot (suc level))
+      (linkedNode g number slot level (nodeBlock g disk (at (suc level))))
 
-  pub storeAt-writtenBack-root :
-      place ≡ g .height + 1 →
-      storeAt (place - 1) (writtenBack g disk slot) ≡ keptBlock g disk (rootAddress g)
-  storeAt-writtenBack-root e =
-      then-root (keptBlocks g disk (slotStart g slot + 1) (g .height))
-      (length-keptBlocks g disk (slotStart g slot + 1) (g .height)) e
+  length-lowestStores : (count : ℕ) → length (lowestStores count) ≡ count
+  length-lowestStores count =
+      length-nodeStores g number slot (nodeBlocks g disk at count) ∙ length-nodeBlocks g disk at count
 
-  module _ (random : Bytes) where
-    pub storeAt-dummyStores :
-        1 ≤ place → place ≤ g .height →
-        storeAt (place - 1) (dummyStores g disk slot random) ≡
-        store (slotStart g slot + place) (blockAt (g .blockSize) random (place - 1))
-    storeAt-dummyStores low high =
-        let e : slotStart g slot + 1 + (place - 1) ≡ slotStart g slot + place = omega arith in
-        storeAt-first (randomBlocks g (slotStart g slot + 1) (g .height) random) _ (g .height) (place - 1)
-        (length-randomBlocks g (slotStart g slot + 1) (g .height) random) (omega arith)
-        ∙ storeAt-randomBlocks g (slotStart g slot + 1) (g .height) (place - 1) random (omega arith)
-        ∙ ap (λ (address : ℕ). store address (blockAt (g .blockSize) random (place - 1))) e
+  -- one more node is stored last
+  lowestStores-suc : (count : ℕ) → lowestStores (suc count) ≡ lowestStores count ++ (nodeStore count ∷ [])
+  lowestStores-suc count =
+      rw (nodeBlocks-suc g disk at count, nodeStores-cons, length-nodeBlocks g disk at count)
 
-    -- the root is as where the blocks are written back
-    pub storeAt-dummyStores-root :
-        place ≡ g .height + 1 →
-        storeAt (place - 1) (dummyStores g disk slot random) ≡ storeAt (place - 1) (writtenBack g disk slot)
-    storeAt-dummyStores-root e =
-        then-root (randomBlocks g (slotStart g slot + 1) (g .height) random)
-        (length-randomBlocks g (slotStart g slot + 1) (g .height) random) e
-        ∙ sym (storeAt-writtenBack-root e)
+  storeAt-lowestStores :
+      (count level : ℕ) → level < count → storeAt level (lowestStores count) ≡ nodeStore level
+  storeAt-lowestStores zero level h = absurd (omega arith)
+  storeAt-lowestStores (suc count) level h =
+      ap (storeAt level) (lowestStores-suc count)
+      ∙ by (storeAt-lowestStores count level) (lt-cases level count)
+    where
+      by : (level < count → storeAt level (lowestStores count) ≡ nodeStore level) →
+          (level < count) ⊎ (count ≤ level) →
+          storeAt level (lowestStores count ++ (nodeStore count ∷ [])) ≡ nodeStore level
+      by earlier (inl l) =
+          storeAt-first (lowestStores count) (nodeStore count ∷ []) count level
+          (length-lowestStores count) l
+          ∙ earlier l
+      by earlier (inr l) =
+          let e : count ≡ level = omega arith in
+          getD-at (lowestStores count) (nodeStore count) [] (store 0 []) level
+          (length-lowestStores count ∙ e)
+          ∙ ap nodeStore e
 
 -- ---- a path ----
 
@@ -84,9 +77,8 @@ path-is :
     lowestStores g number slot disk at (g .height - 1) ++
     (store (levelAddress g slot 0) content ∷
     store (rootAddress g) (linkedNode g number slot (g .height - 1)
-    (blockAt (g .blockSize) disk (rootAddress g))) ∷ [])
-unfolding pathStores
-path-is g number slot content disk at = rw (length-nodeBlocks g disk at (g .height - 1))
+    (blockAt (blockWidth g) disk (rootAddress g))) ∷ [])
+path-is g number slot content disk at = rw (pathStores-cons, length-nodeBlocks g disk at (g .height - 1))
 
 module _ (g : Geometry) (fits : Fits g) (number slot place : ℕ) (content disk : Bytes)
     (at : ℕ → Option DiskAddress) where
@@ -99,7 +91,7 @@ module _ (g : Geometry) (fits : Fits g) (number slot place : ℕ) (content disk 
   last =
       store (levelAddress g slot 0) content ∷
       store (rootAddress g) (linkedNode g number slot (g .height - 1)
-      (blockAt (g .blockSize) disk (rootAddress g))) ∷ []
+      (blockAt (blockWidth g) disk (rootAddress g))) ∷ []
 
   long-below : length below ≡ g .height - 1
   long-below = length-lowestStores g number slot disk at (g .height - 1)
@@ -136,23 +128,12 @@ module _ (g : Geometry) (fits : Fits g) (number slot place : ℕ) (content disk 
   pub storeAt-path-root :
       place ≡ g .height + 1 → storeAt (place - 1) (pathStores g number slot content (pathBlocks g disk at)) ≡
       store (rootAddress g) (linkedNode g number slot (g .height - 1)
-      (blockAt (g .blockSize) disk (rootAddress g)))
+      (blockAt (blockWidth g) disk (rootAddress g)))
   storeAt-path-root h =
       let e : place - g .height ≡ 1 = omega arith in
       storeAt-last (omega arith) ∙ ap (λ (n : ℕ). storeAt n last) e
 
 -- ---- lengths ----
-
-length-writtenBack :
-    (g : Geometry) (disk : Bytes) (slot : ℕ) → length (writtenBack g disk slot) ≡ g .height + 1
-length-writtenBack g disk slot =
-    simp length-append (omega (arith, length-keptBlocks g disk (slotStart g slot + 1) (g .height)))
-
-length-dummyStores :
-    (g : Geometry) (disk : Bytes) (slot : ℕ) (random : Bytes) →
-    length (dummyStores g disk slot random) ≡ g .height + 1
-length-dummyStores g disk slot random =
-    simp length-append (omega (arith, length-randomBlocks g (slotStart g slot + 1) (g .height) random))
 
 length-path :
     (g : Geometry) → Fits g → (number slot : ℕ) (content disk : Bytes) (at : ℕ → Option DiskAddress) →
@@ -162,7 +143,7 @@ length-path g f number slot content disk at =
     ∙ simp length-append
     (omega (arith, f .height-low, length-lowestStores g number slot disk at (g .height - 1)))
 
-pub length-hiddenTrace :
+length-hiddenTrace :
     (g : Geometry) → Fits g → (disk offered random : Bytes) (slot : ℕ) (plan : HiddenPlan) →
     length (hiddenTrace plan g disk slot offered random) ≡ g .height + 1
 length-hiddenTrace g f disk offered random slot Back = length-writtenBack g disk slot

@@ -8,6 +8,7 @@ use native.Mathlib.Omega.{arith}
 use lib.ListN.{length, getD, set}
 use lib.Seq.{paste, paste-suc, take-length}
 use Rattle.laws.specs.Lists.{over}
+use Rattle.laws.proofs.Lists.{over-is}
 
 module _ (target : List ℕ) (at : ℕ) (source : List ℕ) (i : ℕ) (now : List ℕ)
     (e : now ≡ paste target at source i) where
@@ -17,5 +18,4 @@ module _ (target : List ℕ) (at : ℕ) (source : List ℕ) (i : ℕ) (now : Lis
   set-paste h k = rw (e, add-one) (paste-suc target at source i 0 (omega arith) k)
 
   pub paste-whole : i ≤ length source → length source ≤ i → now ≡ over at source target
-  unfolding over
-  paste-whole h k = e ∙ rw (le-antisymm h k, take-length)
+  paste-whole h k = e ∙ rw (le-antisymm h k, take-length, over-is)

@@ -7,7 +7,7 @@ use Prim.Native.Nat.{ℕ, _+_, _-_, _≤_, _<_}
 use native.Mathlib.Omega.{arith}
 use lib.ListN.{length, List·getD-append}
 use lib.Seq.{getD-append-add}
-use Rattle.model.specs.Geometry.{Geometry, blockCount}
+use Rattle.model.specs.Geometry.{Geometry, blockCount, blockWidth}
 use Rattle.model.specs.Blocks.{Bytes, blockAt}
 use Rattle.model.specs.Stores.{Trace, store}
 use Rattle.layout.specs.declared.numbers.DiskAddress.{DiskAddress}
@@ -35,9 +35,9 @@ module _ (xs ys : Trace) (count place : ℕ) (long : length xs ≡ count) where
 pub describes-own :
     {g : Geometry} {place : ℕ} {meant : Meaning} {descriptor : Descriptor} (address : DiskAddress)
     (first second : Change) → descriptor ≡ ownOf address first second →
-    address .0 < blockCount g → Inside (g .blockSize) first → Inside (g .blockSize) second →
+    address .0 < blockCount g → Inside (blockWidth g) first → Inside (blockWidth g) second →
     ((disk content offered random : Bytes) →
-    store (address .0) (changed second (changed first (blockAt (g .blockSize) disk (address .0)))) ≡
+    store (address .0) (changed second (changed first (blockAt (blockWidth g) disk (address .0)))) ≡
     meant disk content offered random) → Describes g place meant descriptor
 describes-own address first second e inside one two means =
     rw e

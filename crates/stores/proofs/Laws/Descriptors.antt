@@ -6,7 +6,7 @@ use lib.ListN.{length, length-replicate}
 use Rattle.laws.specs.Lists.{over}
 use Rattle.laws.proofs.Lists.{over-whole, length-part}
 use Rattle.laws.proofs.Bits.{length-setBit}
-use Rattle.model.specs.Geometry.{Geometry, blockCount}
+use Rattle.model.specs.Geometry.{Geometry, blockCount, blockWidth}
 use Rattle.model.specs.Blocks.{Bytes}
 use Rattle.model.specs.Layout.{Drive}
 use Rattle.model.proofs.Laws.Blocks.{blockAt-is, length-blockAt}
@@ -36,7 +36,7 @@ module _ {source known : Source} (g : Geometry) (content offered random : Bytes)
 
 -- ---- lengths ----
 
-pub length-changed : (change : Change) (block : Bytes) → Inside (length block) change →
+length-changed : (change : Change) (block : Bytes) → Inside (length block) change →
     length (changed change block) ≡ length block
 length-changed Nothing block h = refl
 length-changed (Entry index value) block h = length-setEntry index value block h
@@ -47,18 +47,18 @@ module _ (g : Geometry) (disk content offered random : Bytes) (drive : Drive g d
       (source : Source) → Takeable source g content offered random →
       length (sourceBlock source g disk content offered random) ≡ g .blockSize
   length-sourceBlock (Disk address) h =
-      length-blockAt (g .blockSize) disk (blockCount g) (drive .whole) (address .0) h
+      length-blockAt (blockWidth g) disk (blockCount g) (drive .whole) (address .0) h
   length-sourceBlock Zeros h = length-replicate (g .blockSize) 0
   length-sourceBlock Content h = h
   length-sourceBlock Offered h = h
   length-sourceBlock (Random index) h =
-      ap length (blockAt-is (g .blockSize) random index)
+      ap length (blockAt-is (blockWidth g) random index)
       ∙ length-part (index * g .blockSize) (g .blockSize) random h
 
   -- the store of a descriptor that can be made is of a whole block and inside the drive
   pub storeOf-stored :
       (descriptor : Descriptor) → Makeable descriptor g content offered random →
-      Stored (g .blockSize) (blockCount g) (storeOf descriptor g disk content offered random)
+      Stored (blockWidth g) (blockCount g) (storeOf descriptor g disk content offered random)
   storeOf-stored descriptor m =
       let taken = sourceBlock (descriptor .source) g disk content offered random in
       let whole : length taken ≡ g .blockSize = length-sourceBlock (descriptor .source) (m .takeable) in

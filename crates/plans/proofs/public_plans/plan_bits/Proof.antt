@@ -17,27 +17,34 @@ old-of : (c : tie.After-slot-of) →
     slotOf (geometryOf (start-of c .args .g)) (start-of c .args .entry .0) < start-of c .args .g .slots
 old-of c =
     let s = start-of c in
-    old-slot-lt (geometryOf (s .args .g)) (s .args .entry .0) (s .pre .1 .1) (c .before .if1 .left)
+    old-slot-lt (geometryOf (s .args .g)) (s .args .entry .0) (s .pre .old-entry) (c .before .if1 .left)
 
 returns : tie.Need-returns
 returns c =
     let s = c .before .before in
-    bits-new (geometryOf (s .args .g)) (s .args .slot) (s .pre .1 .0) (s .args .entry .0) (c .if1 .taken)
+    bits-new (geometryOf (s .args .g)) (s .args .slot) (s .pre .slot-inside) (s .args .entry .0)
+    (c .if1 .taken)
 
 slot-of-requires : tie.Need-slot-of-requires
 slot-of-requires c κs =
     let s = c .before .before in
-    (s .pre .0, old-in-area (geometryOf (s .args .g)) (s .args .entry .0) (s .pre .1 .1) (c .if1 .left))
+    let old = s .pre .old-entry in
+    (s .pre .fits, old-in-area (geometryOf (s .args .g)) (s .args .entry .0) old (c .if1 .left))
 
 is-shared-requires : tie.Need-is-shared-requires
 is-shared-requires c κs =
-    let s = start-of c in (s .pre .0, (s .pre .1 .0, rw (c .slot-of .ensures) (old-of c)))
+    let s = start-of c in
+    record {
+      fits = s .pre .fits;
+      slot-inside = s .pre .slot-inside;
+      other-inside = rw (c .slot-of .ensures) (old-of c);
+    }
 
 returns-2 : tie.Need-returns-2
 returns-2 c =
     let found = c .before .before in
     let s = start-of found in
-    bits-shared (geometryOf (s .args .g)) (s .args .slot) (s .pre .1 .0) (s .args .entry .0)
+    bits-shared (geometryOf (s .args .g)) (s .args .slot) (s .pre .slot-inside) (s .args .entry .0)
     (found .before .if1 .left) (found .slot-of .result) (found .slot-of .ensures) (old-of found)
     (sym (c .before .is-shared .ensures) ∙ c .if2 .taken)
 
@@ -45,7 +52,7 @@ returns-3 : tie.Need-returns-3
 returns-3 c =
     let found = c .before .before in
     let s = start-of found in
-    bits-apart (geometryOf (s .args .g)) (s .args .slot) (s .pre .1 .0) (s .args .entry .0)
+    bits-apart (geometryOf (s .args .g)) (s .args .slot) (s .pre .slot-inside) (s .args .entry .0)
     (found .before .if1 .left) (found .slot-of .result) (found .slot-of .ensures) (old-of found)
     (sym (c .before .is-shared .ensures) ∙ c .if2 .left)
 

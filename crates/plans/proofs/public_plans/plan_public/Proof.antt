@@ -21,7 +21,11 @@ map-entry-requires c κs = search needs
 plan-bits-requires : tie.Need-plan-bits-requires
 plan-bits-requires c κs =
     let s = start-of c in
-    (s .pre .0 .fits, (s .pre .1 .1 .0, rw (c .map-entry .ensures) (s .pre .1 .1 .1)))
+    record {
+      fits = s .pre .drive .fits;
+      slot-inside = s .pre .slot-inside;
+      old-entry = rw (c .map-entry .ensures) (s .pre .old-entry);
+    }
 
 returns : tie.Need-returns
 returns c =
@@ -35,7 +39,7 @@ returns-2 c =
     let s = start-of read in
     let a = s .args in
     public-written (geometryOf (a .g)) (a .disk .now) (a .slot) (a .choice) (a .number)
-    (read .before .enum-told2 .given .1) (s .pre .0) (s .pre .1 .0) (read .map-entry .result .0)
+    (read .before .enum-told2 .given .1) (s .pre .drive) (s .pre .number-inside) (read .map-entry .result .0)
     (read .map-entry .ensures) (c .plan-bits .result) (c .plan-bits .ensures)
 
 pub plan-public-spec : {M : Type 1} → statement M

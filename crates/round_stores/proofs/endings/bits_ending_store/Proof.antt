@@ -30,7 +30,7 @@ start-of-apart c = c .before .before .before
 -- the slots of known bits are the drive's
 placed : (s : tie.Start) {known : Bits} → s .args .bits ≡ known →
     BitsPlaced (geometryOf (s .args .g)) (s .args .slot) known
-placed s e = rw e at (s .pre .1 .1 .0)
+placed s e = rw e at (s .pre .1)
 
 -- the stores of known bits and the header
 abbrev traced : (s : tie.Start) → Bits → Bytes → Trace
@@ -54,7 +54,9 @@ both-bits-store-requires : tie.Need-both-bits-store-requires
 both-bits-store-requires c κs =
     let known = c .before in
     let s = start-of-shared known in
-    (s .pre .0, (s .pre .1 .0, placed s (known .before .bits .given .1)))
+    let at = s .pre .0 in
+    let old = placed s (known .before .bits .given .1) in
+    record { fits = at .fits; slot-inside = at .slot-inside; other-inside = old }
 
 header-store-requires-2 : tie.Need-header-store-requires-2
 header-store-requires-2 c κs = search needs
@@ -69,7 +71,7 @@ bit-store-requires-3 : tie.Need-bit-store-requires-3
 bit-store-requires-3 c κs =
     let known = c .before in
     let s = start-of-apart known in
-    (s .pre .0, placed s (known .before .bits2 .given .1) .0)
+    (s .pre .0 .fits, placed s (known .before .bits2 .given .1) .0)
 
 header-store-requires-3 : tie.Need-header-store-requires-3
 header-store-requires-3 c κs = search needs
@@ -88,7 +90,7 @@ returns-2 c =
     let s = start-of-new known in
     let e = known .enum-told .given .1 in
     describes-known (geometryOf (s .args .g)) (traced s) 1 e
-    (omega (arith, c .before .match2 .rest, ap bitCount e, s .pre .1 .1 .1)) (c .header-store .ensures)
+    (omega (arith, c .before .match2 .rest, ap bitCount e, s .pre .0 .high)) (c .header-store .ensures)
 
 returns-3 : tie.Need-returns-3
 returns-3 c =
@@ -103,7 +105,7 @@ returns-4 c =
     let s = start-of-shared known in
     let e = known .before .bits .given .1 in
     describes-known (geometryOf (s .args .g)) (traced s) 1 e
-    (omega (arith, c .before .match3 .rest, ap bitCount e, s .pre .1 .1 .1)) (c .header-store2 .ensures)
+    (omega (arith, c .before .match3 .rest, ap bitCount e, s .pre .0 .high)) (c .header-store2 .ensures)
 
 returns-5 : tie.Need-returns-5
 returns-5 c =
@@ -125,7 +127,7 @@ returns-7 c =
     let s = start-of-apart known in
     let e = known .before .bits2 .given .1 in
     describes-known (geometryOf (s .args .g)) (traced s) 2 e
-    (omega (arith, c .before .match4 .rest, ap bitCount e, s .pre .1 .1 .1)) (c .header-store3 .ensures)
+    (omega (arith, c .before .match4 .rest, ap bitCount e, s .pre .0 .high)) (c .header-store3 .ensures)
 
 pub bits-ending-store-spec : {M : Type 1} → statement M
 bits-ending-store-spec =

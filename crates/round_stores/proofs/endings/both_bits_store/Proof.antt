@@ -25,8 +25,9 @@ returns : tie.Need-returns
 returns c =
     let placed = c .before .before in
     let start = start-of c in
-    describes-both-bits (geometryOf (start .args .g)) (start .pre .0) (start .args .slot) (start .args .old)
-    (start .pre .1 .0) (placed .before .bit-address .result) (placed .bit-place .result)
+    describes-both-bits (geometryOf (start .args .g)) (start .pre .fits) (start .args .slot)
+    (start .args .old) (start .pre .slot-inside) (placed .before .bit-address .result)
+    (placed .bit-place .result)
     (c .before .bit-place2 .result) (placed .before .bit-address .ensures) (placed .bit-place .ensures)
     (c .before .bit-place2 .ensures) (c .own .ensures)
 

@@ -21,7 +21,7 @@ start-of-write c = c .before .before .before
 -- the number and the slots of a known plan are the drive's
 placed : (s : tie.Start) {known : PublicPlan} → s .args .public ≡ known →
     PublicPlaced (geometryOf (s .args .g)) (s .args .slot) known
-placed s e = rw e at (s .pre .1 .1 .0)
+placed s e = rw e at (s .pre .1)
 
 enum-told : tie.Need-enum-told
 enum-told c = search needs
@@ -36,7 +36,9 @@ map-store-requires : tie.Need-map-store-requires
 map-store-requires c κs =
     let known = c .before in
     let s = start-of-write known in
-    (s .pre .0, (placed s (known .before .public .given .1) .0, s .pre .1 .0))
+    let at = s .pre .0 in
+    let inside = placed s (known .before .public .given .1) .0 in
+    record { fits = at .fits; number-inside = inside; slot-inside = at .slot-inside }
 
 returns : tie.Need-returns
 returns c =
@@ -53,13 +55,9 @@ bits-ending-store-requires : tie.Need-bits-ending-store-requires
 bits-ending-store-requires c κs =
     let known = c .before in
     let s = start-of-write known in
-    let e = known .before .public .given .1 in (
-      s .pre .0,
-      (
-        s .pre .1 .0,
-        (placed s e .1, omega (arith, c .if1 .left, ap endingCount e, s .pre .1 .1 .1)),
-      ),
-    )
+    let e = known .before .public .given .1 in
+    let counts = ap endingCount e in
+    (search needs, placed s e .1)
 
 returns-2 : tie.Need-returns-2
 returns-2 c =
@@ -69,7 +67,7 @@ returns-2 c =
     let e = known .enum-told .given .1 in
     let g = geometryOf (args .g) in
     describes-known g (ending g (args .slot)) 0 e
-    (omega (arith, ap endingCount e, start .pre .1 .1 .1)) (c .header-store .ensures)
+    (omega (arith, ap endingCount e, start .pre .0 .high)) (c .header-store .ensures)
 
 returns-3 : tie.Need-returns-3
 returns-3 c =

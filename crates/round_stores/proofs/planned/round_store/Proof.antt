@@ -18,29 +18,21 @@ add-in-slot : tie.Need-add-in-slot
 add-in-slot c = search needs
 
 slot-store-requires : tie.Need-slot-store-requires
-slot-store-requires c κs =
-    let start = start-in-slot c in
-    let placed = start .pre .1 .0 in
-    (start .pre .0, (placed .slot-inside, (placed .hidden-placed, omega (arith, c .if1 .taken))))
+slot-store-requires c κs = search needs
 
 returns : tie.Need-returns
 returns c =
     let start = start-in-slot (c .before) in
-    describes-in-slot (geometryOf (start .args .g)) (start .pre .0) (start .args .round)
+    describes-in-slot (geometryOf (start .args .g)) (start .pre .fits) (start .args .round)
     (omega (arith, c .before .if1 .taken)) (c .slot-store .ensures)
 
 ending-store-requires : tie.Need-ending-store-requires
-ending-store-requires c κs =
-    let start = start-after-slot c in
-    let placed = start .pre .1 .0 in (
-      start .pre .0,
-      (placed .slot-inside, (placed .public-placed, omega (arith, c .if1 .left, start .pre .1 .1))),
-    )
+ending-store-requires c κs = search needs
 
 returns-2 : tie.Need-returns-2
 returns-2 c =
     let start = start-after-slot (c .before) in
-    describes-after-slot (geometryOf (start .args .g)) (start .pre .0) (start .args .round)
+    describes-after-slot (geometryOf (start .args .g)) (start .pre .fits) (start .args .round)
     (omega (arith, c .before .if1 .left)) (c .ending-store .ensures (start .args .place))
 
 pub round-store-spec : {M : Type 1} → statement M

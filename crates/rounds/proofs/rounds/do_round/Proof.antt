@@ -2,9 +2,8 @@
 -- model's. Assumes nothing.
 use mathlib.Core.Path.{_∙_}
 use borrow.Author.Needs.{needs}
-use lib.ListN.{length}
 use Rattle.layout.specs.Geometries.{geometryOf}
-use Rattle.rounds.proofs.Laws.Steps.{Begun, step-storable, step-room, step-made, step-state}
+use Rattle.rounds.proofs.Laws.Steps.{Begun, step-storable, step-lent, step-made, step-state}
 use Rattle.rounds.proofs.Laws.Steps.{step-goes-on}
 use Rattle.rounds.proofs.rounds.do_round.Statement.{statement}
 use Rattle.rounds.proofs.rounds.do_round.Tie as tie
@@ -30,12 +29,12 @@ begun :
     (c : tie.After-plan-public) →
     let args = start-of (after-plan c) .args in
     Begun (geometryOf (args .g)) (args .disk .now) (args .number .0) (args .slot) (args .content .now)
-    (args .random .now) (args .hidden .now) (args .state) (args .offered .0)
+    (args .random .now) (args .offered .now) (args .state) (args .hidden-number .0)
     (after-plan c .plan-round .result) (c .plan-public .result)
 begun c =
     let planned = after-plan c in
     record {
-      ready = start-of planned .pre .0;
+      ready = start-of planned .pre .1;
       planned = planned .plan-round .ensures;
       public-planned = c .plan-public .ensures;
     }
@@ -49,10 +48,7 @@ plan-public-requires c κs = search needs
 store-round-requires : tie.Need-store-round-requires
 store-round-requires c κs =
     let planned = after-public c in
-    let s = start-of (after-plan planned) in (
-      step-storable (begun planned),
-      (s .pre .1 .0, step-room (begun planned) (s .args .next) (length (s .args .list .now)) (s .pre .1 .1)),
-    )
+    (step-lent (begun planned) (start-of (after-plan planned) .pre .0), step-storable (begun planned))
 
 is-kept-requires : tie.Need-is-kept-requires
 is-kept-requires c κs = search needs

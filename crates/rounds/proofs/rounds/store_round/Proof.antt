@@ -10,18 +10,19 @@ use Rattle.layout.specs.Geometries.{geometryOf}
 use Rattle.round_stores.specs.Planned.{plannedTrace}
 use Rattle.round_stores.proofs.Laws.Planned.{length-plannedTrace}
 use Rattle.rounds.proofs.Laws.Stores.{Storing, none-so-far, all-made}
-use Rattle.rounds.proofs.Laws.Stores.{turn-drive, turn-makeable, turn-room, turn-made}
+use Rattle.rounds.proofs.Laws.Stores.{turn-makeable, turn-lent, turn-made}
 use Rattle.rounds.proofs.rounds.store_round.Statement.{statement}
 use Rattle.rounds.proofs.rounds.store_round.Tie as tie
 
 abbrev Inv-loop : tie.InvT-loop
-Inv-loop disk₀ list₀ next g round content offered random block₀ count place₀ at₀ disk list block place at =
-    Storing (geometryOf g) (plannedTrace round (geometryOf g) disk₀ content offered random) disk₀ list₀ next
-    block₀ disk list block place at
+Inv-loop disk₀ list₀ first g round content offered random buffer₀ count place₀ next₀ disk list buffer
+    place next =
+    Storing (geometryOf g) (plannedTrace round (geometryOf g) disk₀ content offered random) disk₀ list₀ first
+    buffer₀ disk list buffer place next
 
 abbrev μ-loop : tie.MeasureT-loop
-μ-loop disk₀ list₀ next g round content offered random block₀ count place₀ at₀ disk list block place at =
-    count - place
+μ-loop disk₀ list₀ first g round content offered random buffer₀ count place₀ next₀ disk list buffer
+    place next = count - place
 
 -- ---- places ----
 
@@ -71,30 +72,24 @@ loop-holds c =
     record {
       so-far =
           none-so-far (geometryOf (s .args .g)) (traced s) (s .args .disk .now) (s .args .list .now)
-          (s .args .next) (omega (arith, s .pre .1 .1));
+          (s .args .first) (omega (arith, s .pre .0 .room));
       disk-kept = refl;
       list-kept = refl;
-      block-kept = refl;
+      buffer-kept = refl;
     }
 
 round-store-requires : tie.Need-round-store-requires Inv-loop μ-loop
-round-store-requires c κs =
-    let turn = c .before in
-    let storable = start-of turn .pre .0 in (
-      storable .drive .fits,
-      (storable .placed, omega (arith, c .loop-test .taken, turn .before .store-count .ensures)),
-    )
+round-store-requires c κs = search needs
 
 make-store-requires : tie.Need-make-store-requires Inv-loop μ-loop
 make-store-requires c κs =
     let described = after-round-store c in
     let turn = described .before in
-    let pre = start-of (turn .before) .pre in
+    let (lent, storable) = start-of (turn .before) .pre in
     let storing = turn .before .loop .inv in
-    let means = described .round-store .ensures in
-    let room = turn-room (pre .0) means (pre .1 .1) (storing .so-far) (more turn) in (
-      turn-drive (pre .0) means (pre .1 .1) (storing .so-far) (more turn),
-      (turn-makeable (pre .0) means, (storing .block-kept ∙ pre .1 .0, room)),
+    let means = described .round-store .ensures in (
+      turn-lent storable means lent (storing .so-far) (more turn) (storing .buffer-kept),
+      turn-makeable storable means,
     )
 
 add-place : tie.Need-add-place Inv-loop μ-loop
@@ -108,15 +103,15 @@ loop-again c =
     let made = after-make c in
     let described = after-round-store (made .before) in
     let turn = described .before in
-    let s = start-of (turn .before) in
+    let (lent, storable) = start-of (turn .before) .pre in
     let storing = turn .before .loop .inv in
     record {
       so-far =
-          turn-made (s .pre .0) (described .round-store .ensures) (s .pre .1 .1) (storing .so-far) (more turn)
+          turn-made storable (described .round-store .ensures) lent (storing .so-far) (more turn)
           (made .make-store .ensures);
       disk-kept = made .make-store .kept .0 ∙ storing .disk-kept;
       list-kept = made .make-store .kept .1 .0 ∙ storing .list-kept;
-      block-kept = made .make-store .kept .1 .1 .1 .1 .1 .1 .1 .1 .0 ∙ storing .block-kept;
+      buffer-kept = made .make-store .kept .1 .1 .1 .1 .1 .1 .1 .1 .0 ∙ storing .buffer-kept;
     }
 
 same-length : tie.Need-same-length Inv-loop μ-loop

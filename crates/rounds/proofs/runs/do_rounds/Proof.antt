@@ -12,24 +12,24 @@ use Rattle.model.specs.Geometry.{Geometry}
 use Rattle.model.specs.Blocks.{Bytes}
 use Rattle.model.specs.Rounds.{Run}
 use Rattle.layout.specs.Geometries.{geometryOf}
+use Rattle.stores.specs.Made.{LentFor}
 use Rattle.plans.specs.States.{stateOf}
-use Rattle.rounds.specs.Rounds.{roundAt, Ready, Stepped}
+use Rattle.rounds.specs.Rounds.{roundAt, RoundReady, RoundDone}
 use Rattle.rounds.proofs.Laws.Loops.{Looping, theRun, going-none, going-over, made-over, random-from}
-use Rattle.rounds.proofs.Laws.Loops.{round-room, round-ready, run-ends, made-ends, going-next}
+use Rattle.rounds.proofs.Laws.Loops.{round-lent, round-ready, run-ends, made-ends, going-next}
 use Rattle.rounds.proofs.runs.do_rounds.Statement.{statement}
 use Rattle.rounds.proofs.runs.do_rounds.Tie as tie
 
 abbrev Inv-loop : tie.InvT-loop
-Inv-loop disk₀ list₀ next g number head content random offered hidden block₀ slots width slot₀ at₀
-    reached₀ done₀ disk list block slot at reached done =
-    Looping (geometryOf g) (number .0) content random hidden (offered .0)
-    (theRun (geometryOf g) (number .0) content random hidden (offered .0) disk₀ head list₀ next reached₀)
-    disk₀
-    list₀ next block₀ disk list block slot at reached done
+Inv-loop disk₀ list₀ first g number head content random hidden-number offered buffer₀ slots width slot₀
+    next₀ reached₀ done₀ disk list buffer slot next reached done =
+    Looping (geometryOf g) (number .0) content random offered (hidden-number .0)
+    (theRun (geometryOf g) (number .0) content random offered (hidden-number .0) disk₀ head list₀ first
+    reached₀) disk₀ list₀ first buffer₀ disk list buffer slot next reached done
 
 abbrev μ-loop : tie.MeasureT-loop
-μ-loop disk₀ list₀ next g number head content random offered hidden block₀ slots width slot₀ at₀
-    reached₀ done₀ disk list block slot at reached done = slots - done
+μ-loop disk₀ list₀ first g number head content random hidden-number offered buffer₀ slots width slot₀
+    next₀ reached₀ done₀ disk list buffer slot next reached done = slots - done
 
 -- ---- places ----
 
@@ -58,11 +58,11 @@ at-test c = test-of (c .before)
 abbrev at-turn : tie.After-do-round Inv-loop μ-loop → tie.At-loop Inv-loop μ-loop
 at-turn c = at-test c .before
 
-abbrev at-block : tie.After-struct-known3 Inv-loop μ-loop → tie.After-block Inv-loop μ-loop
-at-block c = c .before .before .before
+abbrev at-buffer : tie.After-struct-known3 Inv-loop μ-loop → tie.After-buffer Inv-loop μ-loop
+at-buffer c = c .before .before .before
 
 abbrev at-entries : tie.After-struct-known3 Inv-loop μ-loop → tie.After-list Inv-loop μ-loop
-at-entries c = at-block c .before .before
+at-entries c = at-buffer c .before .before
 
 -- the round of this turn
 abbrev at-round : tie.After-struct-known3 Inv-loop μ-loop → tie.After-do-round Inv-loop μ-loop
@@ -82,16 +82,16 @@ stepped :
     (c : tie.After-do-round Inv-loop μ-loop) →
     let s = start-of (at-turn c) .args in
     let l = at-turn c .loop in
-    Stepped (shape-of (at-turn c)) (l .disk) (l .list) (l .at) (s .number .0) (l .slot) (s .content .now)
-    (drop (from-of (at-turn c)) (s .random .now)) (l .reached) (s .offered .0) (s .hidden .now)
+    RoundDone (shape-of (at-turn c)) (l .disk) (l .list) (l .next) (s .number .0) (l .slot) (s .content .now)
+    (drop (from-of (at-turn c)) (s .random .now)) (l .reached) (s .hidden-number .0) (s .offered .now)
     (c .do-round .last .0) (c .do-round .last .1 .0) (c .do-round .result)
 stepped c =
     let s = start-of (at-turn c) .args in
     let l = at-turn c .loop in
     subst (λ (bytes : Bytes).
-    Stepped (shape-of (at-turn c)) (l .disk) (l .list) (l .at) (s .number .0) (l .slot) (s .content .now)
+    RoundDone (shape-of (at-turn c)) (l .disk) (l .list) (l .next) (s .number .0) (l .slot) (s .content .now)
     bytes
-    (l .reached) (s .offered .0) (s .hidden .now) (c .do-round .last .0) (c .do-round .last .1 .0)
+    (l .reached) (s .hidden-number .0) (s .offered .now) (c .do-round .last .0) (c .do-round .last .1 .0)
     (c .do-round .result))
     (take-drop (from-of (at-turn c)) (s .random .now)) (c .do-round .ensures)
 
@@ -120,10 +120,11 @@ loop-holds c =
     let s = at-start c .args in
     record {
       going =
-          going-none (geometryOf (s .g)) (s .number .0) (s .content .now) (s .random .now) (s .hidden .now)
-          (s .offered .0) (s .disk .now) (s .head) (s .list .now) (s .next) (s .state) (at-start c .pre .0);
+          going-none (geometryOf (s .g)) (s .number .0) (s .content .now) (s .random .now) (s .offered .now)
+          (s .hidden-number .0) (s .disk .now) (s .head) (s .list .now) (s .first) (s .state)
+          (at-start c .pre .0);
       disk-kept = refl;
-      block-kept = refl;
+      buffer-kept = refl;
     }
 
 -- ---- a round ----
@@ -157,18 +158,14 @@ do-round-requires c κs =
     let l = turn .loop in
     let e = sym (take-drop (from-of turn) (s .args .random .now)) in (
       subst (λ (bytes : Bytes).
-          Ready (shape-of turn) (l .disk) (s .args .number .0) (l .slot) (s .args .content .now) bytes
-          (s .args .hidden .now)) e
+          LentFor (shape-of turn) (l .disk) (l .buffer) (l .list) (l .next)
+          (length (roundAt (shape-of turn) (l .disk) (s .args .number .0) (l .slot) (s .args .content .now)
+          bytes (stateOf (l .reached) (s .args .hidden-number .0) (s .args .offered .now))))) e
+          (round-lent (s .pre .0) (l .inv .going) (test .loop-test .taken) (l .inv .buffer-kept ∙ s .pre .1)),
+      subst (λ (bytes : Bytes).
+          RoundReady (shape-of turn) (l .disk) (s .args .number .0) (l .slot) (s .args .content .now) bytes
+          (s .args .offered .now)) e
           (round-ready (s .pre .0) (l .inv .going) (test .loop-test .taken)),
-      (
-        l .inv .block-kept ∙ s .pre .1,
-        subst (λ (bytes : Bytes).
-            l .at + length (roundAt (shape-of turn) (l .disk) (s .args .number .0) (l .slot)
-            (s .args .content .now) bytes (stateOf (l .reached) (s .args .offered .0)
-            (s .args .hidden .now))) ≤
-            length (l .list)) e
-            (round-room (s .pre .0) (l .inv .going) (test .loop-test .taken)),
-      ),
     )
 
 add-done : tie.Need-add-done Inv-loop μ-loop
@@ -192,7 +189,7 @@ same-length-3 c =
     omega (
       arith,
       round .do-round .kept .1 .1 .1 .1 .1 .1 .1 .1 .1 .1 .1 .0,
-      at-turn round .loop .inv .block-kept,
+      at-turn round .loop .inv .buffer-kept,
     )
 
 returns : tie.Need-returns Inv-loop μ-loop
@@ -230,7 +227,7 @@ loop-again c =
           going-next (start-of (at-turn round) .pre .0) (inv .going) (at-test round .loop-test .taken)
           (stepped round) (not-false (round .do-round .result .«goes_on») (c .if1 .left));
       disk-kept = kept .0 ∙ inv .disk-kept;
-      block-kept = kept .1 .1 .1 .1 .1 .1 .1 .1 .1 .1 .1 .0 ∙ inv .block-kept;
+      buffer-kept = kept .1 .1 .1 .1 .1 .1 .1 .1 .1 .1 .1 .0 ∙ inv .buffer-kept;
     }
 
 -- ---- every slot passed ----
@@ -242,7 +239,7 @@ same-length-5 : tie.Need-same-length-5 Inv-loop μ-loop
 same-length-5 c = omega (arith, c .before .loop .inv .going .list-kept)
 
 same-length-6 : tie.Need-same-length-6 Inv-loop μ-loop
-same-length-6 c = omega (arith, c .before .loop .inv .block-kept)
+same-length-6 c = omega (arith, c .before .loop .inv .buffer-kept)
 
 returns-2 : tie.Need-returns-2 Inv-loop μ-loop
 returns-2 c =

@@ -12,7 +12,7 @@ use Rattle.rounds.proofs.runs.run_write.Tie as tie
 abbrev startOf : tie.After-struct-known → tie.Start
 startOf c = c .before .before .before .before .before .before
 
-abbrev knownOf : tie.After-block → tie.After-struct-known
+abbrev knownOf : tie.After-buffer → tie.After-struct-known
 knownOf c = c .before .before .before
 
 abbrev blockSize : tie.After-struct-known → ℕ
@@ -23,20 +23,20 @@ abbrev zeros : Bytes
 zeros = replicate 4096 0
 
 -- the part of it that is lent
-block-long : (c : tie.After-struct-known) → length (take (blockSize c) zeros) ≡ blockSize c
-block-long c = length-take-le (blockSize c) zeros (startOf c .pre .drive .fits .size-high)
+buffer-long : (c : tie.After-struct-known) → length (take (blockSize c) zeros) ≡ blockSize c
+buffer-long c = length-take-le (blockSize c) zeros (startOf c .pre .drive .fits .size-high)
 
 cast-size : tie.Need-cast-size
 cast-size c = search needs
 
-array-borrow-prefix-block : tie.Need-array-borrow-prefix-block
-array-borrow-prefix-block c = search needs
+array-borrow-prefix-buffer : tie.Need-array-borrow-prefix-buffer
+array-borrow-prefix-buffer c = search needs
 
 slice-aggregate-do-rounds : tie.Need-slice-aggregate-do-rounds
-slice-aggregate-do-rounds c = sym (block-long (knownOf c))
+slice-aggregate-do-rounds c = sym (buffer-long (knownOf c))
 
 do-rounds-requires : tie.Need-do-rounds-requires
-do-rounds-requires c κs = (startOf (knownOf c) .pre, block-long (knownOf c))
+do-rounds-requires c κs = (startOf (knownOf c) .pre, buffer-long (knownOf c))
 
 same-length : tie.Need-same-length
 same-length c = search needs
@@ -50,5 +50,5 @@ returns c = search needs
 pub run-write-spec : {M : Type 1} → statement M
 run-write-spec =
     tie.close
-    (tie.spec cast-size array-borrow-prefix-block slice-aggregate-do-rounds do-rounds-requires same-length
+    (tie.spec cast-size array-borrow-prefix-buffer slice-aggregate-do-rounds do-rounds-requires same-length
     same-length-2 returns)

@@ -16,8 +16,9 @@ add-t5 c =
     omega (
       arith,
       found .slot-start .ensures,
-      s .pre .0 .blocks-high,
-      slot-block-lt (geometryOf (s .args .g)) (s .args .slot) (s .args .place) (s .pre .1 .0) (s .pre .1 .1),
+      s .pre .fits .blocks-high,
+      slot-block-lt (geometryOf (s .args .g)) (s .args .slot) (s .args .place) (s .pre .slot-inside)
+          (omega (arith, s .pre .high)),
     )
 
 returns : tie.Need-returns

@@ -27,7 +27,7 @@ returns c =
     let at = c .before in
     let s = root-start at in
     root-kept (geometryOf (s .args .g)) (s .args .slot) (s .args .place) (at .root-address .result)
-    (at .before .if1 .taken) (s .pre .1 .1 .1) (at .root-address .ensures) (c .own .ensures)
+    (at .before .if1 .taken) (s .pre .high) (at .root-address .ensures) (c .own .ensures)
 
 -- ---- a block ----
 
@@ -42,7 +42,7 @@ returns-2 c =
     let at = c .before in
     let s = block-start at in
     block-kept (geometryOf (s .args .g)) (s .args .slot) (s .args .place) (at .block-address .result)
-    (s .pre .1 .0) (s .pre .1 .1 .0) (omega (arith, at .before .if1 .left)) (at .block-address .ensures)
+    (s .pre .slot-inside) (s .pre .low) (omega (arith, at .before .if1 .left)) (at .block-address .ensures)
     (c .own2 .ensures)
 
 pub kept-store-spec : {M : Type 1} → statement M

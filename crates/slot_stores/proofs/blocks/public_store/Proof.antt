@@ -1,7 +1,7 @@
 -- `public_store` meets its contract: the block is kept, or it is the call's data. Assumes nothing.
 use borrow.Author.Needs.{needs}
 use Rattle.layout.specs.Geometries.{geometryOf}
-use Rattle.slot_stores.proofs.Laws.Described.{public-kept, public-written}
+use Rattle.slot_stores.proofs.Laws.Described.{describes-public-kept, describes-public-written}
 use Rattle.slot_stores.proofs.blocks.public_store.Statement.{statement}
 use Rattle.slot_stores.proofs.blocks.public_store.Tie as tie
 
@@ -34,14 +34,14 @@ returns : tie.Need-returns
 returns c =
     let at = at-kept c in
     let s = at .before in
-    public-kept (geometryOf (s .args .g)) (s .args .slot) (s .pre .1) (at .slot-start .result)
+    describes-public-kept (geometryOf (s .args .g)) (s .args .slot) (s .pre .1) (at .slot-start .result)
     (at .slot-start .ensures) (c .before .enum-told .given .1) (c .own .ensures)
 
 returns-2 : tie.Need-returns-2
 returns-2 c =
     let at = at-written c in
     let s = at .before in
-    public-written (geometryOf (s .args .g)) (s .args .slot) (s .pre .1) (at .slot-start .result)
+    describes-public-written (geometryOf (s .args .g)) (s .args .slot) (s .pre .1) (at .slot-start .result)
     (at .slot-start .ensures) _ _ (c .before .enum-told2 .given .1) (c .plain .ensures)
 
 pub public-store-spec : {M : Type 1} → statement M

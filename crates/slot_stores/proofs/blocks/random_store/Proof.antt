@@ -19,7 +19,7 @@ returns c =
     let at = c .before in
     let s = at .before .before in
     root-of-dummy (geometryOf (s .args .g)) (s .args .slot) (s .args .place) (at .if1 .taken)
-    (s .pre .1 .1 .1) (c .kept-store .ensures)
+    (s .pre .high) (c .kept-store .ensures)
 
 -- ---- a block ----
 
@@ -37,7 +37,7 @@ returns-2 c =
     let at = c .before in
     let s = block-start at in
     block-random (geometryOf (s .args .g)) (s .args .slot) (s .args .place) (at .block-address .result)
-    (s .pre .1 .0) (s .pre .1 .1 .0) (omega (arith, at .before .if1 .left)) (at .block-address .ensures)
+    (s .pre .slot-inside) (s .pre .low) (omega (arith, at .before .if1 .left)) (at .block-address .ensures)
     (c .plain .ensures)
 
 pub random-store-spec : {M : Type 1} → statement M

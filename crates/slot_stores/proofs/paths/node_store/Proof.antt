@@ -4,7 +4,7 @@ use mathlib.Core.Path.{refl}
 use borrow.Author.Needs.{needs}
 use Rattle.layout.specs.Geometries.{geometryOf}
 use Rattle.hidden_map.specs.Nodes.{addressAt}
-use Rattle.slot_stores.proofs.Laws.Paths.{Linked, leaf-described, above-described}
+use Rattle.slot_stores.proofs.Laws.Paths.{NodeLinked, leaf-described, above-described}
 use Rattle.slot_stores.proofs.paths.node_store.Statement.{statement}
 use Rattle.slot_stores.proofs.paths.node_store.Tie as tie
 
@@ -22,18 +22,15 @@ start-of c = at-address c .before
 -- what the node is stored with
 linked :
     (c : tie.After-branch-at) →
-    Linked (geometryOf (start-of c .args .g)) (start-of c .args .slot) (start-of c .args .number .0)
+    NodeLinked (geometryOf (start-of c .args .g)) (start-of c .args .slot) (start-of c .args .number .0)
     (start-of c .args .level) (addressAt (start-of c .args .nodes)) (at-address c .level-address .result)
     (c .before .level-address2 .result) (c .branch-at .result) (at-node c .node-at .result)
     (c .before .before .node-source .result)
 linked c =
     let s = start-of c in
     record {
-      fits = s .pre .0;
-      inside = s .pre .1 .0;
-      placed = s .pre .1 .1 .0;
-      low = s .pre .1 .1 .1 .0;
-      high = s .pre .1 .1 .1 .1;
+      at-level = s .pre .0;
+      placed = s .pre .1;
       to = at-address c .level-address .ensures;
       under = c .before .level-address2 .ensures;
       branches = c .branch-at .ensures (geometryOf (s .args .g)) refl;
@@ -61,6 +58,9 @@ level-address-requires-2 c κs = search needs
 branch-at-requires : tie.Need-branch-at-requires
 branch-at-requires c κs = search needs
 
+fanout-requires : tie.Need-fanout-requires
+fanout-requires c κs = search needs
+
 cast-last : tie.Need-cast-last
 cast-last c = search needs
 
@@ -68,7 +68,7 @@ sub-last : tie.Need-sub-last
 sub-last c = search needs
 
 returns : tie.Need-returns
-returns c = leaf-described (linked (c .before .before)) (c .before .if1 .taken)
+returns c = rw (c .fanout .ensures) (leaf-described (linked (c .before .before)) (c .before .if1 .taken))
 
 returns-2 : tie.Need-returns-2
 returns-2 c = above-described (linked (c .before)) (c .if1 .left)
@@ -77,4 +77,4 @@ pub node-store-spec : {M : Type 1} → statement M
 node-store-spec =
     tie.close
     (tie.spec level-address-requires node-at-requires node-source-requires sub-under level-address-requires-2
-    branch-at-requires cast-last sub-last returns returns-2)
+    branch-at-requires fanout-requires cast-last sub-last returns returns-2)

@@ -17,13 +17,8 @@ enum-known-plan c = search needs
 path-store-requires : tie.Need-path-store-requires
 path-store-requires c κs =
     let known = c .before in
-    let s = known .before .before in (
-      s .pre .0,
-      (
-        s .pre .1 .0,
-        (placed-known (geometryOf (s .args .g)) (known .plan .given .1) (s .pre .1 .1 .0), s .pre .1 .1 .1),
-      ),
-    )
+    let s = known .before .before in
+    (s .pre .0, placed-known (geometryOf (s .args .g)) (known .plan .given .1) (s .pre .1))
 
 enum-told-2 : tie.Need-enum-told-2
 enum-told-2 c = search needs

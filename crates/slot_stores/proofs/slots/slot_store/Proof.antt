@@ -1,5 +1,4 @@
 -- `slot_store` meets its contract: the public block first, then the hidden half. Assumes nothing.
-use native.Mathlib.Omega.{arith}
 use borrow.Author.Needs.{needs}
 use Rattle.layout.specs.Geometries.{geometryOf}
 use Rattle.slot_stores.proofs.Laws.Described.{slot-first, slot-later}
@@ -16,9 +15,7 @@ returns c =
     (c .before .if1 .taken) (c .public-store .ensures)
 
 hidden-store-requires : tie.Need-hidden-store-requires
-hidden-store-requires c κs =
-    let s = c .before in
-    (s .pre .0, (s .pre .1 .0, (s .pre .1 .1 .0, (omega (arith, c .if1 .left), s .pre .1 .1 .1))))
+hidden-store-requires c κs = search needs
 
 returns-2 : tie.Need-returns-2
 returns-2 c =

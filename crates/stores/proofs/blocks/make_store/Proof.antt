@@ -31,7 +31,7 @@ after-store c = c .before .before .before .before
 whole-taken :
     (c : tie.After-take-source) →
     length (c .take-source .last .1 .1 .1 .1 .1 .1 .0) ≡ start-of c .args .g .«block_size»
-whole-taken c = c .take-source .kept .1 .1 .1 .1 .1 .1 .0 ∙ start-of c .pre .1 .1 .0
+whole-taken c = c .take-source .kept .1 .1 .1 .1 .1 .1 .0 ∙ start-of c .pre .0 .whole
 
 whole-first :
     (c : tie.After-change-block) →
@@ -52,18 +52,19 @@ take-source-requires c κs = search needs
 change-block-requires : tie.Need-change-block-requires
 change-block-requires c κs =
     let taken = after-take c in
-    rw (whole-taken taken) (start-of taken .pre .1 .0 .first-inside)
+    rw (whole-taken taken) (start-of taken .pre .1 .first-inside)
 
 change-block-requires-2 : tie.Need-change-block-requires-2
 change-block-requires-2 c κs =
     let first = after-first c in
-    rw (whole-first first) (start-of (after-take (first .before)) .pre .1 .0 .second-inside)
+    rw (whole-first first) (start-of (after-take (first .before)) .pre .1 .second-inside)
 
 store-block-requires : tie.Need-store-block-requires
 store-block-requires c κs =
     let second = after-second c in
     let s = start-of (after-take (after-first (second .before) .before)) in
-    (s .pre .0, (s .pre .1 .0 .address-inside, (whole-second second, s .pre .1 .1 .1)))
+    let (lent, makeable) = s .pre in
+    (record { drive = lent .drive; whole = whole-second second; room = lent .room }, makeable .address-inside)
 
 same-length : tie.Need-same-length
 same-length c = search needs

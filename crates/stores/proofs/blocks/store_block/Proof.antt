@@ -2,7 +2,7 @@
 -- Assumes nothing.
 use native.Mathlib.Omega.{arith}
 use borrow.Author.Needs.{needs}
-use Rattle.model.specs.Geometry.{blockCount}
+use Rattle.model.specs.Geometry.{blockCount, blockWidth}
 use Rattle.model.proofs.Laws.Blocks.{block-inside}
 use Rattle.layout.specs.Geometries.{geometryOf}
 use Rattle.stores.proofs.Laws.Made.{made-one}
@@ -24,8 +24,8 @@ mul-at c =
     let g = geometryOf (start .args .g) in
     omega (
       arith,
-      block-inside (g .blockSize) (start .args .disk .now) (blockCount g) (start .pre .0 .whole)
-          (start .args .address .0) (start .pre .1 .0),
+      block-inside (blockWidth g) (start .args .disk .now) (blockCount g) (start .pre .0 .drive .whole)
+          (start .args .address .0) (start .pre .1),
     )
 
 mul-list : tie.Need-mul-list
@@ -40,9 +40,9 @@ copy-at-requires c κs =
     let g = geometryOf (start .args .g) in
     omega (
       arith,
-      start .pre .1 .1 .0,
-      block-inside (g .blockSize) (start .args .disk .now) (blockCount g) (start .pre .0 .whole)
-          (start .args .address .0) (start .pre .1 .0),
+      start .pre .0 .whole,
+      block-inside (blockWidth g) (start .args .disk .now) (blockCount g) (start .pre .0 .drive .whole)
+          (start .args .address .0) (start .pre .1),
     )
 
 add-result : tie.Need-add-result
@@ -60,7 +60,7 @@ returns c =
     let start = at-start (copied .before .before .before) in
     made-one (start .args .g .«block_size») (start .args .address .0) (start .args .block .now)
     (start .args .disk .now)
-    (copied .copy-at .last .0) (start .args .list .now) (start .args .next) (start .pre .1 .1 .1)
+    (copied .copy-at .last .0) (start .args .list .now) (start .args .next) (omega arith)
     (copied .copy-at .ensures)
 
 pub store-block-spec : {M : Type 1} → statement M

@@ -38,28 +38,28 @@ known : (s : tie.Start) (source : Source) → s .args .source ≡ source →
     (s .args .random .now)
 known s source e =
     takeable-known (geometryOf (s .args .g)) (s .args .content .now) (s .args .offered .now)
-    (s .args .random .now) e (s .pre .1 .0)
+    (s .args .random .now) e (s .pre .takeable)
 
 -- the block of a known source is as long as the buffer
 long : (s : tie.Start) (source : Source) → s .args .source ≡ source →
     length (sourceBlock source (geometryOf (s .args .g)) (s .args .disk .now) (s .args .content .now)
-    (s .args .offered .now) (s .args .random .now)) ≡ length (s .args .block .now)
+    (s .args .offered .now) (s .args .random .now)) ≡ length (s .args .buffer .now)
 long s source e =
     length-sourceBlock (geometryOf (s .args .g)) (s .args .disk .now) (s .args .content .now)
-    (s .args .offered .now) (s .args .random .now) (s .pre .0) source (known s source e)
-    ∙ sym (s .pre .1 .1)
+    (s .args .offered .now) (s .args .random .now) (s .pre .drive) source (known s source e)
+    ∙ sym (s .pre .whole)
 
 -- a buffer that took the block of a known source
 filled :
     (s : tie.Start) (source : Source) → s .args .source ≡ source → {after new : Bytes} →
-    after ≡ over 0 new (s .args .block .now) →
+    after ≡ over 0 new (s .args .buffer .now) →
     new ≡ sourceBlock source (geometryOf (s .args .g)) (s .args .disk .now) (s .args .content .now)
     (s .args .offered .now) (s .args .random .now) →
     after ≡ sourceBlock (s .args .source) (geometryOf (s .args .g)) (s .args .disk .now)
     (s .args .content .now) (s .args .offered .now) (s .args .random .now)
 filled s source e {after} {new} f n =
     took (geometryOf (s .args .g)) (s .args .content .now) (s .args .offered .now) (s .args .random .now) e
-    (s .args .disk .now) new (s .args .block .now) f (ap length n ∙ long s source e) n
+    (s .args .disk .now) new (s .args .buffer .now) f (ap length n ∙ long s source e) n
 
 -- ---- the disk ----
 
@@ -69,7 +69,7 @@ enum-known-source c = search needs
 block-at-requires : tie.Need-block-at-requires
 block-at-requires c κs =
     let at = at-disk c in
-    (start-disk at .pre .0, known (start-disk at) _ (at .source .given .1))
+    (start-disk at .pre .drive, known (start-disk at) _ (at .source .given .1))
 
 copy-at-requires : tie.Need-copy-at-requires
 copy-at-requires c κs =

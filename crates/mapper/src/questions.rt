@@ -1,10 +1,10 @@
 // What every caller asks: which drive a disk is, and how large a drive of a geometry is.
+use layout::drives::Opened;
+use layout::drives::open_drive;
 use layout::geometry::Geometry;
 use layout::geometry::block_count;
-use layout::geometry::geometry_in;
 use layout::geometry::head_in;
 use layout::geometry::is_geometry;
-use layout::refusals::drive_fault;
 ghost use mathlib.Core.Path.{_≡_};
 ghost use Rattle.layout.specs.Geometries.{geometryOf};
 ghost use Rattle.mapper.specs.Questions.{identityOf, refusedIdentity, identityIn, sizeOf, sizeFor};
@@ -41,16 +41,13 @@ fn refused_identity(answer: u8) -> Identified
 pub fn identify(disk: &[u8]) -> Identified
     ensures { λ r. ⌜ identityOf r ≡ identityIn (now (disk .entry)) ⌝ }
 {
-    let fault = drive_fault(disk);
-    if fault != 0 {
-        return refused_identity(fault);
-    }
-    let geometry = geometry_in(disk);
-    let head = head_in(disk);
-    Identified {
-        answer: 0,
-        geometry,
-        head,
+    match open_drive(disk) {
+        Opened::Refused(fault) => refused_identity(fault),
+        Opened::Good(geometry) => Identified {
+            answer: 0,
+            geometry,
+            head: head_in(disk),
+        },
     }
 }
 

@@ -1,8 +1,8 @@
 // The write: a public number's data, and what is offered to the hidden volume.
-use crate::needs::write_fault;
-use checks::numbers::number_fault;
+use crate::needs::open_write;
+use checks::numbers::hidden_number_fault;
+use layout::drives::Opened;
 use layout::geometry::Geometry;
-use layout::geometry::geometry_in;
 use layout::geometry::head_in;
 use layout::numbers::HiddenNumber;
 use layout::numbers::PublicNumber;
@@ -17,11 +17,11 @@ ghost use lib.Dec.{eqb};
 ghost use lib.ListN.{length};
 ghost use Rattle.model.specs.Blocks.{Bytes};
 ghost use Rattle.model.specs.Rounds.{runFrom};
-ghost use Rattle.model.specs.Calls.{offerRefusal, outcomeNumber, outcomeOf, startState, written};
+ghost use Rattle.model.specs.Calls.{offerRefusal, outcomeNumber, offerOutcome, startState, written};
 ghost use Rattle.layout.specs.Geometries.{geometryOf};
 ghost use Rattle.plans.specs.States.{stateOf};
 ghost use Rattle.rounds.specs.Runs.{Runnable};
-ghost use Rattle.mapper.specs.Writes.{outcomeSaid, offerOf, takenWrites, RanWith, Answered};
+ghost use Rattle.mapper.specs.Writes.{outcomeOf, callOffer, takenWrites, RanWith, WriteAnswered};
 
 // What has become of the offer: none was made, placed, waiting, not tried since the write is refused, 10, 11,
 // or 12.
@@ -37,7 +37,7 @@ pub enum Outcome {
 
 // Document 01's number of an outcome; none, placed, waiting and not tried are 0 to 3.
 pub fn outcome_number(outcome: Outcome) -> u8
-    ensures { λ r. ⌜ r ≡ outcomeNumber (outcomeSaid outcome) ⌝ }
+    ensures { λ r. ⌜ r ≡ outcomeNumber (outcomeOf outcome) ⌝ }
 {
     match outcome {
         Outcome::NoWrite => 0,
@@ -62,10 +62,10 @@ pub struct Written {
 
 // 10 or 11 of what is offered; 0 where nothing is, or a good hidden write.
 fn offer_fault(g: Geometry, offered: bool, number: HiddenNumber, hidden: &[u8]) -> u8
-    ensures { λ r. ⌜ r ≡ offerRefusal (geometryOf g) (offerOf offered (number .0) (now (hidden .entry))) ⌝ }
+    ensures { λ r. ⌜ r ≡ offerRefusal (geometryOf g) (callOffer offered (number .0) (now (hidden .entry))) ⌝ }
 {
     if offered {
-        return number_fault(g, number, hidden.len());
+        return hidden_number_fault(g, number, hidden.len());
     }
     0
 }
@@ -83,7 +83,7 @@ fn is_taken(offered: bool, bad: u8) -> bool
 // What has become of an offer with this refusal, by the state after the rounds.
 fn outcome_of(bad: u8, state: State) -> Outcome
     ensures { λ r. ⌜
-        ((number : ℕ) (content : Bytes) → outcomeSaid r ≡ outcomeOf bad (stateOf state number content)) ⌝ }
+        ((number : ℕ) (content : Bytes) → outcomeOf r ≡ offerOutcome bad (stateOf state number content)) ⌝ }
 {
     if bad == 10 {
         return Outcome::BadNumber;
@@ -111,7 +111,8 @@ fn outcome_of(bad: u8, state: State) -> Outcome
 
 // ---- the write ----
 
-// The rounds of a write that is not refused, with the offer or without one.
+// The rounds of a write that is not refused, with the offer or without one. Where nothing is offered no round
+// takes the offered block; the public data stands in for it, as a block of the right length.
 fn run_offer(
     disk: &mut [u8],
     list: &mut [u32],
@@ -182,43 +183,43 @@ pub fn write_block(
     random: &[u8],
     list: &mut [u32],
 ) -> Written
-    ensures { λ r. ⌜ Answered (written (now (disk .entry)) (number .0) (now (content .entry))
+    ensures { λ r. ⌜ WriteAnswered (written (now (disk .entry)) (number .0) (now (content .entry))
         (now (random .entry)) (length (now (list .entry)))
-        (offerOf offered («hidden_number» .0) (now (hidden .entry)))) (now (disk .entry))
+        (callOffer offered («hidden_number» .0) (now (hidden .entry)))) (now (disk .entry))
         (now (list .entry)) (now (disk .exit)) (now (list .exit)) r ⌝ }
 {
-    let fault = write_fault(disk, number, content, random, list);
-    if fault != 0 {
-        return Written {
+    match open_write(disk, number, content, random, list) {
+        Opened::Refused(fault) => Written {
             answer: fault,
             rounds: 0,
             stores: 0,
             outcome: Outcome::NotTried,
-        };
-    }
-    let g = geometry_in(disk);
-    let head = head_in(disk);
-    let bad = offer_fault(g, offered, hidden_number, hidden);
-    let taken = is_taken(offered, bad);
-    let ran = run_offer(
-        disk,
-        list,
-        g,
-        number,
-        head,
-        content,
-        random,
-        taken,
-        hidden_number,
-        hidden,
-    );
-    let rounds = ran.rounds;
-    let stores = ran.next;
-    let state = ran.state;
-    Written {
-        answer: 0,
-        rounds,
-        stores: stores as u32,
-        outcome: outcome_of(bad, state),
+        },
+        Opened::Good(g) => {
+            let head = head_in(disk);
+            let bad = offer_fault(g, offered, hidden_number, hidden);
+            let taken = is_taken(offered, bad);
+            let ran = run_offer(
+                disk,
+                list,
+                g,
+                number,
+                head,
+                content,
+                random,
+                taken,
+                hidden_number,
+                hidden,
+            );
+            let rounds = ran.rounds;
+            let stores = ran.next;
+            let state = ran.state;
+            Written {
+                answer: 0,
+                rounds,
+                stores: stores as u32,
+                outcome: outcome_of(bad, state),
+            }
+        }
     }
 }

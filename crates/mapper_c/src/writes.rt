@@ -5,7 +5,7 @@ use mapper::outcome_number;
 use mapper::write_block;
 ghost use lib.ListN.{length};
 ghost use Rattle.model.specs.Calls.{written};
-ghost use Rattle.mapper.specs.Writes.{offerOf};
+ghost use Rattle.mapper.specs.Writes.{callOffer};
 ghost use Rattle.mapper_c.specs.Writes.{Answered};
 
 // 0 or the refusal, the rounds, the stores, and what has become of the offer: 0 none was made, 1 placed,
@@ -33,7 +33,7 @@ pub extern "C" fn pddm_write(
 ) -> Written
     ensures { λ r. ⌜ Answered
         (written (now (disk .entry)) number (now (content .entry)) (now (random .entry))
-        (length (now (list .entry))) (offerOf offered «hidden_number» (now (hidden .entry))))
+        (length (now (list .entry))) (callOffer offered «hidden_number» (now (hidden .entry))))
         (now (disk .entry)) (now (list .entry)) (now (disk .exit)) (now (list .exit)) r ⌝ }
 {
     let written = write_block(

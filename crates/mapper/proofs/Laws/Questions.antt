@@ -17,32 +17,32 @@ use Rattle.mapper.specs.Questions.{Size, refusedSize, sizeFor}
 -- ---- which drive a disk is ----
 
 module _ (disk : Bytes) where
-  pub identity-refused :
+  pub identityIn-refused :
       (answer : ℕ) → answer ≡ driveRefusal disk → answer ≢ 0 → refusedIdentity answer ≡ identityIn disk
   unfolding identityIn
-  identity-refused answer e f =
+  identityIn-refused answer e f =
       ap refusedIdentity e ∙ sym (cond-false _ _ (ne-eqb (driveRefusal disk) 0 (λ z. f (e ∙ z))))
 
-  pub identity-told :
+  pub identityIn-told :
       driveRefusal disk ≡ 0 → (g : Geometry) → g ≡ geometryIn disk → (head : ℕ) → head ≡ headIn disk →
       toldIdentity g head ≡ identityIn disk
   unfolding identityIn
-  identity-told accepted g same head first =
+  identityIn-told accepted g same head first =
       ap (λ (h : Geometry). toldIdentity h head) same ∙ ap (toldIdentity (geometryIn disk)) first
       ∙ sym (cond-true _ _ (eq-eqb (driveRefusal disk) 0 accepted))
 
 -- ---- how large a drive is ----
 
 module _ (g : Geometry) where
-  pub size-refused : isGeometry g ≡ false → refusedSize ≡ sizeFor g
+  pub sizeFor-refused : isGeometry g ≡ false → refusedSize ≡ sizeFor g
   unfolding sizeFor
-  size-refused e = sym (cond-false _ _ e)
+  sizeFor-refused e = sym (cond-false _ _ e)
 
-  pub size-told :
+  pub sizeFor-told :
       isGeometry g ≡ true → (blocks : ℕ) → blocks ≡ blockCount g →
       _≡_ {A = Size} (record { answer = 0; blocks = blocks; bytes = blocks * g .blockSize }) (sizeFor g)
   unfolding sizeFor
-  size-told e blocks counted =
+  sizeFor-told e blocks counted =
       ap (λ (n : ℕ). record { answer = 0; blocks = n; bytes = n * g .blockSize }) counted
       ∙ sym (cond-true _ _ e)
 

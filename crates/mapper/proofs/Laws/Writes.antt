@@ -4,39 +4,41 @@
 use mathlib.Core.Path.{_≡_, refl, sym, ap, subst, _∙_}
 use mathlib.Core.Logic.{_≢_}
 use mathlib.Core.Bool.{Bool, true, false, _&&_}
-use mathlib.Core.List.{List}
+use mathlib.Core.List.{List, []}
 use mathlib.Core.Option.{Option}
 use Prim.Native.Nat.{ℕ, _+_, _*_, _^_, _<_}
 use native.Mathlib.Nat.{mul-assoc}
 use native.Mathlib.Omega.{arith}
 use lib.Dec.{eqb}
 use lib.ListN.{length}
+use Rattle.laws.specs.Lists.{over}
 use Rattle.laws.proofs.Cases.{cond-cases}
 use Rattle.laws.proofs.Lists.{over-nil}
-use Rattle.model.specs.Geometry.{Geometry}
+use Rattle.model.specs.Geometry.{Geometry, blockWidth}
 use Rattle.model.specs.Blocks.{Bytes, DiskAddress}
 use Rattle.model.specs.Layout.{geometryIn, headIn, roundSlot, isOneBlock, mapEntry}
-use Rattle.model.specs.Stores.{addresses}
 use Rattle.model.specs.HiddenHalf.{HiddenWrite}
 use Rattle.model.specs.Rounds.{Run, runFrom}
 use Rattle.model.specs.Refusals.{roundCount, writeStoreCount, writeRefusal}
 use Rattle.model.specs.Calls as model
 use Rattle.model.proofs.Laws.Runs.{rounds-ran, length-ran}
-use Rattle.model.proofs.Laws.Stores.{apply-nil}
+use Rattle.model.proofs.Laws.Stores.{apply-nil, addresses-take}
 use Rattle.model.proofs.Laws.Refusals.{Accepted, accepted-of-refusal}
 use Rattle.model.proofs.Laws.Accepted.{AcceptedWrite, accepted-of-write, driveRefusal-of-write}
 use Rattle.model.proofs.Laws.Calls.{written-refused, written-done}
+use Rattle.model.proofs.Laws.Offers.{writeRun-is}
 use Rattle.model.proofs.Laws.WriteRuns.{writeRun-ran}
 use Rattle.model.proofs.Refusals.Circle.{roundCount-le}
+use Rattle.stores.proofs.Laws.Made.{disk-after, list-after, next-after}
+use Rattle.model.proofs.Laws.RoundSearch.{stores-small}
 use Rattle.rounds.specs.declared.runs.Ran.{Ran}
 use Rattle.plans.specs.declared.states.Offer.the-variants.{Absent, Waiting}
 use Rattle.plans.specs.States.{stateOf}
 use Rattle.rounds.specs.Runs.{Runnable, RunMade}
 use Rattle.mapper.specs.declared.write.Outcome.{Outcome}
 use Rattle.mapper.specs.declared.write.Outcome.the-variants.{NotTried}
-use Rattle.mapper.specs.Writes.{outcomeSaid, offerOf, takenWrites, RanWith, Answered}
+use Rattle.mapper.specs.Writes.{outcomeOf, callOffer, takenWrites, RanWith, WriteAnswered}
 use Rattle.mapper.proofs.Laws.Offers.{writes-taken}
-use Rattle.checks.proofs.Laws.RoundCounts.{stores-small}
 
 -- ---- with the offer or without ----
 
@@ -72,7 +74,7 @@ module _ (g : Geometry) (disk : Bytes) (number head : ℕ) (content random : Byt
           number-inside = here .number-inside;
           head-inside = here .head-inside;
           content-whole = here .content-whole;
-          hidden-whole = whole;
+          offered-whole = whole;
           old-place = here .old-place;
           random-enough = here .random-enough;
           room-enough = here .room-enough;
@@ -96,7 +98,7 @@ module _ (g : Geometry) (disk : Bytes) (number head : ℕ) (content random : Byt
         (stateOf (record { offer = Waiting; «met_damage» = false }) hiddenNumber hidden)) hiddenNumber hidden
         diskAfter
         listAfter ran → RanWith g disk list run diskAfter listAfter ran
-    ran-taken e made = rw e (record { offered = hiddenNumber; hidden = hidden; run-made = made })
+    ran-taken e made = rw e (record { hiddenNumber = hiddenNumber; hidden = hidden; run-made = made })
 
     pub ran-absent :
         taken ≡ false →
@@ -105,7 +107,7 @@ module _ (g : Geometry) (disk : Bytes) (number head : ℕ) (content random : Byt
         (stateOf (record { offer = Absent; «met_damage» = false }) hiddenNumber content)) hiddenNumber content
         diskAfter
         listAfter ran → RanWith g disk list run diskAfter listAfter ran
-    ran-absent e made = rw e (record { offered = hiddenNumber; hidden = content; run-made = made })
+    ran-absent e made = rw e (record { hiddenNumber = hiddenNumber; hidden = content; run-made = made })
 
 -- ---- refused ----
 
@@ -113,9 +115,8 @@ pub answered-refused :
     (disk : Bytes) (number : ℕ) (content random : Bytes) (list : List DiskAddress)
     (offer : Option HiddenWrite)
     (fault : ℕ) → fault ≡ writeRefusal disk number content (length random) (length list) → fault ≢ 0 →
-    Answered (model.written disk number content random (length list) offer) disk list disk list
+    WriteAnswered (model.written disk number content random (length list) offer) disk list disk list
     (record { answer = fault; rounds = 0; stores = 0; outcome = NotTried })
-unfolding addresses
 answered-refused disk number content random list offer fault e f =
     rw (written-refused disk number content random (length list) offer (λ z. f (e ∙ z)))
     (record {
@@ -123,8 +124,10 @@ answered-refused disk number content random list offer fault e f =
       rounds-are = refl;
       stores-are = refl;
       outcome-is = refl;
-      stored = sym (apply-nil (geometryIn disk .blockSize) disk);
-      listed = sym (over-nil 0 list (omega arith));
+      stored = sym (apply-nil (blockWidth (geometryIn disk)) disk);
+      listed =
+          sym (ap (λ (addresses : List DiskAddress). over 0 addresses list) (addresses-take [] 0)
+          ∙ over-nil 0 list (omega arith));
     })
 
 -- ---- not refused ----
@@ -133,10 +136,10 @@ module _ (disk : Bytes) (number : ℕ) (content random : Bytes) (list : List Dis
     (hiddenNumber : ℕ) (hidden : Bytes)
     (accepted : writeRefusal disk number content (length random) (length list) ≡ 0) (g : Geometry)
     (same : g ≡ geometryIn disk) (head : ℕ) (first : head ≡ headIn disk) (bad : ℕ)
-    (judged : bad ≡ model.offerRefusal g (offerOf offered hiddenNumber hidden)) (taken : Bool)
+    (judged : bad ≡ model.offerRefusal g (callOffer offered hiddenNumber hidden)) (taken : Bool)
     (decided : taken ≡ (offered && eqb bad 0)) where
   abbrev offer : Option HiddenWrite
-  offer = offerOf offered hiddenNumber hidden
+  offer = callOffer offered hiddenNumber hidden
 
   abbrev theirs : Run
   theirs = model.writeRun (geometryIn disk) disk number content random offer
@@ -154,7 +157,6 @@ module _ (disk : Bytes) (number : ℕ) (content random : Bytes) (list : List Dis
 
   -- the run with the geometry and the head that were read is the write's
   run-is : runTaken g disk number head content random taken hiddenNumber hidden ≡ theirs
-  unfolding model.writeRun
   run-is =
       ap (λ (h : Geometry). runTaken h disk number head content random taken hiddenNumber hidden) same
       ∙ ap (λ (k : ℕ). runTaken (geometryIn disk) disk number k content random taken hiddenNumber hidden)
@@ -163,6 +165,7 @@ module _ (disk : Bytes) (number : ℕ) (content random : Bytes) (list : List Dis
       disk
       (model.startState writes))
       (writes-taken (geometryIn disk) hiddenNumber hidden bad offered taken bad-is decided)
+      ∙ sym (writeRun-is (geometryIn disk) disk number content random offer)
 
   rounds-are : theirs .rounds ≡ roundCount (geometryIn disk) disk
   rounds-are =
@@ -185,7 +188,7 @@ module _ (disk : Bytes) (number : ℕ) (content random : Bytes) (list : List Dis
         number-inside = a .number-inside;
         head-inside = drive .head-inside;
         content-whole = a .block-sized;
-        hidden-whole = a .block-sized;
+        offered-whole = a .block-sized;
         old-place = a .in-place;
         random-enough =
             rw rounds-are
@@ -214,8 +217,8 @@ module _ (disk : Bytes) (number : ℕ) (content random : Bytes) (list : List Dis
     done-theirs =
         subst (λ (h : Geometry). RanWith h disk list theirs diskAfter listAfter ran) same (rw run-is at done)
 
-    pub stores-fit : ran .next < 2 ^ 32
-    stores-fit =
+    pub next-fits : ran .next < 2 ^ 32
+    next-fits =
         let g = geometryIn disk in
         let rounds = roundCount g disk in
         let small = stores-small g (drive .sized .fits) rounds (roundCount-le g disk) in
@@ -223,12 +226,13 @@ module _ (disk : Bytes) (number : ℕ) (content random : Bytes) (list : List Dis
         cond-cases (λ (n : ℕ). rounds * (g .height + 3) + n < 2 ^ 32)
         (isOneBlock g (mapEntry g disk number) (roundSlot g (headIn disk) rounds))
         (λ e. omega arith) (λ e. omega arith) in
-        omega (arith, done-theirs .run-made .made .counted, stores-are)
+        omega (arith, next-after (done-theirs .run-made .made), stores-are)
 
     pub answered-done :
         (outcome : Outcome) →
-        ((n : ℕ) (c : Bytes) → outcomeSaid outcome ≡ model.outcomeOf bad (stateOf (ran .state) n c)) →
-        Answered (model.written disk number content random (length list) offer) disk list diskAfter listAfter
+        ((n : ℕ) (c : Bytes) → outcomeOf outcome ≡ model.offerOutcome bad (stateOf (ran .state) n c)) →
+        WriteAnswered (model.written disk number content random (length list) offer) disk list diskAfter
+        listAfter
         (record { answer = 0; rounds = ran .rounds; stores = ran .next; outcome = outcome })
     answered-done outcome said =
         let m = done-theirs .run-made in
@@ -236,11 +240,11 @@ module _ (disk : Bytes) (number : ℕ) (content random : Bytes) (list : List Dis
         (record {
           answered = refl;
           rounds-are = m .rounds-are;
-          stores-are = omega (arith, m .made .counted);
+          stores-are = omega (arith, next-after (m .made));
           outcome-is =
-              said (done-theirs .offered) (done-theirs .hidden)
-              ∙ ap (model.outcomeOf bad) (m .state-is) ∙ ap (λ (n : ℕ). model.outcomeOf n (theirs .state))
-              bad-is;
-          stored = m .made .on-disk;
-          listed = m .made .in-list;
+              said (done-theirs .hiddenNumber) (done-theirs .hidden)
+              ∙ ap (model.offerOutcome bad) (m .state-is)
+              ∙ ap (λ (n : ℕ). model.offerOutcome n (theirs .state)) bad-is;
+          stored = disk-after (m .made);
+          listed = list-after (m .made);
         })

@@ -11,8 +11,8 @@ use Rattle.mapper_c.specs.Writes.{Answered}
 pub answered-of-mapper :
     {result : model.Written} {disk : Bytes} {list : List DiskAddress} {diskAfter : Bytes}
     {listAfter : List DiskAddress} {answer : declared.Written} {outcome : ℕ} →
-    mapper.Answered result disk list diskAfter listAfter answer →
-    outcome ≡ model.outcomeNumber (mapper.outcomeSaid (answer .outcome)) →
+    mapper.WriteAnswered result disk list diskAfter listAfter answer →
+    outcome ≡ model.outcomeNumber (mapper.outcomeOf (answer .outcome)) →
     Answered result disk list diskAfter listAfter (record {
       answer = answer .answer;
       rounds = answer .rounds;

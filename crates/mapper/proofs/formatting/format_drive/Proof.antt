@@ -7,12 +7,12 @@ use lib.ListN.{length, replicate}
 use borrow.Author.Needs.{needs}
 use Rattle.laws.specs.Lists.{over}
 use Rattle.model.specs.Refusals.{formatRefusal}
-use Rattle.model.proofs.Laws.Refusals.{Sized, sized-of-refusal}
 use Rattle.model.specs.Blocks.{packed}
+use Rattle.model.proofs.Laws.Refusals.{Sized, sized-of-refusal}
+use Rattle.model.proofs.Laws.Formatting.{formatted-refused, formatted-is}
+use Rattle.model.proofs.Laws.Headers.{areaStart-inside, header-over-zeros}
 use Rattle.layout.specs.Geometries.{geometryOf}
 use Rattle.mapper.specs.Headers.{headerEntries}
-use Rattle.mapper.proofs.Laws.Formatting.{front-inside, header-over-zeros, formatted-refused}
-use Rattle.mapper.proofs.Laws.Formatting.{formatted-accepted}
 use Rattle.mapper.proofs.formatting.format_drive.Statement.{statement}
 use Rattle.mapper.proofs.formatting.format_drive.Tie as tie
 
@@ -45,7 +45,7 @@ front c =
     let s = start (c .before) .args in
     let z = sized (c .before) in
     rw (c .area-start .ensures)
-    (front-inside (geometryOf (s .geometry)) (z .fits) (s .disk .now)
+    (areaStart-inside (geometryOf (s .geometry)) (z .fits) (s .disk .now)
     (record { fits = z .fits; whole = z .whole }))
 
 size-fault-requires : tie.Need-size-fault-requires
@@ -55,7 +55,7 @@ returns : tie.Need-returns
 returns c =
     let s = c .before .before .before .args in
     let told = c .before .size-fault .ensures in
-    (told, formatted-refused (s .disk .now) (geometryOf (s .geometry)) (λ e. c .if1 .taken (told ∙ e)))
+    (told, sym (formatted-refused (s .disk .now) (geometryOf (s .geometry)) (λ e. c .if1 .taken (told ∙ e))))
 
 area-start-requires : tie.Need-area-start-requires
 area-start-requires c κs = sized c .fits
@@ -93,7 +93,7 @@ returns-2 c =
       c .before .before .put-header .ensures
           ∙ ap (over 0 (packed (headerEntries g))) (z .clear-at .ensures ∙ zeros)
           ∙ header-over-zeros g (sized (a .before) .fits) (s .disk .now)
-          ∙ formatted-accepted (s .disk .now) g e,
+          ∙ sym (formatted-is (s .disk .now) g e),
     )
 
 pub format-drive-spec : {M : Type 1} → statement M

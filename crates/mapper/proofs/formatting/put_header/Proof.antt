@@ -1,7 +1,7 @@
 -- `put_header` meets its contract: six entries one after another are the packed ones. Assumes nothing.
 use borrow.Author.Needs.{needs}
+use Rattle.model.proofs.Laws.Headers.{header-put}
 use Rattle.layout.specs.Geometries.{geometryOf}
-use Rattle.mapper.proofs.Laws.Formatting.{header-put}
 use Rattle.mapper.proofs.formatting.put_header.Statement.{statement}
 use Rattle.mapper.proofs.formatting.put_header.Tie as tie
 

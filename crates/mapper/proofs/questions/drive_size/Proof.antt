@@ -9,7 +9,7 @@ use Rattle.model.specs.Geometry.{Geometry, Fits, isGeometry}
 use Rattle.model.proofs.Laws.Geometry.{fits-of-isGeometry}
 use Rattle.layout.specs.Geometries.{geometryOf}
 use Rattle.layout.proofs.Laws.Geometry.{bounded-of-fits}
-use Rattle.mapper.proofs.Laws.Questions.{size-refused, size-told, bytes-small}
+use Rattle.mapper.proofs.Laws.Questions.{sizeFor-refused, sizeFor-told, bytes-small}
 use Rattle.mapper.proofs.questions.drive_size.Statement.{statement}
 use Rattle.mapper.proofs.questions.drive_size.Tie as tie
 
@@ -28,7 +28,7 @@ is-geometry-requires c κs = search needs
 returns : tie.Need-returns
 returns c =
     let tested = c .before .is-geometry in
-    size-refused (geometryOf (c .before .before .args .geometry))
+    sizeFor-refused (geometryOf (c .before .before .args .geometry))
     (sym (tested .ensures) ∙ not-true (tested .result) (c .if1 .taken))
 
 block-count-requires : tie.Need-block-count-requires
@@ -49,7 +49,7 @@ mul-t7 c =
 returns-2 : tie.Need-returns-2
 returns-2 c =
     let counted = c .before in
-    size-told (shapeOf (counted .before)) (good (counted .before)) (counted .block-count .result)
+    sizeFor-told (shapeOf (counted .before)) (good (counted .before)) (counted .block-count .result)
     (counted .block-count .ensures)
 
 pub drive-size-spec : {M : Type 1} → statement M

@@ -2,8 +2,6 @@
 use Rattle.mapper.proofs.Laws.Offers.{taken-good, taken-bad}
 use Rattle.mapper.proofs.write.is_taken.Statement.{statement}
 use Rattle.mapper.proofs.write.is_taken.Tie as tie
-use Rattle.mapper.proofs.write.is_taken.Reads as reads
-use Rattle.mapper.proofs.write.is_taken.Lts as lts
 
 returns : tie.Need-returns
 returns c = taken-good (c .before .args .offered) (c .before .args .bad) (c .if1 .taken)

@@ -5,17 +5,14 @@ use Rattle.mapper.proofs.Laws.Offers.{refusal-offered, refusal-none}
 use borrow.Author.Needs.{needs}
 use Rattle.mapper.proofs.write.offer_fault.Statement.{statement}
 use Rattle.mapper.proofs.write.offer_fault.Tie as tie
-use Rattle.mapper.proofs.write.offer_fault.Reads as reads
-use Rattle.mapper.proofs.write.offer_fault.Lts as lts
-use Rattle.checks.proofs.numbers.number_fault.Reads as number-fault-reads
 
-number-fault-requires : tie.Need-number-fault-requires
-number-fault-requires c κs = search needs
+hidden-number-fault-requires : tie.Need-hidden-number-fault-requires
+hidden-number-fault-requires c κs = search needs
 
 returns : tie.Need-returns
 returns c =
     let s = c .before .before .before in
-    c .number-fault .ensures ∙ refusal-offered (geometryOf (s .args .g)) (s .args .number .0)
+    c .hidden-number-fault .ensures ∙ refusal-offered (geometryOf (s .args .g)) (s .args .number .0)
     (s .args .hidden .now) (s .args .offered) (c .before .if1 .taken)
 
 returns-2 : tie.Need-returns-2
@@ -23,4 +20,4 @@ returns-2 c = let s = c .before .before in refusal-none (geometryOf (s .args .g)
     (s .args .hidden .now) (s .args .offered) (c .if1 .left)
 
 pub offer-fault-spec : {M : Type 1} → statement M
-offer-fault-spec = tie.close (tie.spec number-fault-requires returns returns-2)
+offer-fault-spec = tie.close (tie.spec hidden-number-fault-requires returns returns-2)

@@ -1,19 +1,21 @@
 -- `write_block` meets its contract: a refused write leaves disk and list, another one is run with its offer
 -- or without. Assumes nothing.
-use mathlib.Core.Path.{_≡_, sym, _∙_}
+use mathlib.Core.Path.{_≡_}
 use mathlib.Core.Bool.{true}
-use Prim.Native.Nat.{_<_, _^_}
+use Prim.Native.Nat.{ℕ, _<_, _^_}
 use native.Mathlib.Omega.{arith}
 use lib.ListN.{length}
 use borrow.Author.Needs.{needs}
 use Rattle.model.specs.Geometry.{Geometry}
-use Rattle.model.specs.Refusals.{driveRefusal, writeRefusal}
+use Rattle.model.specs.Refusals.{writeRefusal}
 use Rattle.model.proofs.Laws.Accepted.{driveRefusal-of-write}
+use Rattle.layout.specs.Drives.{OpenedWith}
 use Rattle.layout.specs.Geometries.{geometryOf}
 use Rattle.layout.proofs.Laws.Drives.{long-enough}
-use Rattle.mapper.specs.Writes.{offerOf}
+use Rattle.layout.proofs.Laws.Opened.{opened-refused, opened-good}
+use Rattle.mapper.specs.Writes.{callOffer}
 use Rattle.mapper.proofs.Laws.Offers.{taken-whole}
-use Rattle.mapper.proofs.Laws.Writes.{answered-refused, runnable, stores-fit, answered-done}
+use Rattle.mapper.proofs.Laws.Writes.{answered-refused, runnable, next-fits, answered-done}
 use Rattle.mapper.proofs.write.write_block.Statement.{statement}
 use Rattle.mapper.proofs.write.write_block.Tie as tie
 
@@ -22,22 +24,32 @@ use Rattle.mapper.proofs.write.write_block.Tie as tie
 abbrev entryOf : tie.After-shared-slice-known3 → tie.Start
 entryOf c = c .before .before .before .before
 
-abbrev startOf : tie.After-write-fault → tie.Start
+abbrev startOf : tie.After-open-write → tie.Start
 startOf c = entryOf (c .before .before .before .before)
 
--- the drive of a write that is not refused is read
-abbrev acceptedOf : tie.After-geometry-in → tie.Else1
-acceptedOf c = c .before .before
+-- the refusal of the write
+abbrev refusalOf : tie.Start → ℕ
+refusalOf s =
+    let a = s .args in
+    writeRefusal (a .disk .now) (a .number .0) (a .content .now) (length (a .random .now))
+    (length (a .list .now))
 
-abbrev shapeOf : tie.After-geometry-in → Geometry
-shapeOf c = geometryOf (c .geometry-in .result)
+-- the drive of a write that is not refused is opened
+abbrev openingOf : tie.After-g → tie.After-open-write
+openingOf c = c .before .before
+
+abbrev shapeOf : tie.After-g → Geometry
+shapeOf c = geometryOf (c .g .given .0 .0)
 
 -- the offer is judged
-abbrev readOf : tie.After-is-taken → tie.After-geometry-in
-readOf c = c .before .before .before .before
+abbrev headOf : tie.After-is-taken → tie.After-head-in
+headOf c = c .before .before
+
+abbrev readOf : tie.After-is-taken → tie.After-g
+readOf c = headOf c .before .before .before
 
 abbrev startOfTaken : tie.After-is-taken → tie.Start
-startOfTaken c = startOf (acceptedOf (readOf c) .before)
+startOfTaken c = startOf (openingOf (readOf c))
 
 -- the rounds are run
 abbrev takenOf : tie.After-run-offer → tie.After-is-taken
@@ -48,20 +60,15 @@ ranOf c = c .before .before .before .before
 
 -- ---- what is known there ----
 
--- the write is not refused
-accepted :
-    (c : tie.Else1) →
-    let a = startOf (c .before) .args in
-    writeRefusal (a .disk .now) (a .number .0) (a .content .now) (length (a .random .now))
-    (length (a .list .now)) ≡ 0
-accepted c = sym (c .before .write-fault .ensures) ∙ c .if1 .left
-
--- so the drive is not
-accepted-drive : (c : tie.Else1) → driveRefusal (startOf (c .before) .args .disk .now) ≡ 0
-accepted-drive c =
-    let a = startOf (c .before) .args in
-    driveRefusal-of-write (a .disk .now) (a .number .0) (a .content .now) (length (a .random .now))
-    (length (a .list .now)) (accepted c)
+-- the write is not refused, and its drive is read
+opened :
+    (c : tie.After-g) →
+    let s = startOf (openingOf c) in
+    OpenedWith (refusalOf s) (s .args .disk .now) (shapeOf c)
+opened c =
+    let s = startOf (openingOf c) in
+    let opening = openingOf c .open-write in
+    opened-good (refusalOf s) (s .args .disk .now) (opening .result) (opening .ensures) (c .g .given .1)
 
 -- an offer that is taken is a whole block
 whole :
@@ -77,43 +84,34 @@ whole c =
 few : (c : tie.After-run-offer) → c .run-offer .result .next < 2 ^ 32
 few c =
     let taken = takenOf c in
-    let read = readOf taken in
+    let o = opened (readOf taken) in
     let a = startOfTaken taken .args in
-    let bad = taken .before in
+    let bad = taken .before .offer-fault in
+    let head = headOf taken .head-in in
     let ran = c .run-offer in
-    stores-fit (a .disk .now) (a .number .0) (a .content .now) (a .random .now) (a .list .now) (a .offered)
-    (a .hidden-number .0) (a .hidden .now) (accepted (acceptedOf read)) (shapeOf read)
-    (read .geometry-in .ensures) (bad .before .head-in .result) (bad .before .head-in .ensures)
-    (bad .offer-fault .result) (bad .offer-fault .ensures) (taken .is-taken .result)
-    (taken .is-taken .ensures) (ran .last .0) (ran .last .1 .0) (ran .result) (ran .ensures)
+    next-fits (a .disk .now) (a .number .0) (a .content .now) (a .random .now) (a .list .now) (a .offered)
+    (a .hidden-number .0) (a .hidden .now) (o .accepted) (shapeOf (readOf taken)) (o .same) (head .result)
+    (head .ensures) (bad .result) (bad .ensures) (taken .is-taken .result) (taken .is-taken .ensures)
+    (ran .last .0) (ran .last .1 .0) (ran .result) (ran .ensures)
 
 -- ---- what the calls need, and what is answered ----
 
-write-fault-requires : tie.Need-write-fault-requires
-write-fault-requires c κs = search needs
+open-write-requires : tie.Need-open-write-requires
+open-write-requires c κs = search needs
 
-same-length : tie.Need-same-length
-same-length c = search needs
+enum-known-fault : tie.Need-enum-known-fault
+enum-known-fault c = search needs
 
-same-length-2 : tie.Need-same-length-2
-same-length-2 c = search needs
-
-returns : tie.Need-returns
-returns c =
-    let a = startOf (c .before) .args in
-    let fault = c .before .write-fault in
-    answered-refused (a .disk .now) (a .number .0) (a .content .now) (a .random .now) (a .list .now)
-    (offerOf (a .offered) (a .hidden-number .0) (a .hidden .now)) (fault .result) (fault .ensures)
-    (c .if1 .taken)
-
-geometry-in-requires : tie.Need-geometry-in-requires
-geometry-in-requires c κs =
-    let s = startOf (c .before .before) in long-enough (s .args .disk .now) (accepted-drive (c .before))
+enum-known-g : tie.Need-enum-known-g
+enum-known-g c = search needs
 
 head-in-requires : tie.Need-head-in-requires
 head-in-requires c κs =
-    let passed = acceptedOf (c .before) in
-    long-enough (startOf (passed .before) .args .disk .now) (accepted-drive passed)
+    let read = c .before .before in
+    let a = startOf (openingOf read) .args in
+    long-enough (a .disk .now)
+    (driveRefusal-of-write (a .disk .now) (a .number .0) (a .content .now) (length (a .random .now))
+    (length (a .list .now)) (opened read .accepted))
 
 offer-fault-requires : tie.Need-offer-fault-requires
 offer-fault-requires c κs = search needs
@@ -124,22 +122,38 @@ is-taken-requires c κs = search needs
 run-offer-requires : tie.Need-run-offer-requires
 run-offer-requires c κs =
     let taken = c .before .before in
-    let read = readOf taken in
+    let o = opened (readOf taken) in
     let a = startOfTaken taken .args in
-    let bad = taken .before in (
+    let bad = taken .before .offer-fault in
+    let head = headOf taken .head-in in (
       runnable (a .disk .now) (a .number .0) (a .content .now) (a .random .now) (a .list .now) (a .offered)
-          (a .hidden-number .0) (a .hidden .now) (accepted (acceptedOf read)) (shapeOf read)
-          (read .geometry-in .ensures) (bad .before .head-in .result) (bad .before .head-in .ensures)
-          (bad .offer-fault .result) (bad .offer-fault .ensures) (taken .is-taken .result)
+          (a .hidden-number .0) (a .hidden .now) (o .accepted) (shapeOf (readOf taken)) (o .same)
+          (head .result) (head .ensures) (bad .result) (bad .ensures) (taken .is-taken .result)
           (taken .is-taken .ensures),
       whole taken,
     )
 
-cast-t32 : tie.Need-cast-t32
-cast-t32 c = omega (arith, few (ranOf (c .before)))
+cast-t31 : tie.Need-cast-t31
+cast-t31 c = omega (arith, few (ranOf (c .before)))
 
 outcome-of-requires : tie.Need-outcome-of-requires
 outcome-of-requires c κs = search needs
+
+same-length : tie.Need-same-length
+same-length c = search needs
+
+same-length-2 : tie.Need-same-length-2
+same-length-2 c = search needs
+
+returns : tie.Need-returns
+returns c =
+    let opening = c .before .before .before in
+    let s = startOf opening in
+    let a = s .args in
+    let told = opened-refused (refusalOf s) (a .disk .now) (opening .open-write .result)
+    (opening .open-write .ensures) (c .before .fault .given .1) in
+    answered-refused (a .disk .now) (a .number .0) (a .content .now) (a .random .now) (a .list .now)
+    (callOffer (a .offered) (a .hidden-number .0) (a .hidden .now)) _ (told .fault-is) (told .fault-some)
 
 same-length-3 : tie.Need-same-length-3
 same-length-3 c = search needs
@@ -151,32 +165,33 @@ returns-2 : tie.Need-returns-2
 returns-2 c =
     let run = ranOf (c .before .before) in
     let taken = takenOf run in
-    let read = readOf taken in
+    let o = opened (readOf taken) in
     let a = startOfTaken taken .args in
-    let bad = taken .before in
+    let bad = taken .before .offer-fault in
+    let head = headOf taken .head-in in
     let ran = run .run-offer in
     answered-done (a .disk .now) (a .number .0) (a .content .now) (a .random .now) (a .list .now) (a .offered)
-    (a .hidden-number .0) (a .hidden .now) (accepted (acceptedOf read)) (shapeOf read)
-    (read .geometry-in .ensures) (bad .before .head-in .result) (bad .before .head-in .ensures)
-    (bad .offer-fault .result) (bad .offer-fault .ensures) (taken .is-taken .result)
-    (taken .is-taken .ensures) (ran .last .0) (ran .last .1 .0) (ran .result) (ran .ensures)
-    (c .outcome-of .result) (c .outcome-of .ensures)
+    (a .hidden-number .0) (a .hidden .now) (o .accepted) (shapeOf (readOf taken)) (o .same) (head .result)
+    (head .ensures) (bad .result) (bad .ensures) (taken .is-taken .result) (taken .is-taken .ensures)
+    (ran .last .0) (ran .last .1 .0) (ran .result) (ran .ensures) (c .outcome-of .result)
+    (c .outcome-of .ensures)
 
 pub write-block-spec : {M : Type 1} → statement M
 write-block-spec =
     tie.close
     (tie.spec
-    write-fault-requires
-    same-length
-    same-length-2
-    returns
-    geometry-in-requires
+    open-write-requires
+    enum-known-fault
+    enum-known-g
     head-in-requires
     offer-fault-requires
     is-taken-requires
     run-offer-requires
-    cast-t32
+    cast-t31
     outcome-of-requires
+    same-length
+    same-length-2
+    returns
     same-length-3
     same-length-4
     returns-2)

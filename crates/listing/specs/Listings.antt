@@ -11,9 +11,9 @@ use Rattle.model.specs.Blocks.{Bytes}
 use Rattle.model.specs.Calls.{formatted}
 use Rattle.model.specs.Promises.Figures.{small, fresh}
 use Rattle.script.specs.Texts.{Put}
-use Rattle.script.specs.Lines.{Line, good, bad, lineOf}
+use Rattle.script.specs.Lines.{Line, good, bad, lineIn}
 use Rattle.script.specs.Reports.{heading, reportRoom}
-use Rattle.script.specs.Feeding.{Reading, inNames, inLine, atEnd, step, finish, lineRoom, cut, readingIn}
+use Rattle.script.specs.Feeding.{Reading, noLine, inLine, atEnd, step, finish, lineRoom, cut, readingIn}
 use Rattle.script.specs.Feeding.{valueLines}
 use Rattle.listing.specs.Writes.{listRoom, lineDisk, lineText}
 use Rattle.listing.specs.declared.progress.Progress as declared
@@ -29,7 +29,7 @@ pub record Listing : Type 0 where
 
 -- nothing is read, and the disk is formatted for the examples' geometry
 abbrev pub begun : (disk : Bytes) → Listing
-begun disk = record { reading = inNames; isOpen = true; line = 1; disk = formatted disk small }
+begun disk = record { reading = noLine; isOpen = true; line = 1; disk = formatted disk small }
 
 -- ---- a line ----
 
@@ -48,16 +48,16 @@ textOfLine bad line disk = []
 
 -- the bytes end here now; a line that has just ended is taken
 abbrev pub afterMove : Reading → (line : ℕ) → (disk : Bytes) → Listing
-afterMove inNames line disk = record { reading = inNames; isOpen = true; line = line; disk = disk }
+afterMove noLine line disk = record { reading = noLine; isOpen = true; line = line; disk = disk }
 afterMove (inLine bytes) line disk =
     record { reading = inLine bytes; isOpen = true; line = line; disk = disk }
-afterMove (atEnd bytes) line disk = afterLine (lineOf bytes) (atEnd bytes) line disk
+afterMove (atEnd bytes) line disk = afterLine (lineIn bytes) (atEnd bytes) line disk
 
 -- what going on to here prints
 abbrev pub textOfMove : Reading → (line : ℕ) → (disk : Bytes) → Bytes
-textOfMove inNames line disk = []
+textOfMove noLine line disk = []
 textOfMove (inLine bytes) line disk = []
-textOfMove (atEnd bytes) line disk = textOfLine (lineOf bytes) line disk
+textOfMove (atEnd bytes) line disk = textOfLine (lineIn bytes) line disk
 
 -- one more byte, of which nothing comes once the listing has ended
 unfoldable pub afterByte : Listing → (byte : ℕ) → Listing
@@ -102,7 +102,7 @@ textOfLines disk line (bad ∷ lines) = []
 
 -- all that the listing prints, as the lines of the input say
 abbrev pub listing : (input : Bytes) → Bytes
-listing input = heading ++ textOfLines fresh 1 (map lineOf (valueLines input))
+listing input = heading ++ textOfLines fresh 1 (map lineIn (valueLines input))
 
 -- all that the steps print: the heading, what comes of each byte, and what comes of the end
 abbrev pub printed : (input : Bytes) → Bytes
@@ -131,7 +131,7 @@ listingOf progress buffer disk =
     }
 
 -- the listing goes on to here, and what is to be printed stands at the front of the buffer
-pub record Stepped (after : Listing) (text : Bytes) (buffer disk out outAfter : Bytes)
+pub record WentOn (after : Listing) (text : Bytes) (buffer disk out outAfter : Bytes)
     (progress : declared.Progress) : Type 0 where
   pub stands : listingOf progress buffer disk ≡ after
   pub put : Put text out 0 outAfter (progress .put)

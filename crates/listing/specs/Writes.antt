@@ -57,9 +57,9 @@ lineText disk line number offer =
 -- ---- what the code says ----
 
 -- an offered number, or none
-abbrev pub offerSaid : (isOffered : Bool) → (number : ℕ) → Option ℕ
-offerSaid true number = some number
-offerSaid false number = none
+abbrev pub offerFrom : (isOffered : Bool) → (number : ℕ) → Option ℕ
+offerFrom true number = some number
+offerFrom false number = none
 
 -- the disk is written and the line of output stands at the front of the buffer
 pub record Reported (line number : ℕ) (offer : Option ℕ) (disk diskAfter out outAfter : Bytes)

@@ -17,7 +17,7 @@ ghost use Rattle.model.specs.Blocks.{Bytes};
 ghost use Rattle.script.specs.Texts.{Put};
 ghost use Rattle.script.specs.Reports.{heading};
 ghost use Rattle.listing.specs.Listings.{begun, afterByte, textOfByte, afterBytes, afterEnd, textOfEnd};
-ghost use Rattle.listing.specs.Listings.{Lent, listingOf, Stepped, Fed, Led, listing, printed};
+ghost use Rattle.listing.specs.Listings.{Lent, listingOf, WentOn, Fed, Led, listing, printed};
 
 // Hands so many bytes from the front of a buffer to standard output; answers how many. Nothing else prints.
 // No contract can speak of what is written there: the cases of tests/listing do.
@@ -49,7 +49,7 @@ fn list_byte(
 ) -> Progress
     requires { ⌜ progress .line + 1 < 2 ^ 64 ⌝ }
     requires { ⌜ Lent (now buffer) (now disk) (now out) ⌝ }
-    ensures { λ r. ⌜ Stepped
+    ensures { λ r. ⌜ WentOn
         (afterByte (listingOf progress (now (buffer .entry)) (now (disk .entry))) byte)
         (textOfByte (listingOf progress (now (buffer .entry)) (now (disk .entry))) byte)
         (now (buffer .exit)) (now (disk .exit)) (now (out .entry)) (now (out .exit)) r ⌝ }
@@ -69,7 +69,7 @@ fn list_byte(
 fn list_end(progress: Progress, buffer: &[u8], disk: &mut [u8], out: &mut [u8]) -> Progress
     requires { ⌜ progress .line + 1 < 2 ^ 64 ⌝ }
     requires { ⌜ Lent (now buffer) (now disk) (now out) ⌝ }
-    ensures { λ r. ⌜ Stepped
+    ensures { λ r. ⌜ WentOn
         (afterEnd (listingOf progress (now (buffer .entry)) (now (disk .entry))))
         (textOfEnd (listingOf progress (now (buffer .entry)) (now (disk .entry))))
         (now (buffer .entry)) (now (disk .exit)) (now (out .entry)) (now (out .exit)) r ⌝ }

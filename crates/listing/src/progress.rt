@@ -12,13 +12,13 @@ ghost use mathlib.Core.Path.{_≡_};
 ghost use Prim.Native.Nat.{_+_, _≤_, _<_, _^_};
 ghost use lib.ListN.{length};
 ghost use Rattle.model.specs.Blocks.{Bytes};
-ghost use Rattle.script.specs.Lines.{lineSaid};
+ghost use Rattle.script.specs.Lines.{meaningOf};
 ghost use Rattle.script.specs.Feeding.{readingIn};
 ghost use Rattle.script.specs.Reports.{reportRoom};
 ghost use Rattle.listing.specs.Writes.{listRoom};
 ghost use Rattle.listing.specs.Listings.{begun, afterLine, textOfLine, afterMove, textOfMove};
-ghost use Rattle.listing.specs.Listings.{afterByte, textOfByte, afterEnd, textOfEnd};
-ghost use Rattle.listing.specs.Listings.{Lent, listingOf, Stepped};
+ghost use Rattle.listing.specs.Listings.{afterByte, textOfByte, afterEnd, textOfEnd, Lent, listingOf};
+ghost use Rattle.listing.specs.Listings.{WentOn};
 
 // Where the bytes so far end, whether more lines are taken, the number of the next line, and how many bytes
 // were last put into the buffer of the output.
@@ -43,7 +43,7 @@ pub fn begin(disk: &mut [u8]) -> Progress
     };
     format_drive(disk, small);
     Progress {
-        feed: Feed::Names,
+        feed: Feed::NoLine,
         is_open: true,
         line: 1,
         put: 0,
@@ -56,9 +56,9 @@ fn take_line(feed: Feed, line: u64, said: Line, disk: &mut [u8], out: &mut [u8])
     requires { ⌜ line + 1 < 2 ^ 64 ⌝ }
     requires { ⌜ 24 ≤ length (now disk) ⌝ }
     requires { ⌜ reportRoom listRoom ≤ length (now out) ⌝ }
-    ensures { λ r. ⌜ ((buffer : Bytes) → Stepped
-        (afterLine (lineSaid said) (readingIn feed buffer) line (now (disk .entry)))
-        (textOfLine (lineSaid said) line (now (disk .entry)))
+    ensures { λ r. ⌜ ((buffer : Bytes) → WentOn
+        (afterLine (meaningOf said) (readingIn feed buffer) line (now (disk .entry)))
+        (textOfLine (meaningOf said) line (now (disk .entry)))
         buffer (now (disk .exit)) (now (out .entry)) (now (out .exit)) r) ⌝ }
 {
     match said {
@@ -93,13 +93,13 @@ fn take_line(feed: Feed, line: u64, said: Line, disk: &mut [u8], out: &mut [u8])
 fn move_to(feed: Feed, line: u64, buffer: &[u8], disk: &mut [u8], out: &mut [u8]) -> Progress
     requires { ⌜ line + 1 < 2 ^ 64 ⌝ }
     requires { ⌜ Lent (now buffer) (now disk) (now out) ⌝ }
-    ensures { λ r. ⌜ Stepped
+    ensures { λ r. ⌜ WentOn
         (afterMove (readingIn feed (now (buffer .entry))) line (now (disk .entry)))
         (textOfMove (readingIn feed (now (buffer .entry))) line (now (disk .entry)))
         (now (buffer .entry)) (now (disk .exit)) (now (out .entry)) (now (out .exit)) r ⌝ }
 {
     match feed {
-        Feed::Names => Progress {
+        Feed::NoLine => Progress {
             feed,
             is_open: true,
             line,
@@ -143,7 +143,7 @@ pub fn step_byte(
 ) -> Progress
     requires { ⌜ progress .line + 1 < 2 ^ 64 ⌝ }
     requires { ⌜ Lent (now buffer) (now disk) (now out) ⌝ }
-    ensures { λ r. ⌜ Stepped
+    ensures { λ r. ⌜ WentOn
         (afterByte (listingOf progress (now (buffer .entry)) (now (disk .entry))) byte)
         (textOfByte (listingOf progress (now (buffer .entry)) (now (disk .entry))) byte)
         (now (buffer .exit)) (now (disk .exit)) (now (out .entry)) (now (out .exit)) r ⌝ }
@@ -160,7 +160,7 @@ pub fn step_byte(
 pub fn step_end(progress: Progress, buffer: &[u8], disk: &mut [u8], out: &mut [u8]) -> Progress
     requires { ⌜ progress .line + 1 < 2 ^ 64 ⌝ }
     requires { ⌜ Lent (now buffer) (now disk) (now out) ⌝ }
-    ensures { λ r. ⌜ Stepped
+    ensures { λ r. ⌜ WentOn
         (afterEnd (listingOf progress (now (buffer .entry)) (now (disk .entry))))
         (textOfEnd (listingOf progress (now (buffer .entry)) (now (disk .entry))))
         (now (buffer .entry)) (now (disk .exit)) (now (out .entry)) (now (out .exit)) r ⌝ }

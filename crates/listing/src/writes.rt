@@ -9,9 +9,9 @@ use script::reports::put_report;
 ghost use mathlib.Core.Path.{_≡_};
 ghost use Prim.Native.Nat.{_≤_};
 ghost use lib.ListN.{length};
-ghost use Rattle.mapper.specs.Writes.{Answered};
+ghost use Rattle.mapper.specs.Writes.{WriteAnswered};
 ghost use Rattle.script.specs.Reports.{reportRoom};
-ghost use Rattle.listing.specs.Writes.{listRoom, lineWrite, offerSaid, Reported};
+ghost use Rattle.listing.specs.Writes.{listRoom, lineWrite, offerFrom, Reported};
 
 // Writes a line: data of its number mod 256, 256 random bytes of 165, and a list of 23 entries.
 fn write_line(
@@ -24,7 +24,7 @@ fn write_line(
 ) -> Written
     requires { ⌜ length (now list) ≡ listRoom ⌝ }
     ensures { λ r.
-        ⌜ Answered (lineWrite (now (disk .entry)) line (number .0) (offerSaid offered (offer .0)))
+        ⌜ WriteAnswered (lineWrite (now (disk .entry)) line (number .0) (offerFrom offered (offer .0)))
         (now (disk .entry)) (now (list .entry)) (now (disk .exit)) (now (list .exit)) r ⌝ }
 {
     let data = [(line % 256) as u8; 32];
@@ -44,7 +44,7 @@ pub fn report_line(
     requires { ⌜ 24 ≤ length (now disk) ⌝ }
     requires { ⌜ reportRoom listRoom ≤ length (now out) ⌝ }
     ensures { λ r.
-        ⌜ Reported line (number .0) (offerSaid offered (offer .0)) (now (disk .entry)) (now (disk .exit))
+        ⌜ Reported line (number .0) (offerFrom offered (offer .0)) (now (disk .entry)) (now (disk .exit))
         (now (out .entry)) (now (out .exit)) r ⌝ }
 {
     let mut list = [0u32; 23];

@@ -7,34 +7,34 @@ use mathlib.Core.Option.{Option, none, some}
 use Prim.Native.Nat.{ℕ, _+_, _≤_}
 use lib.Dec.{eqb, ltb, leb}
 use lib.ListN.{length, take, drop}
-use Rattle.script.specs.Texts.{Bytes, space, dash, isDigits, digitsValue}
+use Rattle.script.specs.Texts.{Text, space, dash, isDigits, digitsValue}
 use Rattle.script.specs.declared.lines.Field as declaredField
 use Rattle.script.specs.declared.lines.Line as declaredLine
 
 -- ---- fields ----
 
 -- the bytes before the first space, all where there is none
-unfoldable pub beforeSpace : Bytes → Bytes
+unfoldable pub beforeSpace : Text → Text
 beforeSpace [] = []
 beforeSpace (byte ∷ bytes) = cond (eqb byte space) [] (byte ∷ beforeSpace bytes)
 
 -- the bytes after the first space, none where there is none
-unfoldable pub afterSpace : Bytes → Bytes
+unfoldable pub afterSpace : Text → Text
 afterSpace [] = []
 afterSpace (byte ∷ bytes) = cond (eqb byte space) bytes (afterSpace bytes)
 
 -- the first space stands here, or the line ends here
-pub record Split (bytes : Bytes) (at : ℕ) : Type 0 where
+pub record Split (bytes : Text) (at : ℕ) : Type 0 where
   pub inside : at ≤ length bytes
   pub before : take at bytes ≡ beforeSpace bytes
   pub after : drop (at + 1) bytes ≡ afterSpace bytes
 
 -- 1 to 9 digits
-abbrev pub isNumber : Bytes → Bool
+abbrev pub isNumber : Text → Bool
 isNumber bytes = ltb 0 (length bytes) && leb (length bytes) 9 && isDigits bytes
 
 -- `-` alone
-unfoldable pub isDash : Bytes → Bool
+unfoldable pub isDash : Text → Bool
 isDash [] = false
 isDash (byte ∷ []) = eqb byte dash
 isDash (byte ∷ next ∷ bytes) = false
@@ -46,8 +46,8 @@ pub data Field : Type 0 where
   other : Field
 
 -- what the bytes before or after the first space say
-unfoldable pub fieldOf : Bytes → Field
-fieldOf bytes = cond (isDash bytes) absent (cond (isNumber bytes) (number (digitsValue bytes)) other)
+unfoldable pub fieldIn : Text → Field
+fieldIn bytes = cond (isDash bytes) absent (cond (isNumber bytes) (number (digitsValue bytes)) other)
 
 -- ---- lines ----
 
@@ -65,17 +65,17 @@ lineFrom absent second = bad
 lineFrom other second = bad
 
 -- what the bytes of a line, without its newline, mean
-unfoldable pub lineOf : Bytes → Line
-lineOf bytes = lineFrom (fieldOf (beforeSpace bytes)) (fieldOf (afterSpace bytes))
+unfoldable pub lineIn : Text → Line
+lineIn bytes = lineFrom (fieldIn (beforeSpace bytes)) (fieldIn (afterSpace bytes))
 
 -- ---- what the code's answers say ----
 
-abbrev pub fieldSaid : declaredField.Field → Field
-fieldSaid (declaredField.the-variants.Number value) = number value
-fieldSaid declaredField.the-variants.Dash = absent
-fieldSaid declaredField.the-variants.Other = other
+abbrev pub fieldOf : declaredField.Field → Field
+fieldOf (declaredField.the-variants.Number value) = number value
+fieldOf declaredField.the-variants.Dash = absent
+fieldOf declaredField.the-variants.Other = other
 
-abbrev pub lineSaid : declaredLine.Line → Line
-lineSaid (declaredLine.the-variants.Bare value) = good (value .0) none
-lineSaid (declaredLine.the-variants.Offering value offer) = good (value .0) (some (offer .0))
-lineSaid declaredLine.the-variants.Bad = bad
+abbrev pub meaningOf : declaredLine.Line → Line
+meaningOf (declaredLine.the-variants.Bare value) = good (value .0) none
+meaningOf (declaredLine.the-variants.Offering value offer) = good (value .0) (some (offer .0))
+meaningOf declaredLine.the-variants.Bad = bad

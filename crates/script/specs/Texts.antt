@@ -8,8 +8,8 @@ use lib.Dec.{ltb, leb}
 use lib.ListN.{length}
 use Rattle.laws.specs.Lists.{over}
 
-abbrev pub Bytes : Type 0
-Bytes = List ℕ
+abbrev pub Text : Type 0
+Text = List ℕ
 
 -- ---- characters ----
 
@@ -26,40 +26,41 @@ abbrev pub dash : ℕ
 dash = 45
 
 -- the character of a digit below 10
-abbrev pub digit : (value : ℕ) → ℕ
-digit value = 48 + value
+abbrev pub digitByte : (value : ℕ) → ℕ
+digitByte value = 48 + value
 
 -- ---- numbers ----
 
 abbrev pub isDigit : (byte : ℕ) → Bool
-isDigit byte = leb (digit 0) byte && leb byte (digit 9)
+isDigit byte = leb (digitByte 0) byte && leb byte (digitByte 9)
 
-unfoldable pub isDigits : Bytes → Bool
+unfoldable pub isDigits : Text → Bool
 isDigits [] = true
 isDigits (byte ∷ bytes) = isDigit byte && isDigits bytes
 
 -- the number that digits spell after others that spell `before`
-unfoldable pub valueAfter : (before : ℕ) → Bytes → ℕ
+unfoldable pub valueAfter : (before : ℕ) → Text → ℕ
 valueAfter before [] = before
-valueAfter before (byte ∷ bytes) = valueAfter (before * 10 + (byte - digit 0)) bytes
+valueAfter before (byte ∷ bytes) = valueAfter (before * 10 + (byte - digitByte 0)) bytes
 
 -- the number that digits spell, highest first
-abbrev pub digitsValue : Bytes → ℕ
+abbrev pub digitsValue : Text → ℕ
 digitsValue bytes = valueAfter 0 bytes
 
 -- a number's digits, highest first, none but the last a leading zero; at most so many of them
-unfoldable pub decimalWithin : (most value : ℕ) → Bytes
+unfoldable pub decimalWithin : (most value : ℕ) → Text
 decimalWithin zero value = []
 decimalWithin (suc most) value =
-    cond (ltb value 10) (digit value ∷ []) (decimalWithin most (value / 10) ++ (digit (value % 10) ∷ []))
+    cond (ltb value 10) (digitByte value ∷ [])
+    (decimalWithin most (value / 10) ++ (digitByte (value % 10) ∷ []))
 
 -- a number in decimal: a number n has at most n + 1 digits
-unfoldable pub decimal : (value : ℕ) → Bytes
+unfoldable pub decimal : (value : ℕ) → Text
 decimal value = decimalWithin (suc value) value
 
 -- ---- a buffer ----
 
 -- a text stands in a buffer from a place on, and the place after it; the buffer's other bytes are as before
-pub record Put (text : Bytes) (out : Bytes) (at : ℕ) (outAfter : Bytes) (next : ℕ) : Type 0 where
+pub record Put (text : Text) (out : Text) (at : ℕ) (outAfter : Text) (next : ℕ) : Type 0 where
   pub placed : outAfter ≡ over at text out
   pub ended : next ≡ at + length text

@@ -4,13 +4,13 @@ use crate::lines::Line;
 use crate::lines::read_line;
 ghost use mathlib.Core.Path.{_≡_};
 ghost use lib.ListN.{length, take};
-ghost use Rattle.script.specs.Lines.{lineOf, lineSaid};
+ghost use Rattle.script.specs.Lines.{lineIn, meaningOf};
 ghost use Rattle.script.specs.Feeding.{step, stepIn, finish, lineRoom, cut, readingIn};
 
-// Where the bytes so far end: in the line of names, or in a line of values or just after it, with so many of
-// its bytes in the buffer.
+// Where the bytes so far end: in no line of values, so in the line of names or past the end of the input; or
+// in a line of values or just after it, with so many of its bytes in the buffer.
 pub enum Feed {
-    Names,
+    NoLine,
     Inside(usize),
     Ended(usize),
 }
@@ -38,11 +38,11 @@ pub fn feed_byte(state: Feed, buffer: &mut [u8], byte: u8) -> Feed
         ⌜ readingIn r (now (buffer .exit)) ≡ cut (step (readingIn state (now (buffer .entry))) byte) ⌝ }
 {
     match state {
-        Feed::Names => {
+        Feed::NoLine => {
             if byte == 10 {
                 Feed::Inside(0)
             } else {
-                Feed::Names
+                Feed::NoLine
             }
         }
         Feed::Inside(held) => feed_line(buffer, held, byte),
@@ -50,27 +50,27 @@ pub fn feed_byte(state: Feed, buffer: &mut [u8], byte: u8) -> Feed
     }
 }
 
-// Where the end of the input leads.
+// Where the end of the input leads: to no line more, or to a last line that ends there.
 pub fn feed_end(state: Feed, buffer: &[u8]) -> Feed
     requires { ⌜ length (now buffer) ≡ lineRoom ⌝ }
     ensures { λ r. ⌜ readingIn r (now (buffer .entry)) ≡ finish (readingIn state (now (buffer .entry))) ⌝ }
 {
     match state {
-        Feed::Names => Feed::Names,
+        Feed::NoLine => Feed::NoLine,
         Feed::Inside(held) => {
             if held == 0 {
-                Feed::Names
+                Feed::NoLine
             } else {
                 Feed::Ended(held)
             }
         }
-        Feed::Ended(_) => Feed::Names,
+        Feed::Ended(_) => Feed::NoLine,
     }
 }
 
 // What the line that is held says.
 pub fn read_held(buffer: &[u8], held: usize) -> Line
-    ensures { λ r. ⌜ lineSaid r ≡ lineOf (take held (now (buffer .entry))) ⌝ }
+    ensures { λ r. ⌜ meaningOf r ≡ lineIn (take held (now (buffer .entry))) ⌝ }
 {
     if held < buffer.len() {
         return read_line(&buffer[..held]);

@@ -2,7 +2,7 @@
 use layout::numbers::HiddenNumber;
 use layout::numbers::PublicNumber;
 ghost use mathlib.Core.Path.{_≡_};
-ghost use Rattle.script.specs.Lines.{isDash, Split, fieldOf, fieldSaid, lineFrom, lineOf, lineSaid};
+ghost use Rattle.script.specs.Lines.{isDash, Split, fieldIn, fieldOf, lineFrom, lineIn, meaningOf};
 
 // What the bytes before or after the space say: a number of 1 to 9 digits, `-`, or anything else.
 pub enum Field {
@@ -45,7 +45,7 @@ fn is_dash(bytes: &[u8]) -> bool
 
 // What a field says.
 fn field_in(bytes: &[u8]) -> Field
-    ensures { λ r. ⌜ fieldSaid r ≡ fieldOf (now (bytes .entry)) ⌝ }
+    ensures { λ r. ⌜ fieldOf r ≡ fieldIn (now (bytes .entry)) ⌝ }
 {
     if is_dash(bytes) {
         return Field::Dash;
@@ -75,7 +75,7 @@ fn field_in(bytes: &[u8]) -> Field
 
 // What two fields make of a line.
 fn line_from(first: Field, second: Field) -> Line
-    ensures { λ r. ⌜ lineSaid r ≡ lineFrom (fieldSaid first) (fieldSaid second) ⌝ }
+    ensures { λ r. ⌜ meaningOf r ≡ lineFrom (fieldOf first) (fieldOf second) ⌝ }
 {
     match first {
         Field::Number(number) => match second {
@@ -90,7 +90,7 @@ fn line_from(first: Field, second: Field) -> Line
 
 // What a line says, given without its newline; of any length.
 pub fn read_line(bytes: &[u8]) -> Line
-    ensures { λ r. ⌜ lineSaid r ≡ lineOf (now (bytes .entry)) ⌝ }
+    ensures { λ r. ⌜ meaningOf r ≡ lineIn (now (bytes .entry)) ⌝ }
 {
     let space = space_in(bytes);
     if space == bytes.len() {

@@ -6,10 +6,10 @@ use mathlib.Core.List.{[], _∷_, _++_, map, append-assoc, append-nil}
 use Prim.Native.Nat.{ℕ, _+_}
 use Rattle.model.specs.Blocks.{Bytes}
 use Rattle.model.specs.Promises.Figures.{fresh}
-use Rattle.script.specs.Lines.{Line, good, bad, lineOf}
-use Rattle.script.specs.Feeding.{Reading, inNames, inLine, atEnd, step, finish, cut, endedLine, heldLines}
+use Rattle.script.specs.Lines.{Line, good, bad, lineIn}
+use Rattle.script.specs.Feeding.{Reading, noLine, inLine, atEnd, step, finish, cut, endedLine, heldLines}
 use Rattle.script.specs.Reports.{heading}
-use Rattle.script.proofs.Laws.Inputs.{lines-of-heldLines}
+use Rattle.script.proofs.Laws.Inputs.{lines-of-heldLines, heldLines-nil, heldLines-cons}
 use Rattle.listing.specs.Writes.{lineDisk, lineText}
 use Rattle.listing.specs.Listings.{Listing, textOfLine, afterMove, textOfMove, afterByte, textOfByte}
 use Rattle.listing.specs.Listings.{afterBytes, textOfBytes, textOfEnd, textOfLines, listing, printed}
@@ -37,18 +37,18 @@ text-on :
     (reading : Reading) (line : ℕ) (disk : Bytes) (bytes : Bytes) →
     ((further : ℕ) (later : Bytes) →
     textOfRest (at-reading reading further later) bytes ≡
-    textOfLines later further (map lineOf (heldLines reading bytes))) →
+    textOfLines later further (map lineIn (heldLines reading bytes))) →
     textOfMove reading line disk ++ textOfRest (afterMove reading line disk) bytes ≡
-    textOfLines disk line (map lineOf (endedLine reading ++ heldLines reading bytes))
+    textOfLines disk line (map lineIn (endedLine reading ++ heldLines reading bytes))
 unfolding textOfLines
-text-on inNames line disk bytes rest = rest line disk
+text-on noLine line disk bytes rest = rest line disk
 text-on (inLine held) line disk bytes rest = rest line disk
-text-on (atEnd held) line disk bytes rest = by (lineOf held) refl
+text-on (atEnd held) line disk bytes rest = by (lineIn held) refl
   where
     by :
-        (said : Line) → lineOf held ≡ said →
+        (said : Line) → lineIn held ≡ said →
         textOfMove (atEnd held) line disk ++ textOfRest (afterMove (atEnd held) line disk) bytes ≡
-        textOfLines disk line (lineOf held ∷ map lineOf (heldLines (atEnd held) bytes))
+        textOfLines disk line (lineIn held ∷ map lineIn (heldLines (atEnd held) bytes))
     by (good number offer) e =
         rw e
         (ap (λ (text : Bytes). lineText disk line number offer ++ text)
@@ -64,26 +64,27 @@ text-of-line bad line disk = refl
 
 text-of-end :
     (reading : Reading) (line : ℕ) (disk : Bytes) →
-    textOfMove reading line disk ≡ textOfLines disk line (map lineOf (endedLine reading))
+    textOfMove reading line disk ≡ textOfLines disk line (map lineIn (endedLine reading))
 unfolding textOfLines
-text-of-end inNames line disk = refl
+text-of-end noLine line disk = refl
 text-of-end (inLine held) line disk = refl
-text-of-end (atEnd held) line disk = text-of-line (lineOf held) line disk
+text-of-end (atEnd held) line disk = text-of-line (lineIn held) line disk
 
 text-of-rest :
     (bytes : Bytes) (reading : Reading) (line : ℕ) (disk : Bytes) →
     textOfRest (at-reading reading line disk) bytes ≡
-    textOfLines disk line (map lineOf (heldLines reading bytes))
-unfolding textOfBytes textOfByte afterBytes afterByte textOfEnd heldLines
-text-of-rest [] reading line disk = text-of-end (finish reading) line disk
+    textOfLines disk line (map lineIn (heldLines reading bytes))
+unfolding textOfBytes textOfByte afterBytes afterByte textOfEnd
+text-of-rest [] reading line disk = rw heldLines-nil (text-of-end (finish reading) line disk)
 text-of-rest (byte ∷ bytes) reading line disk =
     let next = cut (step reading byte) in
-    append-assoc (textOfMove next line disk) _ _
-    ∙ text-on next line disk bytes (λ further later. text-of-rest bytes next further later)
+    rw heldLines-cons
+    (append-assoc (textOfMove next line disk) _ _
+    ∙ text-on next line disk bytes (λ further later. text-of-rest bytes next further later))
 
 -- ---- the whole input ----
 
 pub printed-is-listing : (input : Bytes) → printed input ≡ listing input
 printed-is-listing input =
     ap (λ (text : Bytes). heading ++ text)
-    (text-of-rest input inNames 1 fresh ∙ ap (textOfLines fresh 1) (lines-of-heldLines input))
+    (text-of-rest input noLine 1 fresh ∙ ap (textOfLines fresh 1) (lines-of-heldLines input))

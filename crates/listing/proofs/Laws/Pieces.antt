@@ -17,17 +17,17 @@ use Rattle.listing.proofs.Laws.Steps.{line-after-byte}
 
 -- ---- bytes ----
 
-pub afterBytes-append :
+afterBytes-append :
     (at : Listing) (xs ys : Bytes) → afterBytes at (xs ++ ys) ≡ afterBytes (afterBytes at xs) ys
 unfolding afterBytes
 afterBytes-append at [] ys = refl
 afterBytes-append at (byte ∷ xs) ys = afterBytes-append (afterByte at byte) xs ys
 
-pub afterBytes-nil : (at : Listing) → afterBytes at [] ≡ at
+afterBytes-nil : (at : Listing) → afterBytes at [] ≡ at
 unfolding afterBytes
 afterBytes-nil at = refl
 
-pub afterBytes-suc :
+afterBytes-suc :
     (at : Listing) (piece : Bytes) (i : ℕ) → i < length piece →
     afterBytes at (take (i + 1) piece) ≡ afterByte (afterBytes at (take i piece)) (getD piece i 0)
 unfolding afterBytes
@@ -84,7 +84,7 @@ taken-all {start} {piece = piece} {i = i} taken h =
 
 -- ---- pieces ----
 
-pub led-nowhere : (start : Listing) → Led start start
+led-nowhere : (start : Listing) → Led start start
 led-nowhere start = record { input = []; led = inl (sym (afterBytes-nil start)) }
 
 closed-end : (at : Listing) → afterEnd at .isOpen ≡ false
@@ -124,7 +124,7 @@ abbrev pub allTurns : ℕ
 allTurns = 1125899906842624
 
 -- some input leads here, each turn has at most 4,097 lines, and the buffers keep their lengths
-pub record Turned (start : Listing) (piece buffer out : Bytes) (turns : ℕ) (at : Listing)
+pub record PieceTurned (start : Listing) (piece buffer out : Bytes) (turns : ℕ) (at : Listing)
     (pieceNow bufferNow outNow : Bytes) : Type 0 where
   pub led : Led start at
   pub counted : at .line + 4097 * turns ≤ 1 + 4097 * allTurns
@@ -135,7 +135,7 @@ pub record Turned (start : Listing) (piece buffer out : Bytes) (turns : ℕ) (at
 
 pub turned-none :
     (start : Listing) (piece buffer out : Bytes) → start .line ≡ 1 →
-    Turned start piece buffer out allTurns start piece buffer out
+    PieceTurned start piece buffer out allTurns start piece buffer out
 turned-none start piece buffer out first =
     record {
       led = led-nowhere start;
@@ -148,12 +148,12 @@ turned-none start piece buffer out first =
 
 pub turned-one :
     {start at : Listing} {piece buffer out pieceNow bufferNow outNow : Bytes} {turns : ℕ} →
-    Turned start piece buffer out turns at pieceNow bufferNow outNow → at .isOpen ≡ true → 0 < turns →
+    PieceTurned start piece buffer out turns at pieceNow bufferNow outNow → at .isOpen ≡ true → 0 < turns →
     length piece ≤ 4096 → (next : Listing) (pieceNext bufferNext outNext : Bytes) → Fed at pieceNext next →
     next .line ≤ at .line + length pieceNow + 1 → length pieceNext ≡ length pieceNow →
     length bufferNext ≡ length bufferNow → length (next .disk) ≡ length (at .disk) →
     length outNext ≡ length outNow →
-    Turned start piece buffer out (turns - 1) next pieceNext bufferNext outNext
+    PieceTurned start piece buffer out (turns - 1) next pieceNext bufferNext outNext
 turned-one {start} {at} turned goes-on some short next pieceNext bufferNext outNext fed few piece-same
     buffer-same disk-same out-same =
     record {

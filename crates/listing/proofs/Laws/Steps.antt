@@ -10,16 +10,16 @@ use native.Mathlib.Omega.{arith}
 use lib.ListN.{length, take, length-append}
 use Rattle.laws.specs.Lists.{over}
 use Rattle.laws.proofs.Cases.{bool-cases}
-use Rattle.laws.proofs.Lists.{over-nil}
+use Rattle.laws.proofs.Lists.{over-nil, over-is}
 use Rattle.model.specs.Blocks.{Bytes}
 use Rattle.script.specs.declared.feeding.Feed.{Feed}
-use Rattle.script.specs.declared.feeding.Feed.the-variants.{Names, Inside, Ended}
+use Rattle.script.specs.declared.feeding.Feed.the-variants.{NoLine, Inside, Ended}
 use Rattle.script.specs.Texts.{Put}
-use Rattle.script.specs.Lines.{Line, good, bad, lineOf}
-use Rattle.script.specs.Feeding.{Reading, inNames, inLine, atEnd, step, finish, cut, readingIn}
+use Rattle.script.specs.Lines.{Line, good, bad, lineIn}
+use Rattle.script.specs.Feeding.{Reading, noLine, inLine, atEnd, step, finish, cut, readingIn}
 use Rattle.listing.specs.Writes.{Reported}
 use Rattle.listing.specs.Listings.{Listing, afterLine, textOfLine, afterMove, textOfMove, afterByte}
-use Rattle.listing.specs.Listings.{textOfByte, closed, afterEnd, textOfEnd, Lent, listingOf, Stepped}
+use Rattle.listing.specs.Listings.{textOfByte, closed, afterEnd, textOfEnd, Lent, listingOf, WentOn}
 use Rattle.listing.specs.declared.progress.Progress.{Progress}
 
 -- ---- buffers ----
@@ -42,16 +42,15 @@ put-nothing out = record { placed = sym (over-nil 0 out (omega arith)); ended = 
 pub put-inside :
     {text out outAfter : Bytes} {next : ℕ} → Put text out 0 outAfter next → length outAfter ≡ length out →
     next ≤ length outAfter
-unfolding over
 put-inside {text} {out} {outAfter} put same =
     let whole : length outAfter ≡ length (over 0 text out) = ap length (put .placed) in
-    omega (arith, put .ended, simp length-append at whole)
+    omega (arith, put .ended, simp (over-is, length-append) at whole)
 
 -- a step with the length that `print_front` answers, which is that of its text
 pub step-printed :
     {after : Listing} {text buffer disk out outAfter : Bytes} {progress : Progress} {put : ℕ} →
-    Stepped after text buffer disk out outAfter progress → put ≡ progress .put →
-    Stepped after text buffer disk out outAfter
+    WentOn after text buffer disk out outAfter progress → put ≡ progress .put →
+    WentOn after text buffer disk out outAfter
     (record {
       feed = progress .feed;
       «is_open» = progress .«is_open»;
@@ -66,14 +65,14 @@ module _ {said : Line} {line : ℕ} {disk out : Bytes} where
   pub took-good :
       {number : ℕ} {offer : Option ℕ} {diskAfter outAfter : Bytes} {put : ℕ} → said ≡ good number offer →
       Reported line number offer disk diskAfter out outAfter put → (feed : Feed) (buffer : Bytes) →
-      Stepped (afterLine said (readingIn feed buffer) line disk) (textOfLine said line disk) buffer diskAfter
+      WentOn (afterLine said (readingIn feed buffer) line disk) (textOfLine said line disk) buffer diskAfter
       out outAfter (record { feed = feed; «is_open» = true; line = line + 1; put = put })
   took-good e reported feed buffer =
       rw e (record { stands = rw (reported .stored); put = reported .put })
 
   pub took-bad :
       said ≡ bad → (feed : Feed) (buffer : Bytes) →
-      Stepped (afterLine said (readingIn feed buffer) line disk) (textOfLine said line disk) buffer disk out
+      WentOn (afterLine said (readingIn feed buffer) line disk) (textOfLine said line disk) buffer disk out
       out (record { feed = feed; «is_open» = false; line = line; put = 0 })
   took-bad e feed buffer = rw e (record { stands = refl; put = put-nothing out })
 
@@ -81,23 +80,23 @@ module _ {said : Line} {line : ℕ} {disk out : Bytes} where
 
 module _ (feed : Feed) (line : ℕ) (buffer disk out : Bytes) where
   pub moved-names :
-      feed ≡ Names →
-      Stepped (afterMove (readingIn feed buffer) line disk) (textOfMove (readingIn feed buffer) line disk)
+      feed ≡ NoLine →
+      WentOn (afterMove (readingIn feed buffer) line disk) (textOfMove (readingIn feed buffer) line disk)
       buffer disk out out (record { feed = feed; «is_open» = true; line = line; put = 0 })
   moved-names e = rw e (record { stands = refl; put = put-nothing out })
 
   pub moved-inside :
       {held : ℕ} → feed ≡ Inside held →
-      Stepped (afterMove (readingIn feed buffer) line disk) (textOfMove (readingIn feed buffer) line disk)
+      WentOn (afterMove (readingIn feed buffer) line disk) (textOfMove (readingIn feed buffer) line disk)
       buffer disk out out (record { feed = feed; «is_open» = true; line = line; put = 0 })
   moved-inside e = rw e (record { stands = refl; put = put-nothing out })
 
   pub moved-ended :
       {held : ℕ} {said : Line} {diskAfter outAfter : Bytes} {progress : Progress} → feed ≡ Ended held →
-      said ≡ lineOf (take held buffer) →
-      Stepped (afterLine said (atEnd (take held buffer)) line disk) (textOfLine said line disk) buffer
+      said ≡ lineIn (take held buffer) →
+      WentOn (afterLine said (atEnd (take held buffer)) line disk) (textOfLine said line disk) buffer
       diskAfter out outAfter progress →
-      Stepped (afterMove (readingIn feed buffer) line disk) (textOfMove (readingIn feed buffer) line disk)
+      WentOn (afterMove (readingIn feed buffer) line disk) (textOfMove (readingIn feed buffer) line disk)
       buffer diskAfter out outAfter progress
   moved-ended e means stepped = rw e (rw means at stepped)
 
@@ -108,13 +107,13 @@ module _ (progress : Progress) (buffer disk out : Bytes) where
       (same : listingOf after buffer disk ≡ listingOf progress buffer disk) where
     pub byte-after-all :
         (byte : ℕ) →
-        Stepped (afterByte (listingOf progress buffer disk) byte)
+        WentOn (afterByte (listingOf progress buffer disk) byte)
         (textOfByte (listingOf progress buffer disk) byte) buffer disk out out after
     unfolding afterByte textOfByte
     byte-after-all byte = rw over (record { stands = same ∙ rw over; put = rw nothing (put-nothing out) })
 
     pub end-after-all :
-        Stepped (afterEnd (listingOf progress buffer disk)) (textOfEnd (listingOf progress buffer disk))
+        WentOn (afterEnd (listingOf progress buffer disk)) (textOfEnd (listingOf progress buffer disk))
         buffer disk out out after
     unfolding afterEnd textOfEnd
     end-after-all = rw over (record { stands = same ∙ rw over; put = rw nothing (put-nothing out) })
@@ -123,18 +122,18 @@ module _ (progress : Progress) (buffer disk out : Bytes) where
       (after : Progress) where
     pub byte-taken :
         (byte : ℕ) (bufferAfter : Bytes) → reading ≡ cut (step (readingIn (progress .feed) buffer) byte) →
-        Stepped (afterMove reading (progress .line) disk) (textOfMove reading (progress .line) disk)
+        WentOn (afterMove reading (progress .line) disk) (textOfMove reading (progress .line) disk)
         bufferAfter diskAfter out outAfter after →
-        Stepped (afterByte (listingOf progress buffer disk) byte)
+        WentOn (afterByte (listingOf progress buffer disk) byte)
         (textOfByte (listingOf progress buffer disk) byte) bufferAfter diskAfter out outAfter after
     unfolding afterByte textOfByte
     byte-taken byte bufferAfter leads stepped = rw goes-on (rw leads at stepped)
 
     pub end-taken :
         reading ≡ finish (readingIn (progress .feed) buffer) →
-        Stepped (afterMove reading (progress .line) disk) (textOfMove reading (progress .line) disk)
+        WentOn (afterMove reading (progress .line) disk) (textOfMove reading (progress .line) disk)
         buffer diskAfter out outAfter after →
-        Stepped (afterEnd (listingOf progress buffer disk)) (textOfEnd (listingOf progress buffer disk))
+        WentOn (afterEnd (listingOf progress buffer disk)) (textOfEnd (listingOf progress buffer disk))
         buffer diskAfter out outAfter
         (record { feed = after .feed; «is_open» = false; line = after .line; put = after .put })
     unfolding afterEnd textOfEnd
@@ -152,9 +151,9 @@ line-after-line bad reading line disk = omega arith
 
 line-after-move :
     (reading : Reading) (line : ℕ) (disk : Bytes) → afterMove reading line disk .line ≤ line + 1
-line-after-move inNames line disk = omega arith
+line-after-move noLine line disk = omega arith
 line-after-move (inLine bytes) line disk = omega arith
-line-after-move (atEnd bytes) line disk = line-after-line (lineOf bytes) (atEnd bytes) line disk
+line-after-move (atEnd bytes) line disk = line-after-line (lineIn bytes) (atEnd bytes) line disk
 
 pub line-after-byte : (at : Listing) (byte : ℕ) → afterByte at byte .line ≤ at .line + 1
 unfolding afterByte

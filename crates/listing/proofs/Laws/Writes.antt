@@ -15,27 +15,29 @@ use Rattle.model.specs.Calls.{written, outcomeNumber}
 use Rattle.model.proofs.Laws.Stores.{length-addresses}
 use Rattle.model.proofs.Refusals.Writes.{stores-written-le}
 use Rattle.mapper.specs.declared.write.Written.{Written}
-use Rattle.mapper.specs.Writes.{outcomeSaid, offerOf, Answered}
+use Rattle.mapper.specs.Writes.{outcomeOf, callOffer, WriteAnswered}
 use Rattle.script.specs.Texts.{Put}
 use Rattle.script.specs.Reports.{reportLine}
 use Rattle.listing.specs.Writes.{lineData, randomBytes, listRoom, offeredWrite, lineWrite, lineText}
-use Rattle.listing.specs.Writes.{offerSaid, Reported}
+use Rattle.listing.specs.Writes.{offerFrom, Reported}
 
 -- ---- the call ----
 
 offered-is :
     (line : ℕ) (isOffered : Bool) (offer : ℕ) →
-    offerOf isOffered offer (lineData line) ≡ offeredWrite line (offerSaid isOffered offer)
+    callOffer isOffered offer (lineData line) ≡ offeredWrite line (offerFrom isOffered offer)
 offered-is line true offer = refl
 offered-is line false offer = refl
 
 pub line-answered :
     (disk : Bytes) (line number : ℕ) (isOffered : Bool) (offer : ℕ) (list : List DiskAddress)
     (diskAfter : Bytes) (listAfter : List DiskAddress) (answer : Written) → length list ≡ listRoom →
-    Answered
-    (written disk number (lineData line) randomBytes (length list) (offerOf isOffered offer (lineData line)))
+    WriteAnswered
+    (written disk number (lineData line) randomBytes (length list)
+    (callOffer isOffered offer (lineData line)))
     disk list diskAfter listAfter answer →
-    Answered (lineWrite disk line number (offerSaid isOffered offer)) disk list diskAfter listAfter answer
+    WriteAnswered (lineWrite disk line number (offerFrom isOffered offer)) disk list diskAfter listAfter
+    answer
 unfolding lineWrite
 line-answered disk line number isOffered offer list diskAfter listAfter answer room answered =
     rw (room, offered-is line isOffered offer) at answered
@@ -44,14 +46,14 @@ line-answered disk line number isOffered offer list diskAfter listAfter answer r
 
 module _ (disk : Bytes) (line number : ℕ) (offer : Option ℕ) (list : List DiskAddress) (diskAfter : Bytes)
     (listAfter : List DiskAddress) (answer : Written) (room : length list ≡ listRoom)
-    (answered : Answered (lineWrite disk line number offer) disk list diskAfter listAfter answer) where
+    (answered : WriteAnswered (lineWrite disk line number offer) disk list diskAfter listAfter answer) where
   stores-le : length (lineWrite disk line number offer .trace) ≤ listRoom
   unfolding lineWrite
   stores-le =
       stores-written-le disk number (lineData line) randomBytes listRoom (offeredWrite line offer)
 
-  pub stores-fit : answer .stores ≤ listRoom
-  stores-fit = omega (arith, answered .stores-are, stores-le)
+  pub line-stores-fit : answer .stores ≤ listRoom
+  line-stores-fit = omega (arith, answered .stores-are, stores-le)
 
   stores-listed : take (answer .stores) listAfter ≡ addresses (lineWrite disk line number offer .trace)
   stores-listed =
@@ -63,7 +65,7 @@ module _ (disk : Bytes) (line number : ℕ) (offer : Option ℕ) (list : List Di
       rw (answered .listed, count) (take-over (addresses trace) list fits)
 
   text-put :
-      (outcome head : ℕ) → outcome ≡ outcomeNumber (outcomeSaid (answer .outcome)) → head ≡ headIn diskAfter →
+      (outcome head : ℕ) → outcome ≡ outcomeNumber (outcomeOf (answer .outcome)) → head ≡ headIn diskAfter →
       reportLine line (answer .answer) (answer .rounds) outcome head (take (answer .stores) listAfter) ≡
       lineText disk line number offer
   text-put outcome head said first =
@@ -79,7 +81,7 @@ module _ (disk : Bytes) (line number : ℕ) (offer : Option ℕ) (list : List Di
 
   pub line-reported :
       (outcome head : ℕ) (out outAfter : Bytes) (next : ℕ) →
-      outcome ≡ outcomeNumber (outcomeSaid (answer .outcome)) → head ≡ headIn diskAfter →
+      outcome ≡ outcomeNumber (outcomeOf (answer .outcome)) → head ≡ headIn diskAfter →
       Put
       (reportLine line (answer .answer) (answer .rounds) outcome head (take (answer .stores) listAfter)) out 0
       outAfter next →

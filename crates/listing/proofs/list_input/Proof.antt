@@ -5,14 +5,14 @@ use native.Mathlib.Omega.{arith}
 use borrow.Author.Tests.{not-false}
 use Rattle.listing.specs.Listings.{listingOf}
 use Rattle.listing.proofs.Laws.Steps.{lent-again}
-use Rattle.listing.proofs.Laws.Pieces.{Turned, turned-none, turned-one}
+use Rattle.listing.proofs.Laws.Pieces.{PieceTurned, turned-none, turned-one}
 use Rattle.listing.proofs.list_input.Statement.{statement}
 use Rattle.listing.proofs.list_input.Tie as tie
 
 abbrev Inv-loop : tie.InvT-loop
 Inv-loop piece₀ buffer₀ disk₀ out₀ current₀ turns₀ piece buffer disk out current turns =
-    Turned (listingOf current₀ buffer₀ disk₀) piece₀ buffer₀ out₀ turns (listingOf current buffer disk) piece
-    buffer out
+    PieceTurned (listingOf current₀ buffer₀ disk₀) piece₀ buffer₀ out₀ turns (listingOf current buffer disk)
+    piece buffer out
 
 abbrev μ-loop : tie.MeasureT-loop
 μ-loop piece₀ buffer₀ disk₀ out₀ current₀ turns₀ piece buffer disk out current turns = turns

@@ -9,20 +9,20 @@ use native.Mathlib.Omega.{arith}
 use lib.ListN.{length, set, length-append}
 use borrow.Author.Tests.{lt-ltb, le-ltb}
 use Rattle.laws.proofs.Cases.{lt-cases, cond-true, cond-false}
-use Rattle.script.specs.Texts.{Bytes, digit, isDigits, digitsValue, valueAfter, decimalWithin, decimal}
-use Rattle.script.specs.Texts.{Put}
+use Rattle.script.specs.Texts.{Text, digitByte, isDigits, digitsValue, valueAfter, decimalWithin}
+use Rattle.script.specs.Texts.{decimal, Put}
 use Rattle.script.proofs.Laws.Digits.{isDigits-one, isDigits-append, digitsValue-snoc}
 use Rattle.script.proofs.Laws.Texts.{put-one, put-snoc}
 
 -- ---- equations ----
 
-within-small : (most value : ℕ) → value < 10 → decimalWithin (suc most) value ≡ digit value ∷ []
+within-small : (most value : ℕ) → value < 10 → decimalWithin (suc most) value ≡ digitByte value ∷ []
 unfolding decimalWithin
 within-small most value h = cond-true _ _ (lt-ltb value 10 h)
 
 within-large :
     (most value : ℕ) → 10 ≤ value →
-    decimalWithin (suc most) value ≡ decimalWithin most (value / 10) ++ (digit (value % 10) ∷ [])
+    decimalWithin (suc most) value ≡ decimalWithin most (value / 10) ++ (digitByte (value % 10) ∷ [])
 unfolding decimalWithin
 within-large most value h = cond-false _ _ (le-ltb value 10 h)
 
@@ -40,27 +40,27 @@ within-any (suc most) (suc more) value h k =
         decimalWithin (suc most) value ≡ decimalWithin (suc more) value
     by (inl l) later = within-small most value l ∙ sym (within-small more value l)
     by (inr l) later =
-        within-large most value l ∙ ap (λ (xs : Bytes). xs ++ (digit (value % 10) ∷ [])) (later l)
+        within-large most value l ∙ ap (λ (xs : Text). xs ++ (digitByte (value % 10) ∷ [])) (later l)
         ∙ sym (within-large more value l)
 
-pub decimal-small : (value : ℕ) → value < 10 → decimal value ≡ digit value ∷ []
+decimal-small : (value : ℕ) → value < 10 → decimal value ≡ digitByte value ∷ []
 unfolding decimal
 decimal-small value h = within-small value value h
 
-pub decimal-large : (value : ℕ) → 10 ≤ value → decimal value ≡ decimal (value / 10) ++
-    (digit (value % 10) ∷ [])
+decimal-large : (value : ℕ) → 10 ≤ value → decimal value ≡ decimal (value / 10) ++
+    (digitByte (value % 10) ∷ [])
 unfolding decimal
 decimal-large value h =
     within-large value value h
-    ∙ ap (λ (xs : Bytes). xs ++ (digit (value % 10) ∷ []))
+    ∙ ap (λ (xs : Text). xs ++ (digitByte (value % 10) ∷ []))
     (within-any value (suc (value / 10)) (value / 10) (omega arith) (omega arith))
 
 -- ---- length ----
 
-pub length-decimal-large : (value : ℕ) → 10 ≤ value →
+length-decimal-large : (value : ℕ) → 10 ≤ value →
     length (decimal value) ≡ length (decimal (value / 10)) + 1
 length-decimal-large value h =
-    ap length (decimal-large value h) ∙ length-append (decimal (value / 10)) (digit (value % 10) ∷ [])
+    ap length (decimal-large value h) ∙ length-append (decimal (value / 10)) (digitByte (value % 10) ∷ [])
 
 -- a number below a power of ten has no more digits than that
 pub length-decimal : (most value : ℕ) → value < 10 ^ suc most → length (decimal value) ≤ suc most
@@ -77,10 +77,10 @@ length-decimal (suc most) value h =
 -- ---- the digits spell the number ----
 
 -- what holds of one digit, and of one more digit after a tenth of the number, holds of every number
-module _ (P : ℕ → Bytes → Type 0)
-    (one : (value : ℕ) → value < 10 → P value (digit value ∷ []))
-    (more : (value : ℕ) (bytes : Bytes) → P (value / 10) bytes →
-    P value (bytes ++ (digit (value % 10) ∷ []))) where
+module _ (P : ℕ → Text → Type 0)
+    (one : (value : ℕ) → value < 10 → P value (digitByte value ∷ []))
+    (more : (value : ℕ) (bytes : Text) → P (value / 10) bytes →
+    P value (bytes ++ (digitByte (value % 10) ∷ []))) where
   within-induction : (most value : ℕ) → value < most → P value (decimalWithin most value)
   within-induction zero value h = absurd (omega arith)
   within-induction (suc most) value h =
@@ -96,36 +96,36 @@ module _ (P : ℕ → Bytes → Type 0)
 pub isDigits-decimal : (value : ℕ) → isDigits (decimal value) ≡ true
 unfolding decimal
 isDigits-decimal value =
-    within-induction (λ (n : ℕ) (bytes : Bytes). isDigits bytes ≡ true)
-    (λ n h. isDigits-one (digit n) (omega arith) (omega arith))
-    (λ n bytes e. isDigits-append bytes (digit (n % 10) ∷ []) e
-    (isDigits-one (digit (n % 10)) (omega arith) (omega arith)))
+    within-induction (λ (n : ℕ) (bytes : Text). isDigits bytes ≡ true)
+    (λ n h. isDigits-one (digitByte n) (omega arith) (omega arith))
+    (λ n bytes e. isDigits-append bytes (digitByte (n % 10) ∷ []) e
+    (isDigits-one (digitByte (n % 10)) (omega arith) (omega arith)))
     (suc value) value (omega arith)
 
 pub digitsValue-decimal : (value : ℕ) → digitsValue (decimal value) ≡ value
 unfolding decimal valueAfter
 digitsValue-decimal value =
-    within-induction (λ (n : ℕ) (bytes : Bytes). digitsValue bytes ≡ n)
-    (λ n h. rw (digitsValue-snoc [] (digit n)) (omega arith))
-    (λ n bytes e. digitsValue-snoc bytes (digit (n % 10)) ∙ omega (arith, e))
+    within-induction (λ (n : ℕ) (bytes : Text). digitsValue bytes ≡ n)
+    (λ n h. rw (digitsValue-snoc [] (digitByte n)) (omega arith))
+    (λ n bytes e. digitsValue-snoc bytes (digitByte (n % 10)) ∙ omega (arith, e))
     (suc value) value (omega arith)
 
 -- ---- in a buffer ----
 
-module _ (value : ℕ) (out : Bytes) (at : ℕ) (fits : at + length (decimal value) ≤ length out) where
+module _ (value : ℕ) (out : Text) (at : ℕ) (fits : at + length (decimal value) ≤ length out) where
   pub decimal-fits-small : value < 10 → at < length out
   decimal-fits-small h = omega (arith, ap length (decimal-small value h))
 
-  pub put-small : value < 10 → Put (decimal value) out at (set out at (digit value)) (at + 1)
-  put-small h = rw (decimal-small value h) (put-one out at (digit value) (decimal-fits-small h))
+  pub put-small : value < 10 → Put (decimal value) out at (set out at (digitByte value)) (at + 1)
+  put-small h = rw (decimal-small value h) (put-one out at (digitByte value) (decimal-fits-small h))
 
   module _ (large : 10 ≤ value) where
     pub decimal-fits-large : at + length (decimal (value / 10)) < length out
     decimal-fits-large = omega (arith, length-decimal-large value large)
 
     pub put-large :
-        (after : Bytes) (last : ℕ) → Put (decimal (value / 10)) out at after last →
-        Put (decimal value) out at (set after last (digit (value % 10))) (last + 1)
+        (after : Text) (last : ℕ) → Put (decimal (value / 10)) out at after last →
+        Put (decimal value) out at (set after last (digitByte (value % 10))) (last + 1)
     put-large after last put =
         rw (decimal-large value large)
-        (put-snoc (decimal (value / 10)) out at after last put decimal-fits-large (digit (value % 10)))
+        (put-snoc (decimal (value / 10)) out at after last put decimal-fits-large (digitByte (value % 10)))

@@ -11,24 +11,24 @@ use lib.ListN.{length, take, set, length-append, length-take}
 use lib.Seq.{take-all, take-suc-set, take-append-le, length-take-le}
 use borrow.Author.Tests.{eq-eqb, ne-eqb}
 use Rattle.laws.proofs.Cases.{lt-cases, cond-true, cond-false}
-use Rattle.script.specs.Texts.{Bytes, newline}
-use Rattle.script.specs.Lines.{lineOf}
+use Rattle.script.specs.Texts.{Text, newline}
+use Rattle.script.specs.Lines.{lineIn}
 use Rattle.script.specs.Feeding.{inLine, atEnd, stepIn, finish, lineRoom, cut}
-use Rattle.script.proofs.Laws.Lines.{lineOf-long}
+use Rattle.script.proofs.Laws.Lines.{lineIn-long}
 
 -- ---- one more byte of a line ----
 
-cut-newline : (line : Bytes) (byte : ℕ) → byte ≡ newline → cut (stepIn line byte) ≡ atEnd (take lineRoom line)
+cut-newline : (line : Text) (byte : ℕ) → byte ≡ newline → cut (stepIn line byte) ≡ atEnd (take lineRoom line)
 cut-newline line byte e =
     ap cut (cond-true (atEnd line) (inLine (line ++ (byte ∷ []))) (eq-eqb byte newline e))
 
 cut-other :
-    (line : Bytes) (byte : ℕ) → byte ≢ newline →
+    (line : Text) (byte : ℕ) → byte ≢ newline →
     cut (stepIn line byte) ≡ inLine (take lineRoom (line ++ (byte ∷ [])))
 cut-other line byte ne =
     ap cut (cond-false (atEnd line) (inLine (line ++ (byte ∷ []))) (ne-eqb byte newline ne))
 
-module _ (buffer : Bytes) (held byte : ℕ) (room : length buffer ≡ lineRoom) where
+module _ (buffer : Text) (held byte : ℕ) (room : length buffer ≡ lineRoom) where
   held-within : length (take held buffer) ≤ lineRoom
   held-within = omega (arith, length-take held buffer)
 
@@ -56,7 +56,7 @@ module _ (buffer : Bytes) (held byte : ℕ) (room : length buffer ≡ lineRoom) 
       ∙ sym (cut-other buffer byte ne))
 
 pub feed-last :
-    (buffer : Bytes) (held : ℕ) → length buffer ≡ lineRoom → held ≢ 0 →
+    (buffer : Text) (held : ℕ) → length buffer ≡ lineRoom → held ≢ 0 →
     atEnd (take held buffer) ≡ finish (inLine (take held buffer))
 feed-last [] held room ne = absurd (omega arith)
 feed-last (byte ∷ buffer) zero room ne = absurd (ne refl)
@@ -64,13 +64,13 @@ feed-last (byte ∷ buffer) (suc held) room ne = refl
 
 -- ---- what is held says what the line says ----
 
-pub lineOf-take : (line : Bytes) → lineOf (take lineRoom line) ≡ lineOf line
-lineOf-take line = ⊎-elim short long (lt-cases 19 (length line))
+pub lineIn-take : (line : Text) → lineIn (take lineRoom line) ≡ lineIn line
+lineIn-take line = ⊎-elim short long (lt-cases 19 (length line))
   where
-    short : 19 < length line → lineOf (take lineRoom line) ≡ lineOf line
+    short : 19 < length line → lineIn (take lineRoom line) ≡ lineIn line
     short h =
         let l : 19 < length (take lineRoom line) = omega (arith, length-take lineRoom line) in
-        lineOf-long (take lineRoom line) l ∙ sym (lineOf-long line h)
+        lineIn-long (take lineRoom line) l ∙ sym (lineIn-long line h)
 
-    long : length line ≤ 19 → lineOf (take lineRoom line) ≡ lineOf line
-    long h = ap lineOf (take-all lineRoom line (omega arith))
+    long : length line ≤ 19 → lineIn (take lineRoom line) ≡ lineIn line
+    long h = ap lineIn (take-all lineRoom line (omega arith))

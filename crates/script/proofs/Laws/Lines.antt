@@ -11,14 +11,14 @@ use lib.ListN.{length, getD, take, drop, drop-of-length-le}
 use lib.Seq.{take-nil, drop-nil}
 use borrow.Author.Tests.{eq-eqb, ne-eqb, lt-ltb, le-ltb, le-leb, lt-leb}
 use Rattle.laws.proofs.Cases.{bool-cases, lt-cases, and-both, and-false-right, cond-true, cond-false}
-use Rattle.script.specs.Texts.{Bytes, space, dash, isDigits, digitsValue}
+use Rattle.script.specs.Texts.{Text, space, dash, isDigits, digitsValue}
 use Rattle.script.specs.Lines.{beforeSpace, afterSpace, Split, isDash, isNumber, Field, number, absent}
-use Rattle.script.specs.Lines.{other, fieldOf, bad, lineFrom, lineOf}
+use Rattle.script.specs.Lines.{other, fieldIn, bad, lineFrom, lineIn}
 
 -- ---- the first space ----
 
 pub split-at-first :
-    (bytes : Bytes) (at : ℕ) → at ≤ length bytes →
+    (bytes : Text) (at : ℕ) → at ≤ length bytes →
     ((index : ℕ) → index < at → getD bytes index 0 ≢ space) →
     (at < length bytes → getD bytes at 0 ≡ space) → Split bytes at
 unfolding beforeSpace afterSpace
@@ -35,80 +35,80 @@ split-at-first (byte ∷ bytes) (suc at) h none-before here =
     let n : suc at + 1 ≡ suc (at + 1) = omega arith in
     record {
       inside = h;
-      before = rw e (ap (λ (xs : Bytes). byte ∷ xs) (later .before));
+      before = rw e (ap (λ (xs : Text). byte ∷ xs) (later .before));
       after = rw (e, n) (later .after);
     }
 
 -- ---- fields ----
 
-pub isDash-one : (bytes : Bytes) → length bytes ≡ 1 → isDash bytes ≡ eqb (getD bytes 0 0) dash
+pub isDash-one : (bytes : Text) → length bytes ≡ 1 → isDash bytes ≡ eqb (getD bytes 0 0) dash
 unfolding isDash
 isDash-one [] e = absurd (omega arith)
 isDash-one (byte ∷ []) e = refl
 isDash-one (byte ∷ next ∷ bytes) e = absurd (omega arith)
 
-pub isDash-other : (bytes : Bytes) → length bytes ≢ 1 → isDash bytes ≡ false
+pub isDash-other : (bytes : Text) → length bytes ≢ 1 → isDash bytes ≡ false
 unfolding isDash
 isDash-other [] ne = refl
 isDash-other (byte ∷ []) ne = absurd (ne refl)
 isDash-other (byte ∷ next ∷ bytes) ne = refl
 
-pub isNumber-empty : (bytes : Bytes) → length bytes ≡ 0 → isNumber bytes ≡ false
+pub isNumber-empty : (bytes : Text) → length bytes ≡ 0 → isNumber bytes ≡ false
 isNumber-empty bytes e = rw (le-ltb 0 (length bytes) (omega arith))
 
-pub isNumber-long : (bytes : Bytes) → 9 < length bytes → isNumber bytes ≡ false
+pub isNumber-long : (bytes : Text) → 9 < length bytes → isNumber bytes ≡ false
 isNumber-long bytes h = rw (lt-leb (length bytes) 9 h, lt-ltb 0 (length bytes) (omega arith))
 
-pub isNumber-letter : (bytes : Bytes) → isDigits bytes ≡ false → isNumber bytes ≡ false
+pub isNumber-letter : (bytes : Text) → isDigits bytes ≡ false → isNumber bytes ≡ false
 isNumber-letter bytes e = and-false-right (ltb 0 (length bytes) && leb (length bytes) 9) e
 
 pub isNumber-digits :
-    (bytes : Bytes) → length bytes ≢ 0 → length bytes ≤ 9 → isDigits bytes ≡ true → isNumber bytes ≡ true
+    (bytes : Text) → length bytes ≢ 0 → length bytes ≤ 9 → isDigits bytes ≡ true → isNumber bytes ≡ true
 isNumber-digits bytes ne h e =
     and-both (and-both (lt-ltb 0 (length bytes) (omega arith)) (le-leb (length bytes) 9 h)) e
 
-module _ (bytes : Bytes) where
-  pub fieldOf-dash : isDash bytes ≡ true → fieldOf bytes ≡ absent
-  unfolding fieldOf
-  fieldOf-dash e = cond-true absent (cond (isNumber bytes) (number (digitsValue bytes)) other) e
+module _ (bytes : Text) where
+  pub fieldIn-dash : isDash bytes ≡ true → fieldIn bytes ≡ absent
+  unfolding fieldIn
+  fieldIn-dash e = cond-true absent (cond (isNumber bytes) (number (digitsValue bytes)) other) e
 
-  pub fieldOf-number : isDash bytes ≡ false → isNumber bytes ≡ true →
-      fieldOf bytes ≡ number (digitsValue bytes)
-  unfolding fieldOf
-  fieldOf-number e p =
+  pub fieldIn-number : isDash bytes ≡ false → isNumber bytes ≡ true →
+      fieldIn bytes ≡ number (digitsValue bytes)
+  unfolding fieldIn
+  fieldIn-number e p =
       cond-false absent (cond (isNumber bytes) (number (digitsValue bytes)) other) e
       ∙ cond-true (number (digitsValue bytes)) other p
 
-  pub fieldOf-other : isDash bytes ≡ false → isNumber bytes ≡ false → fieldOf bytes ≡ other
-  unfolding fieldOf
-  fieldOf-other e p =
+  pub fieldIn-other : isDash bytes ≡ false → isNumber bytes ≡ false → fieldIn bytes ≡ other
+  unfolding fieldIn
+  fieldIn-other e p =
       cond-false absent (cond (isNumber bytes) (number (digitsValue bytes)) other) e
       ∙ cond-false (number (digitsValue bytes)) other p
 
 -- ---- lines ----
 
-pub lineFrom-other : (first : Field) → lineFrom first other ≡ bad
+lineFrom-other : (first : Field) → lineFrom first other ≡ bad
 lineFrom-other (number value) = refl
 lineFrom-other absent = refl
 lineFrom-other other = refl
 
-module _ (bytes : Bytes) (at : ℕ) (split : Split bytes at) where
-  pub lineOf-split : lineOf bytes ≡ lineFrom (fieldOf (take at bytes)) (fieldOf (drop (at + 1) bytes))
-  unfolding lineOf
-  lineOf-split = rw (split .before, split .after)
+module _ (bytes : Text) (at : ℕ) (split : Split bytes at) where
+  pub lineIn-split : lineIn bytes ≡ lineFrom (fieldIn (take at bytes)) (fieldIn (drop (at + 1) bytes))
+  unfolding lineIn
+  lineIn-split = rw (split .before, split .after)
 
   -- no space
-  pub lineOf-whole : length bytes ≤ at → lineOf bytes ≡ bad
-  lineOf-whole h =
+  pub lineIn-whole : length bytes ≤ at → lineIn bytes ≡ bad
+  lineIn-whole h =
       let e : drop (at + 1) bytes ≡ [] = drop-of-length-le bytes {i = at + 1} (omega arith) in
-      lineOf-split ∙ ap (λ (xs : Bytes). lineFrom (fieldOf (take at bytes)) (fieldOf xs)) e
-      ∙ ap (lineFrom (fieldOf (take at bytes))) (fieldOf-other [] (isDash-other [] (λ z. omega arith))
+      lineIn-split ∙ ap (λ (xs : Text). lineFrom (fieldIn (take at bytes)) (fieldIn xs)) e
+      ∙ ap (lineFrom (fieldIn (take at bytes))) (fieldIn-other [] (isDash-other [] (λ z. omega arith))
       (isNumber-empty [] refl))
-      ∙ lineFrom-other (fieldOf (take at bytes))
+      ∙ lineFrom-other (fieldIn (take at bytes))
 
 -- ---- long lines ----
 
-length-fields : (bytes : Bytes) → length bytes ≤ length (beforeSpace bytes) + 1 + length (afterSpace bytes)
+length-fields : (bytes : Text) → length bytes ≤ length (beforeSpace bytes) + 1 + length (afterSpace bytes)
 unfolding beforeSpace afterSpace
 length-fields [] = omega arith
 length-fields (byte ∷ bytes) = by (bool-cases (eqb byte space)) (length-fields bytes)
@@ -120,21 +120,21 @@ length-fields (byte ∷ bytes) = by (bool-cases (eqb byte space)) (length-fields
     by (inl e) h = rw e (omega arith)
     by (inr e) h = rw e (omega arith)
 
-fieldOf-long : (bytes : Bytes) → 9 < length bytes → fieldOf bytes ≡ other
-fieldOf-long bytes h =
-    fieldOf-other bytes (isDash-other bytes (λ z. omega arith)) (isNumber-long bytes h)
+fieldIn-long : (bytes : Text) → 9 < length bytes → fieldIn bytes ≡ other
+fieldIn-long bytes h =
+    fieldIn-other bytes (isDash-other bytes (λ z. omega arith)) (isNumber-long bytes h)
 
 -- a line of a good form has at most 19 bytes
-pub lineOf-long : (bytes : Bytes) → 19 < length bytes → lineOf bytes ≡ bad
-unfolding lineOf
-lineOf-long bytes h = ⊎-elim front rest (lt-cases 9 (length (beforeSpace bytes)))
+pub lineIn-long : (bytes : Text) → 19 < length bytes → lineIn bytes ≡ bad
+unfolding lineIn
+lineIn-long bytes h = ⊎-elim front rest (lt-cases 9 (length (beforeSpace bytes)))
   where
-    front : 9 < length (beforeSpace bytes) → lineFrom (fieldOf (beforeSpace bytes))
-        (fieldOf (afterSpace bytes)) ≡ bad
-    front l = rw (fieldOf-long (beforeSpace bytes) l)
+    front : 9 < length (beforeSpace bytes) → lineFrom (fieldIn (beforeSpace bytes))
+        (fieldIn (afterSpace bytes)) ≡ bad
+    front l = rw (fieldIn-long (beforeSpace bytes) l)
 
-    rest : length (beforeSpace bytes) ≤ 9 → lineFrom (fieldOf (beforeSpace bytes))
-        (fieldOf (afterSpace bytes)) ≡ bad
+    rest : length (beforeSpace bytes) ≤ 9 → lineFrom (fieldIn (beforeSpace bytes))
+        (fieldIn (afterSpace bytes)) ≡ bad
     rest l =
-        rw (fieldOf-long (afterSpace bytes) (omega (arith, length-fields bytes)))
-        (lineFrom-other (fieldOf (beforeSpace bytes)))
+        rw (fieldIn-long (afterSpace bytes) (omega (arith, length-fields bytes)))
+        (lineFrom-other (fieldIn (beforeSpace bytes)))

@@ -4,7 +4,7 @@ use mathlib.Core.List.{List, [], _∷_, _++_}
 use Prim.Native.Nat.{ℕ, _+_, _^_, _≤_, _<_}
 use native.Mathlib.Omega.{arith}
 use lib.ListN.{length, set, length-append}
-use Rattle.script.specs.Texts.{Bytes, Put, newline, space}
+use Rattle.script.specs.Texts.{Text, Put, newline, space}
 use Rattle.script.specs.Reports.{field, outcomeText, storesText, countsText, reportLine, storesRoom}
 use Rattle.script.specs.Reports.{reportRoom}
 use Rattle.script.proofs.Laws.Texts.{put-three, put-append, put-snoc}
@@ -19,7 +19,7 @@ pub record Short (line answer rounds outcome head : ℕ) (stores : List ℕ) : T
   pub stores-short : length (storesText stores) ≤ storesRoom (length stores)
 
 -- four texts and one byte
-module _ (text : Bytes) (more rest final out : Bytes) (one two three four : Bytes)
+module _ (text : Text) (more rest final out : Text) (one two three four : Text)
     (first second third fourth : ℕ)
     (fits : length text + length more + length rest + length final < length out)
     (p : Put text out 0 one first)
@@ -57,9 +57,9 @@ module _ (line answer rounds outcome head : ℕ) (stores : List ℕ) where
         stores-short = length-storesText stores small;
       }
 
-  module _ (out : Bytes) (fits : reportRoom (length stores) ≤ length out)
+  module _ (out : Text) (fits : reportRoom (length stores) ≤ length out)
       (all : Short line answer rounds outcome head stores)
-      (one two three four : Bytes) (first second third fourth : ℕ)
+      (one two three four : Text) (first second third fourth : ℕ)
       (counts : Put (countsText line answer rounds) out 0 one first)
       (fate : Put (outcomeText outcome ++ (space ∷ [])) one first two second)
       (after : Put (field head) two second three third)

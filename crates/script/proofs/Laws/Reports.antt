@@ -11,7 +11,7 @@ use lib.ListN.{length, getD, take, drop, set, length-append, length-drop}
 use lib.Seq.{take-suc, take-all, getD-drop}
 use borrow.Author.Tests.{ne-eqb}
 use Rattle.laws.proofs.Cases.{cond-cases}
-use Rattle.script.specs.Texts.{Bytes, Put, space, comma, dash, decimal}
+use Rattle.script.specs.Texts.{Text, Put, space, comma, dash, decimal}
 use Rattle.script.specs.Reports.{field, outcomeText, noneText, placedText, waitingText, notTriedText}
 use Rattle.script.specs.Reports.{laterText, storesText, storesRoom}
 use Rattle.script.proofs.Laws.Texts.{put-nothing, put-one, put-append}
@@ -64,7 +64,7 @@ pub length-counts :
 length-counts line answer rounds l a r =
     omega (arith, length-field-line line l, length-field-answer answer a, length-field-count rounds r)
 
-abbrev short : Bytes → Type 0
+abbrev short : Text → Type 0
 short text = length text ≤ 9
 
 pub length-outcomeText : (outcome : ℕ) → outcome < 2 ^ 8 → length (outcomeText outcome) ≤ 9
@@ -83,7 +83,7 @@ laterText-snoc : (stores : List ℕ) (store : ℕ) → laterText (stores ++ (sto
 unfolding laterText
 laterText-snoc [] store = append-nil (comma ∷ decimal store)
 laterText-snoc (first ∷ stores) store =
-    ap (λ (text : Bytes). (comma ∷ decimal first) ++ text) (laterText-snoc stores store)
+    ap (λ (text : Text). (comma ∷ decimal first) ++ text) (laterText-snoc stores store)
     ∙ sym (append-assoc (comma ∷ decimal first) (laterText stores) (comma ∷ decimal store))
 
 pub length-decimal-store : (store : ℕ) → store < 2 ^ 32 → length (decimal store) ≤ 10
@@ -131,22 +131,22 @@ length-storesText (store ∷ stores) small =
 -- ---- a loop over stores ----
 
 -- the first stores are put, in no more than eleven bytes each
-pub record Listed (stores : List ℕ) (out : Bytes) (at : ℕ) (after : Bytes) (next count : ℕ) : Type 0 where
+pub record Listed (stores : List ℕ) (out : Text) (at : ℕ) (after : Text) (next count : ℕ) : Type 0 where
   pub inside : count ≤ length stores
   pub near : next ≤ at + 11 * count
   pub same : length after ≡ length out
   pub put : Put (laterText (take count stores)) out at after next
 
-pub listed-none : (stores : List ℕ) (out : Bytes) (at : ℕ) → at ≤ length out → Listed stores out at out at 0
+pub listed-none : (stores : List ℕ) (out : Text) (at : ℕ) → at ≤ length out → Listed stores out at out at 0
 unfolding laterText
 listed-none stores out at h =
     record { inside = omega arith; near = omega arith; same = refl; put = put-nothing out at h }
 
-module _ (stores : List ℕ) (out : Bytes) (at : ℕ) (fits : at + 11 * length stores ≤ length out)
-    (after : Bytes)
+module _ (stores : List ℕ) (out : Text) (at : ℕ) (fits : at + 11 * length stores ≤ length out)
+    (after : Text)
     (next count : ℕ) (listed : Listed stores out at after next count) where
   pub listed-more :
-      (last : Bytes) (end : ℕ) → count < length stores → length last ≡ length after →
+      (last : Text) (end : ℕ) → count < length stores → length last ≡ length after →
       getD stores count 0 < 2 ^ 32 → Put (comma ∷ decimal (getD stores count 0)) after next last end →
       Listed stores out at last end (count + 1)
   listed-more last end h same small put =
@@ -168,7 +168,7 @@ module _ (stores : List ℕ) (out : Bytes) (at : ℕ) (fits : at + 11 * length s
 
 -- ---- all stores ----
 
-module _ (stores : List ℕ) (out : Bytes) (at : ℕ) (fits : at + storesRoom (length stores) ≤ length out) where
+module _ (stores : List ℕ) (out : Text) (at : ℕ) (fits : at + storesRoom (length stores) ≤ length out) where
   pub put-none : length stores ≡ 0 → Put (storesText stores) out at (set out at dash) (at + 1)
   put-none e = rw (storesText-none stores e) (put-one out at dash (omega arith))
 
@@ -176,13 +176,13 @@ module _ (stores : List ℕ) (out : Bytes) (at : ℕ) (fits : at + storesRoom (l
     pub first-fits : at + length (decimal (getD stores 0 0)) ≤ length out
     first-fits = omega (arith, length-decimal-store (getD stores 0 0) (small 0))
 
-    module _ (after : Bytes) (next : ℕ) (first : Put (decimal (getD stores 0 0)) out at after next) where
+    module _ (after : Text) (next : ℕ) (first : Put (decimal (getD stores 0 0)) out at after next) where
       pub later-fits : next + 11 * length (drop 1 stores) ≤ length out
       later-fits =
           simp length-drop (omega (arith, first .ended, length-decimal-store (getD stores 0 0) (small 0)))
 
       pub put-some :
-          (last : Bytes) (end : ℕ) → Put (laterText (drop 1 stores)) after next last end →
+          (last : Text) (end : ℕ) → Put (laterText (drop 1 stores)) after next last end →
           Put (storesText stores) out at last end
       put-some last end later =
           rw (storesText-some stores some)

@@ -9,25 +9,25 @@ use native.Mathlib.Omega.{arith}
 use lib.ListN.{length, getD, set, length-append}
 use lib.Seq.{paste, paste-suc, take-length}
 use Rattle.laws.proofs.Lists.{over-is, over-nil, over-one, over-append, length-over}
-use Rattle.script.specs.Texts.{Bytes, Put}
+use Rattle.script.specs.Texts.{Text, Put}
 
 -- ---- texts ----
 
-pub put-nothing : (out : Bytes) (at : ℕ) → at ≤ length out → Put [] out at out at
+pub put-nothing : (out : Text) (at : ℕ) → at ≤ length out → Put [] out at out at
 put-nothing out at h = record { placed = sym (over-nil at out h); ended = omega arith }
 
-pub put-one : (out : Bytes) (at byte : ℕ) → at < length out →
+pub put-one : (out : Text) (at byte : ℕ) → at < length out →
     Put (byte ∷ []) out at (set out at byte) (at + 1)
 put-one out at byte h = record { placed = sym (over-one out at byte h); ended = refl }
 
-module _ (text out : Bytes) (at : ℕ) (after : Bytes) (next : ℕ) (put : Put text out at after next)
+module _ (text out : Text) (at : ℕ) (after : Text) (next : ℕ) (put : Put text out at after next)
     (fits : at + length text ≤ length out) where
   put-length : length after ≡ length out
   put-length = ap length (put .placed) ∙ length-over text out at fits
 
   -- one text after another
   pub put-append :
-      (more last : Bytes) (end : ℕ) → Put more after next last end → next + length more ≤ length out →
+      (more last : Text) (end : ℕ) → Put more after next last end → next + length more ≤ length out →
       Put (text ++ more) out at last end
   put-append more last end then h =
       let room : at + length text + length more ≤ length out = omega (arith, put .ended) in
@@ -39,7 +39,7 @@ module _ (text out : Bytes) (at : ℕ) (after : Bytes) (next : ℕ) (put : Put t
 
 -- three texts, one after another
 pub put-three :
-    (one two three out : Bytes) (at : ℕ) (after later last : Bytes) (next then end : ℕ) →
+    (one two three out : Text) (at : ℕ) (after later last : Text) (next then end : ℕ) →
     at + length one + length two + length three ≤ length out → Put one out at after next →
     Put two after next later then →
     Put three later then last end → Put (one ++ two ++ three) out at last end
@@ -51,7 +51,7 @@ put-three one two three out at after later last next then end h p q r =
 
 -- a text after one byte
 pub put-cons :
-    (byte : ℕ) (text out : Bytes) (at : ℕ) (after : Bytes) (end : ℕ) → at + 1 + length text ≤ length out →
+    (byte : ℕ) (text out : Text) (at : ℕ) (after : Text) (end : ℕ) → at + 1 + length text ≤ length out →
     Put text (set out at byte) (at + 1) after end → Put (byte ∷ text) out at after end
 put-cons byte text out at after end h put =
     put-append (byte ∷ []) out at (set out at byte) (at + 1) (put-one out at byte (omega arith))
@@ -59,7 +59,7 @@ put-cons byte text out at after end h put =
     end put h
 
 -- one byte after a text
-module _ (text out : Bytes) (at : ℕ) (after : Bytes) (last : ℕ) (put : Put text out at after last)
+module _ (text out : Text) (at : ℕ) (after : Text) (last : ℕ) (put : Put text out at after last)
     (fits : at + length text < length out) where
   last-inside : last < length out
   last-inside = omega (arith, put .ended)
@@ -73,14 +73,14 @@ module _ (text out : Bytes) (at : ℕ) (after : Bytes) (last : ℕ) (put : Put t
 
 -- ---- a loop over a text ----
 
-module _ (out : Bytes) (at : ℕ) (text : Bytes) (fits : at + length text ≤ length out) where
+module _ (out : Text) (at : ℕ) (text : Text) (fits : at + length text ≤ length out) where
   pub paste-turn :
-      (done : ℕ) (after : Bytes) → after ≡ paste out at text done → done < length text →
+      (done : ℕ) (after : Text) → after ≡ paste out at text done → done < length text →
       set after (at + done) (getD text done 0) ≡ paste out at text (done + 1)
   paste-turn done after e h = rw (e, add-one) (paste-suc out at text done 0 (omega arith) h)
 
   pub put-of-paste :
-      (done : ℕ) (after : Bytes) → after ≡ paste out at text done → done ≤ length text → length text ≤ done →
+      (done : ℕ) (after : Text) → after ≡ paste out at text done → done ≤ length text → length text ≤ done →
       Put text out at after (at + done)
   put-of-paste done after e h k =
       let whole : done ≡ length text = le-antisymm h k in

@@ -1,6 +1,6 @@
 -- `listing::progress::take_line` meets its contract, by what the line says. Assumes nothing.
 use mathlib.Core.Path.{ap}
-use Rattle.script.specs.Lines.{lineSaid}
+use Rattle.script.specs.Lines.{meaningOf}
 use Rattle.listing.proofs.Laws.Steps.{took-good, took-bad}
 use borrow.Author.Needs.{needs}
 use Rattle.listing.proofs.progress.take_line.Statement.{statement}
@@ -42,7 +42,7 @@ same-length-2 c = search needs
 returns : tie.Need-returns
 returns c =
     let s = c .before .before .before .before in
-    took-good (ap lineSaid (at-bare s .said .given .1)) (s .report-line .ensures)
+    took-good (ap meaningOf (at-bare s .said .given .1)) (s .report-line .ensures)
     (at-bare s .before .before .before .before .args .feed)
 
 same-length-3 : tie.Need-same-length-3
@@ -54,12 +54,12 @@ same-length-4 c = search needs
 returns-2 : tie.Need-returns-2
 returns-2 c =
     let s = c .before .before .before .before in
-    took-good (ap lineSaid (at-offering s .said2 .given .1)) (s .report-line2 .ensures)
+    took-good (ap meaningOf (at-offering s .said2 .given .1)) (s .report-line2 .ensures)
     (at-offering s .before .before .before .before .args .feed)
 
 returns-3 : tie.Need-returns-3
 returns-3 c =
-    took-bad (ap lineSaid (c .enum-told .given .1)) (c .before .before .before .before .args .feed)
+    took-bad (ap meaningOf (c .enum-told .given .1)) (c .before .before .before .before .args .feed)
 
 pub take-line-spec : {M : Type 1} → statement M
 take-line-spec =

@@ -5,8 +5,8 @@ use Prim.Native.Nat.{_≤_}
 use native.Mathlib.Omega.{arith}
 use lib.ListN.{length, take, replicate}
 use lib.Seq.{length-take-le}
-use Rattle.listing.specs.Writes.{listRoom, offerSaid}
-use Rattle.listing.proofs.Laws.Writes.{stores-fit, line-reported}
+use Rattle.listing.specs.Writes.{listRoom, offerFrom}
+use Rattle.listing.proofs.Laws.Writes.{line-stores-fit, line-reported}
 use borrow.Author.Needs.{needs}
 use Rattle.listing.proofs.writes.report_line.Statement.{statement}
 use Rattle.listing.proofs.writes.report_line.Tie as tie
@@ -32,7 +32,7 @@ inside :
     (c .write-line .result .stores ≤ listRoom) × (length (c .write-line .last .1 .0) ≡ listRoom)
 inside c =
     let s = at-start c .args in (
-      stores-fit (s .disk .now) (s .line) (s .number .0) (offerSaid (s .offered) (s .offer .0))
+      line-stores-fit (s .disk .now) (s .line) (s .number .0) (offerFrom (s .offered) (s .offer .0))
           (replicate listRoom 0) (c .write-line .last .0) (c .write-line .last .1 .0) (c .write-line .result)
           refl (c .write-line .ensures),
       c .write-line .kept .1 .0,
@@ -84,7 +84,7 @@ returns c =
     let line = at-line head in
     let s = at-start line .args in
     let call = line .write-line in
-    line-reported (s .disk .now) (s .line) (s .number .0) (offerSaid (s .offered) (s .offer .0))
+    line-reported (s .disk .now) (s .line) (s .number .0) (offerFrom (s .offered) (s .offer .0))
     (replicate listRoom 0) (call .last .0) (call .last .1 .0) (call .result) refl (call .ensures)
     (outcome .outcome-number .result) (head .head-in .result) (s .out .now)
     (after .put-report .last .0) (after .put-report .result) (outcome .outcome-number .ensures)

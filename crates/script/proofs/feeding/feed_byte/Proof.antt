@@ -6,7 +6,7 @@ use borrow.Author.Tests.{eq-eqb, ne-eqb}
 use Rattle.laws.proofs.Cases.{cond-true, cond-false}
 use Rattle.script.specs.declared.feeding.Feed.{Feed}
 use Rattle.script.specs.Texts.{newline}
-use Rattle.script.specs.Feeding.{inNames, inLine, step, cut, readingIn}
+use Rattle.script.specs.Feeding.{noLine, inLine, step, cut, readingIn}
 use Rattle.script.proofs.feeding.feed_byte.Statement.{statement}
 use Rattle.script.proofs.feeding.feed_byte.Tie as tie
 
@@ -59,13 +59,13 @@ feed-line-requires-2 c κs = search needs
 returns : tie.Need-returns
 returns c =
     let s = startOfNames (c .before) in
-    ap cut (sym (cond-true (inLine []) inNames (eq-eqb (s .args .byte) newline (c .if1 .taken))))
+    ap cut (sym (cond-true (inLine []) noLine (eq-eqb (s .args .byte) newline (c .if1 .taken))))
     ∙ along s _ (c .before .enum-told .given .1)
 
 returns-2 : tie.Need-returns-2
 returns-2 c =
     let s = startOfNames (c .before) in
-    ap cut (sym (cond-false (inLine []) inNames (ne-eqb (s .args .byte) newline (c .if1 .left))))
+    ap cut (sym (cond-false (inLine []) noLine (ne-eqb (s .args .byte) newline (c .if1 .left))))
     ∙ along s _ (c .before .enum-told .given .1)
 
 same-length : tie.Need-same-length

@@ -3,7 +3,7 @@ use mathlib.Core.Path.{sym, ap, _∙_}
 use native.Mathlib.Omega.{arith}
 use lib.Seq.{take-all, length-take-le}
 use borrow.Author.Needs.{needs}
-use Rattle.script.specs.Lines.{lineOf}
+use Rattle.script.specs.Lines.{lineIn}
 use Rattle.script.proofs.feeding.read_held.Statement.{statement}
 use Rattle.script.proofs.feeding.read_held.Tie as tie
 
@@ -24,7 +24,7 @@ read-line-requires-2 c κs = search needs
 returns-2 : tie.Need-returns-2
 returns-2 c =
     let s = c .before .before .before .args in
-    c .read-line2 .ensures ∙ ap lineOf (sym (take-all (s .held) (s .buffer .now) (c .before .if1 .left)))
+    c .read-line2 .ensures ∙ ap lineIn (sym (take-all (s .held) (s .buffer .now) (c .before .if1 .left)))
 
 pub read-held-spec : {M : Type 1} → statement M
 read-held-spec =

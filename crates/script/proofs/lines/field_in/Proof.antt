@@ -6,11 +6,11 @@ use Prim.Native.Nat.{_-_, _^_, _<_}
 use native.Mathlib.Omega.{arith}
 use lib.ListN.{length, getD}
 use borrow.Author.Needs.{needs}
-use Rattle.script.specs.Texts.{Bytes, isDigit}
-use Rattle.script.specs.Lines.{isDash, fieldOf, number, other}
+use Rattle.script.specs.Texts.{Text, isDigit}
+use Rattle.script.specs.Lines.{isDash, fieldIn, number, other}
 use Rattle.script.proofs.Laws.Digits.{Digits, digits-none, digits-more, digits-all, digits-value}
 use Rattle.script.proofs.Laws.Digits.{digits-room, isDigits-other, isDigit-low, isDigit-high}
-use Rattle.script.proofs.Laws.Lines.{fieldOf-dash, fieldOf-number, fieldOf-other, isNumber-empty}
+use Rattle.script.proofs.Laws.Lines.{fieldIn-dash, fieldIn-number, fieldIn-other, isNumber-empty}
 use Rattle.script.proofs.Laws.Lines.{isNumber-long, isNumber-letter, isNumber-digits}
 use Rattle.script.proofs.lines.field_in.Statement.{statement}
 use Rattle.script.proofs.lines.field_in.Tie as tie
@@ -30,7 +30,7 @@ startOf c = c .before .before .before
 abbrev passedOf : tie.At-loop Inv-loop μ-loop → tie.Else1 Inv-loop μ-loop
 passedOf c = c .before .before .before
 
-abbrev bytesOf : tie.At-loop Inv-loop μ-loop → Bytes
+abbrev bytesOf : tie.At-loop Inv-loop μ-loop → Text
 bytesOf c = startOf (passedOf c) .args .bytes .now
 
 -- a byte is at least `0`
@@ -46,10 +46,10 @@ no-dash c = sym (c .before .is-dash .ensures) ∙ c .if1 .left
 -- a byte of the loop is no digit
 not-digit :
     (c : tie.In-loop Inv-loop μ-loop) → isDigit (getD (bytesOf (c .before)) (c .before .loop .i) 0) ≡ false →
-    other ≡ fieldOf (bytesOf (c .before))
+    other ≡ fieldIn (bytesOf (c .before))
 not-digit c e =
     let bytes = bytesOf (c .before) in
-    sym (fieldOf-other bytes (no-dash (passedOf (c .before)))
+    sym (fieldIn-other bytes (no-dash (passedOf (c .before)))
     (isNumber-letter bytes (isDigits-other bytes (c .before .loop .i) (c .loop-test .taken) e)))
 
 -- the number so far has room for one more digit
@@ -66,18 +66,18 @@ is-dash-requires c κs = search needs
 returns : tie.Need-returns Inv-loop μ-loop
 returns c =
     let judged = c .before in
-    sym (fieldOf-dash (judged .before .before .args .bytes .now)
+    sym (fieldIn-dash (judged .before .before .args .bytes .now)
     (sym (judged .is-dash .ensures) ∙ c .if1 .taken))
 
 returns-2 : tie.Need-returns-2 Inv-loop μ-loop
 returns-2 c =
     let bytes = startOf (c .before) .args .bytes .now in
-    sym (fieldOf-other bytes (no-dash (c .before)) (isNumber-empty bytes (c .if2 .taken)))
+    sym (fieldIn-other bytes (no-dash (c .before)) (isNumber-empty bytes (c .if2 .taken)))
 
 returns-3 : tie.Need-returns-3 Inv-loop μ-loop
 returns-3 c =
     let bytes = startOf (c .before .before) .args .bytes .now in
-    sym (fieldOf-other bytes (no-dash (c .before .before)) (isNumber-long bytes (c .if3 .taken)))
+    sym (fieldIn-other bytes (no-dash (c .before .before)) (isNumber-long bytes (c .if3 .taken)))
 
 loop-holds : tie.Need-loop-holds Inv-loop μ-loop
 loop-holds c = digits-none (startOf (c .before .before) .args .bytes .now)
@@ -119,7 +119,7 @@ returns-6 c =
     let bytes = bytesOf end in
     let at = end .loop in
     ap number (digits-value bytes (at .value) (at .i) (at .inv) (c .loop-test .left))
-    ∙ sym (fieldOf-number bytes (no-dash (passedOf end))
+    ∙ sym (fieldIn-number bytes (no-dash (passedOf end))
     (isNumber-digits bytes (end .before .before .if2 .left) (end .before .if3 .left)
     (digits-all bytes (at .value) (at .i) (at .inv) (c .loop-test .left))))
 

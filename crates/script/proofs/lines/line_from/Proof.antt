@@ -2,7 +2,7 @@
 use mathlib.Core.Path.{sym, ap₂}
 use borrow.Author.Needs.{needs}
 use Rattle.script.specs.declared.lines.Field.{Field}
-use Rattle.script.specs.Lines.{fieldSaid, lineFrom}
+use Rattle.script.specs.Lines.{fieldOf, lineFrom}
 use Rattle.script.proofs.lines.line_from.Statement.{statement}
 use Rattle.script.proofs.lines.line_from.Tie as tie
 
@@ -26,12 +26,12 @@ enum-told-4 c = search needs
 
 returns : tie.Need-returns
 returns c =
-    ap₂ (λ (first second : Field). lineFrom (fieldSaid first) (fieldSaid second))
+    ap₂ (λ (first second : Field). lineFrom (fieldOf first) (fieldOf second))
     (sym (c .before .before .before .before .first .given .1)) (sym (c .before .second .given .1))
 
 returns-2 : tie.Need-returns-2
 returns-2 c =
-    ap₂ (λ (first second : Field). lineFrom (fieldSaid first) (fieldSaid second))
+    ap₂ (λ (first second : Field). lineFrom (fieldOf first) (fieldOf second))
     (sym (c .before .before .before .first .given .1)) (sym (c .enum-told .given .1))
 
 returns-3 : tie.Need-returns-3

@@ -5,9 +5,9 @@ use Prim.Native.Nat.{_+_}
 use native.Mathlib.Omega.{arith}
 use lib.Seq.{length-take-le}
 use borrow.Author.Needs.{needs}
-use Rattle.script.specs.Lines.{fieldOf, lineFrom}
+use Rattle.script.specs.Lines.{fieldIn, lineFrom}
 use Rattle.laws.proofs.Lists.{take-drop}
-use Rattle.script.proofs.Laws.Lines.{lineOf-split, lineOf-whole}
+use Rattle.script.proofs.Laws.Lines.{lineIn-split, lineIn-whole}
 use Rattle.script.proofs.lines.read_line.Statement.{statement}
 use Rattle.script.proofs.lines.read_line.Tie as tie
 
@@ -19,7 +19,7 @@ space-in-requires c κs = search needs
 
 returns : tie.Need-returns
 returns c =
-    sym (lineOf-whole (c .before .before .before .args .bytes .now) (c .before .space-in .result)
+    sym (lineIn-whole (c .before .before .before .args .bytes .now) (c .before .space-in .result)
     (c .before .space-in .ensures) (omega arith))
 
 add-after : tie.Need-add-after
@@ -54,8 +54,8 @@ returns-2 c =
     let start = spaced .before .before in
     let found = spaced .space-in in
     c .line-from .ensures ∙ ap₂ lineFrom (c .before .before .before .field-in .ensures)
-    (c .before .field-in2 .ensures ∙ ap fieldOf (take-drop (found .result + 1) (start .args .bytes .now)))
-    ∙ sym (lineOf-split (start .args .bytes .now) (found .result) (found .ensures))
+    (c .before .field-in2 .ensures ∙ ap fieldIn (take-drop (found .result + 1) (start .args .bytes .now)))
+    ∙ sym (lineIn-split (start .args .bytes .now) (found .result) (found .ensures))
 
 pub read-line-spec : {M : Type 1} → statement M
 read-line-spec =

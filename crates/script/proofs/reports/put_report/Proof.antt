@@ -5,7 +5,7 @@ use Prim.Native.Nat.{_≤_, _<_}
 use native.Mathlib.Omega.{arith}
 use lib.ListN.{length, length-set}
 use borrow.Author.Needs.{needs}
-use Rattle.script.specs.Texts.{Bytes, newline}
+use Rattle.script.specs.Texts.{Text, newline}
 use Rattle.script.proofs.Laws.ReportLines.{Short, short, newline-inside, put-line}
 use Rattle.script.proofs.reports.put_report.Statement.{statement}
 use Rattle.script.proofs.reports.put_report.Tie as tie
@@ -24,7 +24,7 @@ at-outcome c = c .before .before .before .before
 abbrev at-head : tie.After-put-stores → tie.After-put-field
 at-head c = c .before .before .before .before
 
-abbrev out-of : tie.After-put-counts → Bytes
+abbrev out-of : tie.After-put-counts → Text
 out-of c = at-start c .before .before .args .out .now
 
 -- ---- where each part ends at most, and that the buffer keeps its length ----

@@ -1,0 +1,6 @@
+pub mod Counts
+pub mod Drives
+pub mod Layouts
+pub mod Questions
+pub mod Trees
+pub mod Writes

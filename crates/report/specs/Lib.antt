@@ -1,3 +1,0 @@
-pub mod Drives
-pub mod Writes
-pub mod Needs

@@ -11,8 +11,8 @@ pub struct Panel {
     pub lines: Vec<Vec<f64>>,
 }
 
-/// Colour and dashes of the lines, in the order of the names.
-const STROKES: [(&str, &str); 3] = [("#1b5e9e", "none"), ("#c4511d", "7 4"), ("#3c7a3c", "2 3")];
+/// Grey and dashes of the lines, in the order of the names: colours say what is in the view.
+const STROKES: [(&str, &str); 3] = [("#000", "none"), ("#777", "7 4"), ("#777", "2 3")];
 
 const LEFT: f64 = 62.0;
 const TOP: f64 = 96.0;
@@ -24,6 +24,11 @@ const PANEL: f64 = LEFT + WIDTH + 18.0;
 fn step(most: f64) -> f64 {
     let power = 10f64.powf((most / 6.0).log10().floor());
     [1.0, 2.0, 5.0, 10.0].map(|n| n * power).into_iter().find(|step| step * 6.0 >= most).unwrap()
+}
+
+/// A number with its thousands set off.
+pub fn grouped(n: u32) -> String {
+    if n < 1000 { n.to_string() } else { format!("{},{:03}", grouped(n / 1000), n % 1000) }
 }
 
 fn text(out: &mut String, x: f64, y: f64, anchor: &str, more: &str, content: &str) {
@@ -46,7 +51,7 @@ fn panel(out: &mut String, panel: &Panel, left: f64, unit: &str) {
     for row in 0..=rows as usize {
         let value = row as f64 * step;
         line(out, [left, y(value), left + WIDTH, y(value)], r##"stroke="#ddd""##);
-        text(out, left - 6.0, y(value) + 4.0, "end", "", &value.to_string());
+        text(out, left - 6.0, y(value) + 4.0, "end", "", &grouped(value as u32));
     }
     line(out, [left, TOP, left, bottom], r##"stroke="#333""##);
     line(out, [left, bottom, left + WIDTH, bottom], r##"stroke="#333""##);
@@ -54,10 +59,12 @@ fn panel(out: &mut String, panel: &Panel, left: f64, unit: &str) {
     let turned = format!(r#" transform="rotate(-90 {turn_x:.1} {turn_y:.1})""#);
     text(out, turn_x, turn_y, "middle", &turned, unit);
     for (i, tick) in panel.ticks.iter().enumerate() {
-        line(out, [x(i), bottom, x(i), bottom + 4.0], r##"stroke="#333""##);
-        text(out, x(i), bottom + 17.0, "middle", r#" font-size="10""#, &tick.to_string());
+        // many are in two rows, as they are wide
+        let low = if panel.ticks.len() > 4 { 12.0 * (i % 2) as f64 } else { 0.0 };
+        line(out, [x(i), bottom, x(i), bottom + 4.0 + low], r##"stroke="#333""##);
+        text(out, x(i), bottom + 15.0 + low, "middle", r#" font-size="10""#, &grouped(*tick));
     }
-    text(out, left + WIDTH / 2.0, bottom + 36.0, "middle", "", panel.label);
+    text(out, left + WIDTH / 2.0, bottom + 46.0, "middle", "", panel.label);
     for (values, (colour, dashes)) in panel.lines.iter().zip(STROKES) {
         let points: Vec<_> =
             values.iter().enumerate().map(|(i, v)| format!("{:.1},{:.1}", x(i), y(*v))).collect();
@@ -72,7 +79,7 @@ fn panel(out: &mut String, panel: &Panel, left: f64, unit: &str) {
 
 /// A whole picture. The unit is that of the vertical axes, which start at 0.
 pub fn svg(title: &str, unit: &str, names: &[&str], panels: &[Panel]) -> String {
-    let (width, height) = (PANEL * panels.len() as f64 + 10.0, TOP + HEIGHT + 50.0);
+    let (width, height) = (PANEL * panels.len() as f64 + 10.0, TOP + HEIGHT + 60.0);
     let mut out = format!(r#"<svg xmlns="http://www.w3.org/2000/svg" viewBox="0 0 {width} {height}""#);
     out += " font-family=\"sans-serif\" font-size=\"12\">\n";
     writeln!(out, r##"<rect width="{width}" height="{height}" fill="#fff"/>"##).unwrap();

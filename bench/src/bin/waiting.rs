@@ -3,6 +3,7 @@
 //! random. Prints the table of docs/MANUAL.md.
 use pddm_bench::arguments::Arguments;
 use pddm_bench::engine::{Geometry, PLACED, Write, ample, fresh};
+use pddm_bench::plot::grouped;
 use pddm_bench::proved::PROVED;
 use pddm_bench::random::Random;
 
@@ -52,11 +53,6 @@ fn measured(placed: u32) -> Vec<(u32, u32)> {
         owner.offer(hidden, || r.below(u64::from(G.publics)) as u32)
     };
     (0..OFFERS).map(offer).collect()
-}
-
-/// A number with its thousands set off.
-fn grouped(n: u32) -> String {
-    if n < 1000 { n.to_string() } else { format!("{},{:03}", grouped(n / 1000), n % 1000) }
 }
 
 /// A mean, with two places where it is small.

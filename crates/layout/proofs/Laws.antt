@@ -1,5 +1,4 @@
 -- The laws that the proofs of the functions cite, a file for each idea.
 pub mod Geometry
 pub mod PublicMap
-pub mod Drives
 pub mod Opened

@@ -7,7 +7,7 @@ use Rattle.model.specs.Geometry as model
 use Rattle.model.specs.Blocks.{Bytes}
 use Rattle.model.specs.Layout.{headIn}
 use Rattle.model.specs.Refusals.{driveRefusal}
-use Rattle.model.proofs.Laws.Refusals.{accepted-of-refusal}
+use Rattle.model.proofs.Laws.Refusals.{accepted-of-refusal, long-enough}
 use Rattle.layout.specs.declared.geometry.Geometry.{Geometry}
 use Rattle.layout.specs.declared.drives.Opened.{Opened}
 use Rattle.layout.specs.declared.drives.Opened.the-variants.{Refused, Good}
@@ -27,7 +27,7 @@ module _ (refusal : ℕ) (disk : Bytes) (opened : Opened) (told : OpenedAs refus
 
 module _ {disk : Bytes} {g : model.Geometry} (opened : OpenedWith (driveRefusal disk) disk g) where
   pub opened-long : 24 ≤ length disk
-  opened-long = accepted-of-refusal disk (opened .accepted) .sized .long
+  opened-long = long-enough disk (opened .accepted)
 
   -- the head is one of its slots
   pub opened-head : headIn disk < g .slots

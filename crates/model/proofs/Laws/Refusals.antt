@@ -1,6 +1,6 @@
 -- Laws of refusals 1 to 3: what a drive that is not refused gives, one law for each way through the tests,
 -- and the chains of the calls taken apart. Assumes nothing.
-use mathlib.Core.Path.{_∙_, _≡_, ap, sym}
+use mathlib.Core.Path.{_∙_, _≡_, ap, sym, subst}
 use mathlib.Core.Logic.{_≢_, ⊎-elim}
 use mathlib.Core.Bool.{true, not, false, _||_}
 use mathlib.Core.List.{List, [], _∷_, _++_}
@@ -106,6 +106,15 @@ pub drive-of-refusal : (disk : Bytes) → driveRefusal disk ≡ 0 → Drive (geo
 drive-of-refusal disk e =
     let a = accepted-of-refusal disk e in
     record { fits = a .sized .fits; whole = a .sized .whole }
+
+-- what every call knows of a drive that 1 to 3 do not meet: its header is there, and the geometry read from it
+-- is a drive's
+module _ (disk : Bytes) (accepted : driveRefusal disk ≡ 0) where
+  pub long-enough : 24 ≤ length disk
+  long-enough = accepted-of-refusal disk accepted .sized .long
+
+  pub drive-read : (g : Geometry) → g ≡ geometryIn disk → Drive g disk
+  drive-read g e = subst (λ (x : Geometry). Drive x disk) (sym e) (drive-of-refusal disk accepted)
 
 -- and the other way round
 pub refusal-of-accepted :

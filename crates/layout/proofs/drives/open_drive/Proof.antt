@@ -10,8 +10,7 @@ use Rattle.model.specs.Blocks.{Bytes}
 use Rattle.model.specs.Layout.{geometryIn, headIn}
 use Rattle.model.specs.Refusals.{sizeRefusal}
 use Rattle.layout.specs.Geometries.{geometryOf}
-use Rattle.layout.proofs.Laws.Drives.{drive-read}
-use Rattle.model.proofs.Laws.Refusals.{drive-short, drive-sized, drive-good, drive-head}
+use Rattle.model.proofs.Laws.Refusals.{drive-read, drive-short, drive-sized, drive-good, drive-head}
 use Rattle.layout.proofs.drives.open_drive.Statement.{statement}
 use Rattle.layout.proofs.drives.open_drive.Tie as tie
 

@@ -11,7 +11,7 @@ use Rattle.model.specs.Refusals.{writeRefusal}
 use Rattle.model.proofs.Laws.Accepted.{driveRefusal-of-write}
 use Rattle.layout.specs.Drives.{OpenedWith}
 use Rattle.layout.specs.Geometries.{geometryOf}
-use Rattle.layout.proofs.Laws.Drives.{long-enough}
+use Rattle.model.proofs.Laws.Refusals.{long-enough}
 use Rattle.layout.proofs.Laws.Opened.{opened-refused, opened-good}
 use Rattle.mapper.specs.Writes.{callOffer}
 use Rattle.mapper.proofs.Laws.Offers.{taken-whole}

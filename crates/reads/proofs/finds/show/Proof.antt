@@ -5,8 +5,8 @@ use Prim.Native.Nat.{_<_}
 use borrow.Author.Needs.{needs}
 use Rattle.model.specs.Geometry.{Geometry, blockCount, blockWidth}
 use Rattle.model.specs.Blocks.{Bytes, DiskAddress, blockAt}
+use Rattle.model.proofs.Laws.Refusals.{long-enough, drive-read}
 use Rattle.layout.specs.Geometries.{geometryOf}
-use Rattle.layout.proofs.Laws.Drives.{long-enough, drive-read}
 use Rattle.reads.specs.declared.finds.Find.{Find}
 use Rattle.reads.specs.Finds.{findOf, shownFind, OnDrive, BlockInside}
 use Rattle.reads.proofs.finds.show.Statement.{statement}

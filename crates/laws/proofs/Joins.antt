@@ -1,9 +1,8 @@
 -- Laws of joined lists, taken apart, and of a list that differs from another at one index. Assumes nothing.
-use mathlib.Core.Path.{_∙_, _≡_, ap, ap₂, refl, sym}
+use mathlib.Core.Path.{_∙_, _≡_, ap, refl, sym}
 use mathlib.Core.Logic.{_≢_, _⊎_, inl, inr}
 use mathlib.Core.List.{List, [], _∷_, _++_, append-assoc}
 use Prim.Native.Nat.{ℕ, _<_}
-use native.Mathlib.Omega.{arith}
 use lib.ListN.{length, take, drop, getD, set, length-set}
 use lib.Seq.{append-snoc, drop-at, getD-set-other, getD-set-same, take-at, ext-getD}
 use Rattle.laws.proofs.Cases.{eq-cases}
@@ -22,21 +21,6 @@ append-split xs ys us vs e h = (
   sym (take-at xs us (length ys) e) ∙ ap (take (length ys)) h ∙ take-at ys vs (length ys) refl,
   sym (drop-at xs us (length ys) e) ∙ ap (drop (length ys)) h ∙ drop-at ys vs (length ys) refl,
 )
-
--- a list joined that is empty, or of one member
-pub nil-of-append : {A : Type 0} (xs ys : List A) → [] ≡ xs ++ ys → xs ≡ []
-nil-of-append [] ys e = refl
-nil-of-append (x ∷ xs) ys e =
-    let l : _≡_ {A = ℕ} 0 (length (x ∷ (xs ++ ys))) = ap length e in
-    absurd (omega arith)
-
-pub front-of-one :
-    {A : Type 0} (z : A) (xs ys : List A) → z ∷ [] ≡ xs ++ ys → (xs ≡ []) ⊎ (xs ≡ z ∷ [])
-front-of-one z [] ys e = inl refl
-front-of-one {A} z (x ∷ xs) ys e =
-    let tail : [] ≡ xs ++ ys = ap (drop 1) e in
-    let head : x ≡ z = ap (λ (zs : List A). getD zs 0 x) (sym e) in
-    inr (ap₂ {C = List A} (λ (w : A) (ws : List A). w ∷ ws) head (nil-of-append xs ys tail))
 
 -- ---- one index ----
 

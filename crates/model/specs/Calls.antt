@@ -1,11 +1,13 @@
--- The calls (document 01, "Public numbers and hidden outcomes" and "The disk"): formatting, both reads, and
--- the write with its hidden outcome. Assumes nothing.
+-- The calls (document 01, "Public numbers and hidden outcomes" and "The disk"): formatting, both reads, the
+-- write with its hidden outcome, and what a line changes of them (document 02, K3): what a write brings along
+-- and leaves of it, and the hidden read. Assumes nothing.
 use mathlib.Core.Bool.{false, cond, not}
 use mathlib.Core.List.{List, [], _∷_, _++_}
 use mathlib.Core.Option.{Option, none, some}
 use Prim.Native.Nat.{ℕ, _*_, _-_}
 use lib.Dec.{eqb}
-use lib.ListN.{length, replicate}
+use lib.ListN.{length, take, replicate}
+use Rattle.laws.specs.Checks.{Check, firstOf}
 use Rattle.laws.specs.Lists.{over}
 use Rattle.model.specs.Geometry.{Geometry, areaStart, blockWidth}
 use Rattle.model.specs.Blocks.{Bytes, DiskAddress, blockAt, packed}
@@ -15,7 +17,8 @@ use Rattle.model.specs.Stores.{Trace, apply, addresses}
 use Rattle.model.specs.HiddenHalf.{HiddenWrite, HiddenState, isWaiting}
 use Rattle.model.specs.Rounds.{Run, runFrom}
 use Rattle.model.specs.Refusals.{formatRefusal, publicReadRefusal, hiddenReadRefusal, writeRefusal}
-use Rattle.model.specs.Refusals.{hiddenWriteRefusal}
+use Rattle.model.specs.Refusals.{hiddenWriteRefusal, driveChecks, hiddenChecks, walkChecks}
+use Rattle.model.specs.Line.{Offer, turns, hiddenWritesOf, leftAfter, waitingFor}
 
 -- ---- formatting ----
 
@@ -85,35 +88,45 @@ offerOutcome refusal state =
 
 -- ---- the write ----
 
--- 10 or 11 of what a call offers, 0 where it offers nothing or a good hidden write
-unfoldable pub offerRefusal : Geometry → Option HiddenWrite → ℕ
-offerRefusal g none = 0
-offerRefusal g (some write) = hiddenWriteRefusal g (write .number) (write .content)
+-- what a write brings along: nothing or one hidden write, or a line of offers and the blocks that their
+-- places are among
+pub data Offered : Type 0 where
+  nothing : Offered
+  one : HiddenWrite → Offered
+  inLine : (blocks : Bytes) → (line : List Offer) → Offered
 
--- the hidden writes that a call brings to its rounds: a bad one is left out
-unfoldable pub offeredWrites : Geometry → Option HiddenWrite → List HiddenWrite
-offeredWrites g none = []
-offeredWrites g (some write) =
+-- 10 or 11 of the one hidden write that a call offers, else 0: of a line those that they meet are passed over
+unfoldable pub offerRefusal : Geometry → Offered → ℕ
+offerRefusal g nothing = 0
+offerRefusal g (one write) = hiddenWriteRefusal g (write .number) (write .content)
+offerRefusal g (inLine blocks line) = 0
+
+-- the hidden writes that a call brings to its rounds: a bad one is left out, of a line those are that count
+unfoldable pub offeredWrites : Geometry → Offered → List HiddenWrite
+offeredWrites g nothing = []
+offeredWrites g (one write) =
     cond (eqb (hiddenWriteRefusal g (write .number) (write .content)) 0) (write ∷ []) []
+offeredWrites g (inLine blocks line) = hiddenWritesOf g blocks (turns g blocks line)
 
 abbrev pub startState : (writes : List HiddenWrite) → HiddenState
 startState writes = record { waiting = writes; placed = 0; metDamage = false }
 
 -- the rounds of a write that is not refused, at most one for each slot
 unfoldable pub writeRun :
-    Geometry → (disk : Bytes) → (number : ℕ) → (content random : Bytes) → Option HiddenWrite → Run
+    Geometry → (disk : Bytes) → (number : ℕ) → (content random : Bytes) → Offered → Run
 writeRun g disk number content random offer =
     runFrom (g .slots) g number content (headIn disk) random disk (startState (offeredWrites g offer))
 
--- what a write answers, and its stores
+-- what a write answers, its stores, and how many hidden writes it placed
 pub record Written : Type 0 where
   pub answer : ℕ
   pub rounds : ℕ
   pub trace : Trace
   pub outcome : Outcome
+  pub placed : ℕ
 
 abbrev pub refusedWrite : (answer : ℕ) → Written
-refusedWrite answer = record { answer = answer; rounds = 0; trace = []; outcome = notTried }
+refusedWrite answer = record { answer = answer; rounds = 0; trace = []; outcome = notTried; placed = 0 }
 
 abbrev pub doneWrite : (refusal : ℕ) → Run → Written
 doneWrite refusal run =
@@ -122,11 +135,12 @@ doneWrite refusal run =
       rounds = run .rounds;
       trace = run .trace;
       outcome = offerOutcome refusal (run .state);
+      placed = run .state .placed;
     }
 
 -- a write, with a list of this length lent
 unfoldable pub written :
-    (disk : Bytes) → (number : ℕ) → (content random : Bytes) → (room : ℕ) → Option HiddenWrite → Written
+    (disk : Bytes) → (number : ℕ) → (content random : Bytes) → (room : ℕ) → Offered → Written
 written disk number content random room offer =
     let g = geometryIn disk in
     let refusal = writeRefusal disk number content (length random) room in
@@ -140,3 +154,35 @@ writtenDisk result disk = apply (blockWidth (geometryIn disk)) (result .trace) d
 -- the lent list that a write leaves: its stores' addresses in front, the rest as it was
 abbrev pub writtenList : Written → (list : List DiskAddress) → List DiskAddress
 writtenList result list = over 0 (addresses (result .trace)) list
+
+-- the line that a write leaves: every offer of a number that it placed leaves, of a refused one none
+unfoldable pub lineLeft : Written → (disk blocks : Bytes) → (line : List Offer) → List Offer
+lineLeft result disk blocks line =
+    leftAfter (take (result .placed) (turns (geometryIn disk) blocks line)) line
+
+-- ---- the hidden read through a line ----
+
+-- what waits, or else this
+abbrev pub orElse : Option Bytes → (otherwise : Bytes) → Bytes
+orElse none otherwise = otherwise
+orElse (some block) otherwise = block
+
+-- 12, where no block waits under the number
+unfoldable pub diskChecks : (waiting : Option Bytes) → Geometry → (disk : Bytes) → (number : ℕ) → List Check
+diskChecks none g disk number = walkChecks g disk number
+diskChecks (some block) g disk number = []
+
+unfoldable pub lineReadRefusal :
+    (disk : Bytes) → (number : ℕ) → (blank blocks : Bytes) → (line : List Offer) → ℕ
+lineReadRefusal disk number blank blocks line =
+    let g = geometryIn disk in
+    firstOf
+    (driveChecks disk ++
+    (hiddenChecks g number (length blank) ++ diskChecks (waitingFor g blocks line number) g disk number))
+
+-- what it shows: the block that waits, else what a hidden read of the disk shows
+unfoldable pub lineRead : (disk : Bytes) → (number : ℕ) → (blank blocks : Bytes) → (line : List Offer) → Bytes
+lineRead disk number blank blocks line =
+    let g = geometryIn disk in
+    cond (eqb (lineReadRefusal disk number blank blocks line) 0)
+    (orElse (waitingFor g blocks line number) (shownAt g disk blank (walk g disk number .end))) []

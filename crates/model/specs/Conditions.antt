@@ -1,9 +1,10 @@
 -- The conditions of refusals 1 to 12 as propositions in document 01's words ("Public numbers and hidden
--- outcomes"), and what it means that a number answers a list of them. Assumes nothing.
+-- outcomes") and of 16 in document 02's (K3), and what it means that a number answers a list of them. Assumes
+-- nothing.
 use mathlib.Core.Path.{_≡_}
 use mathlib.Core.Bool.{true, false, cond}
 use mathlib.Core.Logic.{_≢_, _⊎_}
-use mathlib.Core.List.{List, [], _∷_, _++_}
+use mathlib.Core.List.{List, [], _∷_, _++_, List·Memᴰ}
 use Prim.Native.Nat.{ℕ, _+_, _*_, _-_, _^_, _≤_, _<_}
 use lib.ListN.{length}
 use Rattle.model.specs.Geometry.{Geometry, treeCapacity, blockCount, driveSize}
@@ -11,6 +12,7 @@ use Rattle.model.specs.Blocks.{Bytes, DiskAddress}
 use Rattle.model.specs.Layout.{geometryIn, headIn, slotStart, roundSlot, isOneBlock, isAllocated}
 use Rattle.model.specs.Layout.{mapEntry}
 use Rattle.model.specs.HiddenTree.{walk, damaged}
+use Rattle.model.specs.Line.{Offer, mostOffers}
 
 -- ---- answers ----
 
@@ -90,3 +92,40 @@ hiddenConditions g number size = condition 10 (g .hidden ≤ number) ∷ conditi
 -- 12: by the very walk that the check makes, of which there is no second account; figures pin the walk
 abbrev pub walkConditions : Geometry → (disk : Bytes) → (number : ℕ) → List Condition
 walkConditions g disk number = condition 12 (walk g disk number .end ≡ damaged) ∷ []
+
+-- ---- the line ----
+
+-- an offer's block lies wholly inside the lent blocks
+abbrev pub IsInside : Geometry → (blocks : Bytes) → Offer → Type 0
+IsInside g blocks offer = (offer .place + 1) * g .blockSize ≤ length blocks
+
+-- 10 and 11: of an offer
+abbrev pub offerConditions : Geometry → (blocks : Bytes) → Offer → List Condition
+offerConditions g blocks offer =
+    condition 10 (g .hidden ≤ offer .number) ∷ condition 11 (IsInside g blocks offer → ⊥) ∷ []
+
+-- no offer of a line is this number's
+abbrev pub NoneOf : (number : ℕ) → (line : List Offer) → Type 0
+NoneOf number line = (offer : Offer) → List·Memᴰ offer line → offer .number ≢ number
+
+-- 16: of a number that does not wait, where 16 offers wait or the lent line, of this length, is full
+abbrev pub roomConditions : (line : List Offer) → (number room : ℕ) → List Condition
+roomConditions line number room =
+    condition 16 (NoneOf number line × ((mostOffers ≤ length line) ⊎ (room ≤ length line))) ∷ []
+
+-- a block waits under a number: its first offer in the line is one that 10 and 11 do not meet
+pub record WaitsUnder (g : Geometry) (blocks : Bytes) (line : List Offer) (number : ℕ) : Type 0 where
+  pub offer : Offer
+  pub earlier : List Offer
+  pub later : List Offer
+  pub line-is : line ≡ earlier ++ (offer ∷ later)
+  pub first-is : NoneOf number earlier
+  pub number-is : offer .number ≡ number
+  pub number-inside : number < g .hidden
+  pub block-inside : IsInside g blocks offer
+
+-- 12 of a read through a line: only where no block waits under the number
+abbrev pub lineReadConditions :
+    Geometry → (disk : Bytes) → (number : ℕ) → (blocks : Bytes) → (line : List Offer) → List Condition
+lineReadConditions g disk number blocks line =
+    condition 12 ((WaitsUnder g blocks line number → ⊥) × (walk g disk number .end ≡ damaged)) ∷ []

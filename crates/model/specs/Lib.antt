@@ -8,6 +8,7 @@ pub mod Paths
 pub mod HiddenHalf
 pub mod Rounds
 pub mod Refusals
+pub mod Line
 pub mod Calls
 pub mod Needs
 pub mod View

@@ -2,26 +2,32 @@
 -- compares"). Assumes nothing.
 use mathlib.Core.Bool.{Bool, true, false}
 use mathlib.Core.List.{List, [], _∷_, _++_}
-use mathlib.Core.Option.{Option, none}
 use Prim.Native.Nat.{ℕ}
 use lib.ListN.{length, take}
 use Rattle.model.specs.Blocks.{Bytes, DiskAddress}
-use Rattle.model.specs.HiddenHalf.{HiddenWrite}
 use Rattle.model.specs.Refusals.{publicReadRefusal}
-use Rattle.model.specs.Calls.{publicRead, Written, written, writtenDisk, writtenList}
+use Rattle.model.specs.Line.{Offer}
+use Rattle.model.specs.Calls.{publicRead, Offered, nothing, Written, written, writtenDisk, writtenList}
 use Rattle.model.specs.View.{viewOf}
 
 -- ---- calls ----
 
+-- what the owner asks of a drive and its line without a public half: a hidden read, one through a line, and
+-- an offer that enters a lent line of this length (document 02, K3); none changes the drive
+pub data HiddenCall : Type 0 where
+  readHidden : (number : ℕ) → (blank : Bytes) → HiddenCall
+  readWaiting : (number : ℕ) → (blank blocks : Bytes) → (line : List Offer) → HiddenCall
+  enter : Offer → (blocks : Bytes) → (line : List Offer) → (room : ℕ) → HiddenCall
+
 pub data Call : Type 0 where
   readPublic : (number : ℕ) → (blank : Bytes) → Call
-  readHidden : (number : ℕ) → (blank : Bytes) → Call
-  write : (number : ℕ) → (content random : Bytes) → (list : List DiskAddress) → Option HiddenWrite → Call
+  askHidden : HiddenCall → Call
+  write : (number : ℕ) → (content random : Bytes) → (list : List DiskAddress) → Offered → Call
 
 -- the disk that a call leaves
 abbrev pub diskAfter : (disk : Bytes) → Call → Bytes
 diskAfter disk (readPublic number blank) = disk
-diskAfter disk (readHidden number blank) = disk
+diskAfter disk (askHidden asked) = disk
 diskAfter disk (write number content random list offer) =
     writtenDisk (written disk number content random (length list) offer) disk
 
@@ -41,11 +47,11 @@ pub record PublicCall : Type 0 where
   pub random : ℕ
   pub room : ℕ
 
--- none for a hidden read
+-- none for a hidden call
 abbrev pub publicPart : Call → List PublicCall
 publicPart (readPublic number blank) =
     record { isWrite = false; number = number; content = blank; random = 0; room = 0 } ∷ []
-publicPart (readHidden number blank) = []
+publicPart (askHidden asked) = []
 publicPart (write number content random list offer) =
     record {
       isWrite = true;
@@ -59,11 +65,11 @@ unfoldable pub publicParts : List Call → List PublicCall
 publicParts [] = []
 publicParts (call ∷ calls) = publicPart call ++ publicParts calls
 
--- the same call with nothing offered, a hidden read taken out
+-- the same call with nothing offered, a hidden call taken out
 abbrev pub bareCall : Call → List Call
 bareCall (readPublic number blank) = readPublic number blank ∷ []
-bareCall (readHidden number blank) = []
-bareCall (write number content random list offer) = write number content random list none ∷ []
+bareCall (askHidden asked) = []
+bareCall (write number content random list offer) = write number content random list nothing ∷ []
 
 unfoldable pub bareCalls : List Call → List Call
 bareCalls [] = []
@@ -92,7 +98,7 @@ seenOfWrite result disk list =
       view = viewOf (writtenDisk result disk);
     }
 
--- nothing is seen of a hidden read
+-- nothing is seen of a hidden call
 abbrev pub seenOf : (disk : Bytes) → Call → List Seen
 seenOf disk (readPublic number blank) =
     record {
@@ -103,7 +109,7 @@ seenOf disk (readPublic number blank) =
       entries = [];
       view = viewOf disk;
     } ∷ []
-seenOf disk (readHidden number blank) = []
+seenOf disk (askHidden asked) = []
 seenOf disk (write number content random list offer) =
     seenOfWrite (written disk number content random (length list) offer) disk list ∷ []
 

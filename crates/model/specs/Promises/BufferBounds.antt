@@ -2,15 +2,13 @@
 -- nothing.
 use mathlib.Core.Path.{_≡_}
 use mathlib.Core.Logic.{_≢_}
-use mathlib.Core.Option.{Option}
 use Prim.Native.Nat.{ℕ, _+_, _*_, _≤_}
 use lib.ListN.{length}
 use Rattle.model.specs.Geometry.{Geometry}
 use Rattle.model.specs.Blocks.{Bytes}
 use Rattle.model.specs.Layout.{geometryIn}
-use Rattle.model.specs.HiddenHalf.{HiddenWrite}
 use Rattle.model.specs.Refusals.{driveRefusal}
-use Rattle.model.specs.Calls.{Written, written}
+use Rattle.model.specs.Calls.{Offered, Written, written}
 use Rattle.model.specs.Invariants.{BitmapInvariant}
 
 -- a write takes no more rounds; with buffers for so many rounds it never gets 8 or 9
@@ -22,7 +20,7 @@ pub record Within (most : ℕ) (g : Geometry) (random room : ℕ) (result : Writ
 -- every write on this disk, whatever it is given
 abbrev pub AtMost : (most : ℕ) → Geometry → (disk : Bytes) → Type 0
 AtMost most g disk =
-    (number : ℕ) (content random : Bytes) (room : ℕ) (offer : Option HiddenWrite) →
+    (number : ℕ) (content random : Bytes) (room : ℕ) (offer : Offered) →
     Within most g (length random) room (written disk number content random room offer)
 
 pub record BufferBounds : Type 0 where

@@ -3,21 +3,19 @@
 -- Assumes nothing.
 use mathlib.Core.Path.{_≡_}
 use mathlib.Core.List.{[], _∷_, _++_}
-use mathlib.Core.Option.{Option, none}
 use Prim.Native.Nat.{ℕ}
 use lib.ListN.{replicate}
 use Rattle.model.specs.Geometry.{Geometry}
 use Rattle.model.specs.Blocks.{Bytes, blockAt, setBlock, setEntry}
 use Rattle.model.specs.HiddenTree.{branchAt}
 use Rattle.model.specs.Stores.{addresses}
-use Rattle.model.specs.HiddenHalf.{HiddenWrite}
 use Rattle.model.specs.Refusals.{sizeRefusal}
 use Rattle.model.specs.Calls.{formatted, publicRead, hiddenRead, Written, written, writtenDisk}
-use Rattle.model.specs.Calls.{outcomeNumber}
+use Rattle.model.specs.Calls.{outcomeNumber, Offered, nothing}
 use Rattle.model.specs.Needs.{needsOf}
 use Rattle.model.specs.TreeCheck.{metEntry, metEntries, treeRefusal}
 use Rattle.model.specs.Promises.Figures.{geometry, filled}
-use Rattle.model.specs.Promises.Limits.{offerOf, twoBitmaps, driveWithPlace, moveFrom}
+use Rattle.model.specs.Promises.Limits.{oneOffer, twoBitmaps, driveWithPlace, moveFrom}
 use Rattle.model.specs.Promises.TreeFigures.{node}
 use Rattle.model.specs.Promises.RoundFigures.{bytesFrom, needed}
 
@@ -31,19 +29,19 @@ abbrev pub deepFresh : Bytes
 deepFresh = formatted (replicate 1280 0) threeLevels
 
 -- a write of public number 0, with 192 random bytes, which are those of two rounds
-abbrev pub deepWrite : (disk : Bytes) → Option HiddenWrite → Written
+abbrev pub deepWrite : (disk : Bytes) → Offered → Written
 deepWrite disk offer = written disk 0 (filled 7) (bytesFrom 0 192) 23 offer
 
-abbrev pub deepDisk : (disk : Bytes) → Option HiddenWrite → Bytes
+abbrev pub deepDisk : (disk : Bytes) → Offered → Bytes
 deepDisk disk offer = writtenDisk (deepWrite disk offer) disk
 
 -- with nothing hidden: slot 0 filled, then the head there again, so that slot 0 is kept and slot 1 takes the
 -- public block
 abbrev pub filledOnce : Bytes
-filledOnce = deepDisk deepFresh none
+filledOnce = deepDisk deepFresh nothing
 
 abbrev pub filledAgain : Bytes
-filledAgain = deepDisk (setEntry 5 0 filledOnce) none
+filledAgain = deepDisk (setEntry 5 0 filledOnce) nothing
 
 -- slot 0 is owned by hidden 5; the root's first entry is a leaf's address, where a node's is due
 abbrev pub deepDamaged : Bytes
@@ -51,21 +49,21 @@ deepDamaged = setBlock 32 (setBlock 32 deepFresh 3 (node 5 0 0 0)) 5 (node 0 0 0
 
 -- hidden 7 in slot 0
 abbrev pub sevenPlaced : Bytes
-sevenPlaced = deepDisk deepFresh (offerOf 7 9)
+sevenPlaced = deepDisk deepFresh (oneOffer 7 9)
 
 -- then hidden 0 in slot 1
 abbrev pub zeroPlaced : Bytes
-zeroPlaced = deepDisk sevenPlaced (offerOf 0 8)
+zeroPlaced = deepDisk sevenPlaced (oneOffer 0 8)
 
 -- then the head at slot 0 again, which is live for 7, and 7 offered once more: it waits
 abbrev pub sevenKept : Bytes
-sevenKept = deepDisk (setEntry 5 0 zeroPlaced) (offerOf 7 6)
+sevenKept = deepDisk (setEntry 5 0 zeroPlaced) (oneOffer 7 6)
 
 -- ---- two levels, more than one leaf ----
 
 -- k 2, P 1, H 8, M 9, and hidden 7 offered: slot 0 is blocks 4 to 6
 abbrev pub sevenBelow : Bytes
-sevenBelow = deepDisk (formatted (replicate 992 0) (geometry 32 2 1 8 9)) (offerOf 7 9)
+sevenBelow = deepDisk (formatted (replicate 992 0) (geometry 32 2 1 8 9)) (oneOffer 7 9)
 
 -- ---- four levels ----
 
@@ -80,7 +78,7 @@ abbrev pub twoMaps : Bytes
 twoMaps = formatted (replicate 1120 0) (geometry 32 2 9 1 10)
 
 abbrev pub mapWrite : (disk : Bytes) → (number : ℕ) → Written
-mapWrite disk number = written disk number (filled 7) (bytesFrom 0 64) 7 none
+mapWrite disk number = written disk number (filled 7) (bytesFrom 0 64) 7 nothing
 
 -- public number 0 moved to slot 85, blocks 260 to 262
 abbrev pub movedFar : Bytes
@@ -93,7 +91,7 @@ movedOver = writtenDisk (moveFrom 85 8) (driveWithPlace 85)
 -- the first write of that drive with its head at slot 86 and a list of 7
 abbrev pub firstBeyond : Written
 firstBeyond =
-    written (setEntry 5 86 (formatted (replicate 9760 0) twoBitmaps)) 0 (filled 7) (bytesFrom 0 64) 7 none
+    written (setEntry 5 86 (formatted (replicate 9760 0) twoBitmaps)) 0 (filled 7) (bytesFrom 0 64) 7 nothing
 
 -- ---- the figures ----
 
@@ -116,12 +114,12 @@ pub record LargerFigures : Type 0 where
   pub filled-data : blockAt 32 filledOnce 7 ≡ bytesFrom 64 32
   pub filled-next : blockAt 32 filledAgain 9 ≡ bytesFrom 96 32
   -- damage above the leaf: all three blocks and the root are written back
-  pub damaged-outcome : outcomeNumber (deepWrite deepDamaged none .outcome) ≡ 12
-  pub damaged-leaf : blockAt 32 (deepDisk deepDamaged none) 5 ≡ node 0 0 0 5
-  pub damaged-stores : addresses (deepWrite deepDamaged none .trace) ≡ 4 ∷ 5 ∷ 6 ∷ 7 ∷ 3 ∷ 1 ∷ 2 ∷ 0 ∷ []
+  pub damaged-outcome : outcomeNumber (deepWrite deepDamaged nothing .outcome) ≡ 12
+  pub damaged-leaf : blockAt 32 (deepDisk deepDamaged nothing) 5 ≡ node 0 0 0 5
+  pub damaged-stores : addresses (deepWrite deepDamaged nothing .trace) ≡ 4 ∷ 5 ∷ 6 ∷ 7 ∷ 3 ∷ 1 ∷ 2 ∷ 0 ∷ []
   -- hidden 7 is entry 0 of leaf 1, digits 0 and 1: root to A + 2, node to A + 1, leaf to A + 3
   pub seven-stores :
-      addresses (deepWrite deepFresh (offerOf 7 9) .trace) ≡ 4 ∷ 5 ∷ 6 ∷ 7 ∷ 3 ∷ 1 ∷ 2 ∷ 0 ∷ []
+      addresses (deepWrite deepFresh (oneOffer 7 9) .trace) ≡ 4 ∷ 5 ∷ 6 ∷ 7 ∷ 3 ∷ 1 ∷ 2 ∷ 0 ∷ []
   pub seven-root : blockAt 32 sevenPlaced 3 ≡ node 6 0 0 0
   pub seven-node : blockAt 32 sevenPlaced 6 ≡ node 0 5 0 0
   pub seven-leaf : blockAt 32 sevenPlaced 5 ≡ node 7 0 0 7

@@ -5,17 +5,16 @@
 use mathlib.Core.Path.{_≡_}
 use mathlib.Core.Bool.{true}
 use mathlib.Core.List.{[], _∷_, _++_}
-use mathlib.Core.Option.{Option, none, some}
 use Prim.Native.Nat.{ℕ}
 use lib.ListN.{take, replicate}
 use Rattle.model.specs.Geometry.{Geometry, blockCount, driveSize}
 use Rattle.model.specs.Blocks.{Bytes, DiskAddress, setEntry, setBlock}
 use Rattle.model.specs.Stores.{apply, addresses}
-use Rattle.model.specs.HiddenHalf.{HiddenWrite}
 use Rattle.model.specs.Rounds.{mapStore, bitStore, headerStore}
 use Rattle.model.specs.Refusals.{sizeRefusal, driveRefusal, publicReadRefusal, hiddenReadRefusal}
 use Rattle.model.specs.Refusals.{writeRefusal}
 use Rattle.model.specs.Calls.{formatted, hiddenRead, Written, written, writtenDisk, writtenList}
+use Rattle.model.specs.Calls.{Offered, nothing, one}
 use Rattle.model.specs.Promises.Figures.{geometry, small, formatAnswer, fresh, filled}
 
 -- ---- geometries at the limit ----
@@ -43,15 +42,15 @@ answerOf disk random room = writeRefusal disk 0 (filled 7) random room
 -- ---- the drive of the listing ----
 
 -- one line: data and offered data are the line's number, 256 random bytes of 165, a list of 23
-abbrev pub lineOf : (disk : Bytes) → (line number : ℕ) → Option HiddenWrite → Bytes
-lineOf disk line number offer =
+abbrev pub listedOn : (disk : Bytes) → (line number : ℕ) → Offered → Bytes
+listedOn disk line number offer =
     writtenDisk (written disk number (filled line) (replicate 256 165) 23 offer) disk
 
-abbrev pub offerOf : (number line : ℕ) → Option HiddenWrite
-offerOf number line = some (record { number = number; content = filled line })
+abbrev pub oneOffer : (number line : ℕ) → Offered
+oneOffer number line = one (record { number = number; content = filled line })
 
 abbrev pub threeLines : Bytes
-threeLines = lineOf (lineOf (lineOf fresh 1 0 none) 2 0 (offerOf 1 2)) 3 1 none
+threeLines = listedOn (listedOn (listedOn fresh 1 0 nothing) 2 0 (oneOffer 1 2)) 3 1 nothing
 
 -- an entry below 256, and a block of such entries in front and zeros
 abbrev pub small4 : (value : ℕ) → Bytes
@@ -83,7 +82,7 @@ listedDrive =
 
 -- three lines more: 2 -, then 2 0, then 0 -, whose three rounds pass slot 1, live for hidden number 1
 abbrev pub sixLines : Bytes
-sixLines = lineOf (lineOf (lineOf threeLines 4 2 none) 5 2 (offerOf 0 5)) 6 0 none
+sixLines = listedOn (listedOn (listedOn threeLines 4 2 nothing) 5 2 (oneOffer 0 5)) 6 0 nothing
 
 abbrev pub agedHeader : Bytes
 agedHeader = small4 32 ++ small4 2 ++ small4 3 ++ small4 2 ++ small4 4 ++ small4 0 ++ replicate 8 0
@@ -121,7 +120,7 @@ driveWithPlace slot =
 
 -- a write that moves the number to the next slot, with a list of this length
 abbrev pub moveFrom : (slot room : ℕ) → Written
-moveFrom slot room = written (driveWithPlace slot) 0 (filled 7) (replicate 64 165) room none
+moveFrom slot room = written (driveWithPlace slot) 0 (filled 7) (replicate 64 165) room nothing
 
 -- ---- the limits ----
 
@@ -172,7 +171,7 @@ pub record Limits : Type 0 where
   pub refusal-twelve : hiddenReadRefusal (withFirstEntry 3 6) 0 (filled 0) ≡ 12
   -- list entries past the stores keep their values
   pub list-rest :
-      writtenList (written fresh 0 (filled 7) (replicate 64 165) 23 none) (replicate 23 99) ≡
+      writtenList (written fresh 0 (filled 7) (replicate 64 165) 23 nothing) (replicate 23 99) ≡
       (4 ∷ 5 ∷ 6 ∷ 3 ∷ 1 ∷ 2 ∷ 0 ∷ []) ++ replicate 16 99
   -- formatting leaves the data area
   pub format-leaves :

@@ -11,7 +11,7 @@ pub record Simulated (disk : Bytes) (calls : List Call) : Type 0 where
   -- answers, rounds and stores are the simulator's, fed the starting view and lengths alone
   pub by-simulator :
       reportsOf (seenOfAll disk calls) ≡ told (simulatorOf (viewOf disk)) (lengthsOfAll (publicParts calls))
-  -- all of it is what the same list gives with every offer and hidden read taken out
+  -- all of it is what the same list gives with every offer and hidden call taken out
   pub without-offers : seenOfAll disk calls ≡ seenOfAll disk (bareCalls calls)
 
 -- what is seen on two drives

@@ -7,22 +7,23 @@ use mathlib.Core.List.{List, [], _∷_}
 use mathlib.Core.Option.{Option, none, some}
 use Prim.Native.Nat.{ℕ, _<_}
 use lib.Dec.{eqb}
-use lib.ListN.{length}
+use lib.ListN.{length, take}
 use Rattle.model.specs.Geometry.{Geometry, treeCapacity}
 use Rattle.model.specs.Blocks.{Bytes}
 use Rattle.model.specs.Layout.{geometryIn}
 use Rattle.model.specs.HiddenTree.{walk, damaged}
 use Rattle.model.specs.HiddenHalf.{HiddenWrite}
 use Rattle.model.specs.Refusals.{formatRefusal, driveRefusal, publicReadRefusal, hiddenReadRefusal}
-use Rattle.model.specs.Calls.{formatted, publicRead, hiddenRead, Written, written, outcomeNumber}
+use Rattle.model.specs.Calls.{formatted, publicRead, hiddenRead, outcomeNumber, Offered, one}
+use Rattle.model.specs.Calls.{offeredWrites, Written, written, orElse}
 use Rattle.model.specs.Invariants.{PublicInvariant, BitmapInvariant, HiddenInvariant}
-use Rattle.model.specs.Runs.{Call, readPublic, readHidden, write, diskAfter, diskAfterAll}
+use Rattle.model.specs.Runs.{Call, readPublic, askHidden, write, diskAfter, diskAfterAll}
 
 -- ---- the block last placed under a number ----
 
 abbrev pub publicAfter : (number : ℕ) → (before : Option Bytes) → (disk : Bytes) → Call → Option Bytes
 publicAfter number before disk (readPublic other blank) = before
-publicAfter number before disk (readHidden other blank) = before
+publicAfter number before disk (askHidden asked) = before
 publicAfter number before disk (write other content random list offer) =
     cond (eqb other number && eqb (written disk other content random (length list) offer .answer) 0)
     (some content) before
@@ -32,29 +33,27 @@ lastPublic number before disk [] = before
 lastPublic number before disk (call ∷ calls) =
     lastPublic number (publicAfter number before disk call) (diskAfter disk call) calls
 
-abbrev pub offeredUnder : (number : ℕ) → (before : Option Bytes) → Option HiddenWrite → Option Bytes
-offeredUnder number before none = before
-offeredUnder number before (some offer) = cond (eqb (offer .number) number) (some (offer .content)) before
+-- what a number shows once hidden writes are placed, one after another
+unfoldable pub shownAfter :
+    (writes : List HiddenWrite) → (number : ℕ) → (before : Option Bytes) → Option Bytes
+shownAfter [] number before = before
+shownAfter (next ∷ later) number before =
+    shownAfter later number (cond (eqb (next .number) number) (some (next .content)) before)
 
--- a hidden block counts once its write says placed
-abbrev pub isPlaced : Written → Bool
-isPlaced result = eqb (result .answer) 0 && eqb (outcomeNumber (result .outcome)) 1
+-- what a write placed: of the hidden writes that it brought to its rounds the first so many
+abbrev pub placedWrites : Written → (disk : Bytes) → Offered → List HiddenWrite
+placedWrites result disk offer = take (result .placed) (offeredWrites (geometryIn disk) offer)
 
 abbrev pub hiddenAfter : (number : ℕ) → (before : Option Bytes) → (disk : Bytes) → Call → Option Bytes
 hiddenAfter number before disk (readPublic other blank) = before
-hiddenAfter number before disk (readHidden other blank) = before
+hiddenAfter number before disk (askHidden asked) = before
 hiddenAfter number before disk (write other content random list offer) =
-    cond (isPlaced (written disk other content random (length list) offer))
-    (offeredUnder number before offer) before
+    shownAfter (placedWrites (written disk other content random (length list) offer) disk offer) number before
 
 unfoldable pub lastHidden : (number : ℕ) → (before : Option Bytes) → (disk : Bytes) → List Call → Option Bytes
 lastHidden number before disk [] = before
 lastHidden number before disk (call ∷ calls) =
     lastHidden number (hiddenAfter number before disk call) (diskAfter disk call) calls
-
-abbrev pub orElse : Option Bytes → (otherwise : Bytes) → Bytes
-orElse none otherwise = otherwise
-orElse (some block) otherwise = block
 
 -- ---- what holds of a drive ----
 
@@ -89,7 +88,27 @@ pub record ReadsBack (g : Geometry) (disk : Bytes) (calls : List Call) : Type 0 
       hiddenRead (diskAfterAll disk calls) number blank ≡
       orElse (lastHidden number none disk calls) (hiddenRead disk number blank)
 
+-- whether a write is done and says placed
+abbrev pub isPlaced : Written → Bool
+isPlaced result = eqb (result .answer) 0 && eqb (outcomeNumber (result .outcome)) 1
+
+-- a write says placed exactly if it placed some hidden write
+pub record ToldPlaced (result : Written) : Type 0 where
+  pub placed-told : result .placed ≢ 0 → outcomeNumber (result .outcome) ≡ 1
+  pub told-placed : outcomeNumber (result .outcome) ≡ 1 → result .placed ≢ 0
+
 pub record ReadAfterWrite : Type 0 where
+  -- what is counted as placed is what the outcome tells
+  pub told :
+      (disk : Bytes) (number : ℕ) (content random : Bytes) (room : ℕ) (offer : Offered) →
+      ToldPlaced (written disk number content random room offer)
+  -- so document 01's hidden block counts once its write says placed
+  pub one-placed :
+      (disk : Bytes) (number : ℕ) (content random : Bytes) (room : ℕ) (offer : HiddenWrite) (asked : ℕ)
+      (before : Option Bytes) →
+      let result = written disk number content random room (one offer) in
+      shownAfter (placedWrites result disk (one offer)) asked before ≡
+      cond (isPlaced result) (cond (eqb (offer .number) asked) (some (offer .content)) before) before
   -- each invariant is kept by every call, from any drive that has it
   pub public-kept :
       (g : Geometry) (disk : Bytes) (call : Call) → geometryIn disk ≡ g → driveRefusal disk ≡ 0 →

@@ -3,14 +3,13 @@
 use mathlib.Core.Path.{_≡_}
 use mathlib.Core.Logic.{_≢_}
 use mathlib.Core.List.{List, _++_}
-use mathlib.Core.Option.{Option}
 use Prim.Native.Nat.{ℕ}
 use Rattle.model.specs.Geometry.{Geometry}
 use Rattle.model.specs.Blocks.{Bytes}
 use Rattle.model.specs.Layout.{geometryIn}
-use Rattle.model.specs.HiddenHalf.{HiddenWrite}
 use Rattle.model.specs.Refusals.{formatRefusal, driveRefusal, publicReadRefusal, hiddenReadRefusal}
-use Rattle.model.specs.Calls.{formatted, Written, written, outcomeNumber}
+use Rattle.model.specs.Line.{Offer}
+use Rattle.model.specs.Calls.{formatted, outcomeNumber, Offered, Written, written, lineReadRefusal}
 use Rattle.model.specs.Invariants.{HiddenInvariant}
 use Rattle.model.specs.Conditions.{Answers, driveConditions}
 use Rattle.model.specs.Runs.{Call, diskAfterAll}
@@ -23,13 +22,16 @@ pub record Undamaged (result : Written) : Type 0 where
   pub answer : result .answer ≢ 12
   pub outcome : outcomeNumber (result .outcome) ≢ 12
 
--- neither read and no write, whatever it is given, gives 12; a public read on no drive, as its chain has no
--- 12, and nor have the refusals of the other calls
+-- neither read, also through a line, and no write, whatever it is given, gives 12; a public read on no drive,
+-- as its chain has no 12, and nor have the refusals of the other calls
 pub record NeverDamaged (disk : Bytes) : Type 0 where
   pub public-answer : (number : ℕ) (blank : Bytes) → publicReadRefusal disk number blank ≢ 12
   pub hidden-answer : (number : ℕ) (blank : Bytes) → hiddenReadRefusal disk number blank ≢ 12
+  pub line-answer :
+      (number : ℕ) (blank blocks : Bytes) (line : List Offer) →
+      lineReadRefusal disk number blank blocks line ≢ 12
   pub writes :
-      (number : ℕ) (content random : Bytes) (room : ℕ) (offer : Option HiddenWrite) →
+      (number : ℕ) (content random : Bytes) (room : ℕ) (offer : Offered) →
       Undamaged (written disk number content random room offer)
 
 pub record TreeCheck : Type 0 where

@@ -2,20 +2,20 @@
 -- 1 in slot 1 and then hidden 0 in slot 0, and that drive with other entries. Assumes nothing.
 use mathlib.Core.Path.{_≡_}
 use mathlib.Core.List.{_∷_, _++_}
-use mathlib.Core.Option.{none}
 use Prim.Native.Nat.{ℕ}
 use lib.ListN.{replicate}
 use Rattle.model.specs.Blocks.{Bytes}
 use Rattle.model.specs.HiddenTree.{span}
+use Rattle.model.specs.Calls.{nothing}
 use Rattle.model.specs.TreeCheck.{treeRefusal}
 use Rattle.model.specs.Promises.Figures.{small, filled}
-use Rattle.model.specs.Promises.Limits.{small4, lineOf, offerOf, threeLines, agedDrive}
+use Rattle.model.specs.Promises.Limits.{small4, listedOn, oneOffer, threeLines, agedDrive}
 
 -- ---- the drive ----
 
 -- after the three lines of the listing, which place hidden 1 in slot 1, and two more, 2 - and 2 0
 abbrev pub fiveLines : Bytes
-fiveLines = lineOf (lineOf threeLines 4 2 none) 5 2 (offerOf 0 5)
+fiveLines = listedOn (listedOn threeLines 4 2 nothing) 5 2 (oneOffer 0 5)
 
 -- a node with its first three entries and its last, which in a leaf is the owner; the others are 0
 abbrev pub node : (first second third last : ℕ) → Bytes

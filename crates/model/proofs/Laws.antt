@@ -10,6 +10,9 @@ pub mod Stores
 pub mod Table
 pub mod Refusals
 pub mod CallChecks
+pub mod Lines
+pub mod LineTurns
+pub mod LineWaits
 pub mod Accepted
 pub mod Branches
 pub mod Walks
@@ -32,6 +35,8 @@ pub mod RunSteps
 pub mod WriteRuns
 pub mod Formatting
 pub mod Calls
+pub mod LineCalls
+pub mod LineLengths
 pub mod Needs
 pub mod TreeCheck
 pub mod TreeHalves
@@ -40,3 +45,7 @@ pub mod Chains
 pub mod Suffices
 pub mod Offers
 pub mod Headers
+pub mod LentBlocks
+pub mod LineSteps
+pub mod LineChains
+pub mod HiddenWrites

@@ -5,6 +5,8 @@ pub mod Places
 pub mod Circle
 pub mod Rounds
 pub mod Hidden
+pub mod Offers
+pub mod Lines
 pub mod Calls
 pub mod Writes
 pub mod Mapped

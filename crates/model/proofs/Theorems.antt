@@ -12,3 +12,5 @@ pub mod RoundFigures
 pub mod LargerFigures
 pub mod OrderFigures
 pub mod TreeCheck
+pub mod LineFigures
+pub mod LineOfOffers

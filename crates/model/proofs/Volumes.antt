@@ -7,8 +7,10 @@ pub mod Progress
 pub mod Growth
 pub mod Hidden
 pub mod Writes
+pub mod Placed
 pub mod Kept
 pub mod Lists
 pub mod Shown
 pub mod Calls
 pub mod Damage
+pub mod LineReads

@@ -3,8 +3,7 @@
 use mathlib.Core.Path.{_≡_, ap, _∙_, refl, subst}
 use mathlib.Core.Logic.{_≢_, inl, inr, ⊎-elim}
 use mathlib.Core.Bool.{true, false, not, _||_}
-use mathlib.Core.List.{List, [], _++_, append-nil}
-use mathlib.Core.Option.{Option, none, some}
+use mathlib.Core.List.{List, [], _∷_, _++_, append-nil}
 use Prim.Native.Nat.{ℕ, _*_, _≤_, _<_}
 use native.Mathlib.Omega.{arith}
 use lib.Dec.{eqb}
@@ -13,17 +12,20 @@ use borrow.Author.Tests.{ltb-false, leb-false, eqb-true, eqb-false, not-false, l
 use Rattle.laws.specs.Checks.{Check, firstOf}
 use Rattle.laws.proofs.Cases.{cond-cases, cond-false, or-cases, or-left, or-right}
 use Rattle.laws.proofs.Checks.{Numbered, numbered-append, Passed, passed-front, passed-of-zero, passed-rest}
+use Rattle.laws.proofs.Checks.{passed-append, zero-of-passed}
 use Rattle.laws.proofs.Members.{All}
 use Rattle.model.specs.Geometry.{Geometry}
-use Rattle.model.specs.Blocks.{Bytes}
+use Rattle.model.specs.Blocks.{Bytes, blockAt}
 use Rattle.model.specs.Layout.{geometryIn, isPlace, mapEntry}
 use Rattle.model.specs.HiddenTree.{walk, isDamaged}
 use Rattle.model.specs.HiddenHalf.{HiddenWrite}
 use Rattle.model.specs.Refusals.{driveChecks, driveRefusal, hiddenChecks, hiddenWriteRefusal}
 use Rattle.model.specs.Refusals.{placeChecks, publicReadRefusal, roundChecks, roundCount}
 use Rattle.model.specs.Refusals.{writeStoreCount, walkChecks, writeRefusal}
-use Rattle.model.specs.Calls.{offerRefusal, offeredWrites}
+use Rattle.model.specs.Line.{Offer, firstOffers, lineOfferRefusal, turns, hiddenWritesOf}
+use Rattle.model.specs.Calls.{Offered, nothing, one, inLine, offerRefusal, offeredWrites}
 use Rattle.model.proofs.Laws.Places.{Placed}
+use Rattle.model.proofs.Laws.Lines.{goodOffers-good}
 use Rattle.model.proofs.Laws.Refusals.{numbered-drive, driveRefusal-of-chain, passed-after-drive}
 
 -- ---- a public number, refusals 4 to 6 ----
@@ -141,7 +143,7 @@ pub record AcceptedHidden (g : Geometry) (number size : ℕ) : Type 0 where
   pub number-inside : number < g .hidden
   pub block-sized : size ≡ g .blockSize
 
-numbered-hidden : (g : Geometry) (number size : ℕ) → Numbered (hiddenChecks g number size)
+pub numbered-hidden : (g : Geometry) (number size : ℕ) → Numbered (hiddenChecks g number size)
 unfolding hiddenChecks
 numbered-hidden g number size = (λ e. omega arith, ((λ e. omega arith), tt))
 
@@ -157,34 +159,62 @@ accepted-of-hiddenWrite g number content e =
       block-sized = eqb-true size (g .blockSize) (not-false (eqb size (g .blockSize)) (p .1 .0));
     }
 
+pub passed-of-hiddenChecks :
+    (g : Geometry) (number size : ℕ) → AcceptedHidden g number size → Passed (hiddenChecks g number size)
+unfolding hiddenChecks
+passed-of-hiddenChecks g number size good = (
+  lt-leb (g .hidden) number (good .number-inside),
+  (ap not (eq-eqb size (g .blockSize) (good .block-sized)), tt),
+)
+
+pub hiddenWriteRefusal-of-accepted :
+    (g : Geometry) (number : ℕ) (content : Bytes) → AcceptedHidden g number (length content) →
+    hiddenWriteRefusal g number content ≡ 0
+unfolding hiddenWriteRefusal
+hiddenWriteRefusal-of-accepted g number content good =
+    zero-of-passed (hiddenChecks g number (length content))
+    (passed-of-hiddenChecks g number (length content) good)
+
 -- a hidden write that is not refused
 abbrev pub GoodWrite : Geometry → HiddenWrite → Type 0
 GoodWrite g write = AcceptedHidden g (write .number) (length (write .content))
 
+hiddenWritesOf-good :
+    (g : Geometry) (blocks : Bytes) (xs : List Offer) →
+    All (λ (offer : Offer). lineOfferRefusal g blocks offer ≡ 0) xs →
+    All (GoodWrite g) (hiddenWritesOf g blocks xs)
+unfolding hiddenWritesOf
+hiddenWritesOf-good g blocks [] h = tt
+hiddenWritesOf-good g blocks (offer ∷ xs) h = (
+  accepted-of-hiddenWrite g (offer .number) (blockAt (g .blockSize) blocks (offer .place)) (h .0),
+  hiddenWritesOf-good g blocks xs (h .1),
+)
+
 -- what a call brings to its rounds is good
-pub offeredWrites-good :
-    (g : Geometry) (offer : Option HiddenWrite) → All (GoodWrite g) (offeredWrites g offer)
+pub offeredWrites-good : (g : Geometry) (offer : Offered) → All (GoodWrite g) (offeredWrites g offer)
 unfolding offeredWrites
-offeredWrites-good g none = tt
-offeredWrites-good g (some write) =
+offeredWrites-good g nothing = tt
+offeredWrites-good g (inLine blocks line) =
+    hiddenWritesOf-good g blocks (turns g blocks line) (goodOffers-good g blocks (firstOffers line))
+offeredWrites-good g (one write) =
     let refusal = hiddenWriteRefusal g (write .number) (write .content) in
     cond-cases (All (GoodWrite g)) (eqb refusal 0)
     (λ e. (accepted-of-hiddenWrite g (write .number) (write .content) (eqb-true refusal 0 e), tt)) (λ e. tt)
 
 -- a bad one is left out
 pub offeredWrites-bad :
-    (g : Geometry) (offer : Option HiddenWrite) → offerRefusal g offer ≢ 0 → offeredWrites g offer ≡ []
+    (g : Geometry) (offer : Offered) → offerRefusal g offer ≢ 0 → offeredWrites g offer ≡ []
 unfolding offerRefusal offeredWrites
-offeredWrites-bad g none f = refl
-offeredWrites-bad g (some write) f =
+offeredWrites-bad g nothing f = absurd (f refl)
+offeredWrites-bad g (inLine blocks line) f = absurd (f refl)
+offeredWrites-bad g (one write) f =
     cond-false _ _ (ne-eqb (hiddenWriteRefusal g (write .number) (write .content)) 0 f)
 
 pub passed-of-hidden :
     (g : Geometry) (disk : Bytes) (number size : ℕ) → AcceptedHidden g number size →
     isDamaged (walk g disk number .end) ≡ false →
     Passed (hiddenChecks g number size ++ walkChecks g disk number)
-unfolding hiddenChecks walkChecks
-passed-of-hidden g disk number size good e = (
-  lt-leb (g .hidden) number (good .number-inside),
-  (ap not (eq-eqb size (g .blockSize) (good .block-sized)), (e, tt)),
-)
+unfolding walkChecks
+passed-of-hidden g disk number size good e =
+    passed-append (hiddenChecks g number size) (walkChecks g disk number)
+    (passed-of-hiddenChecks g number size good) (e, tt)

@@ -1,10 +1,9 @@
 -- Laws of the calls: what reads and writes are, refused or done, when a read is not refused, and what of a
 -- write does not depend on its offer. Assumes nothing.
-use mathlib.Core.Path.{_≡_, sym, ap, _∙_, refl}
+use mathlib.Core.Path.{_≡_, sym, ap, ap₂, _∙_, refl}
 use mathlib.Core.Logic.{_≢_, ⊎-elim}
 use mathlib.Core.Bool.{false, cond}
 use mathlib.Core.List.{[], _++_}
-use mathlib.Core.Option.{Option, none}
 use Prim.Native.Nat.{ℕ}
 use lib.Dec.{eqb}
 use lib.ListN.{length}
@@ -16,14 +15,14 @@ use Rattle.model.specs.Geometry.{Geometry, blockWidth}
 use Rattle.model.specs.Blocks.{Bytes, DiskAddress, blockAt}
 use Rattle.model.specs.Layout.{geometryIn, headIn, mapEntry}
 use Rattle.model.specs.HiddenTree.{walk, isDamaged}
-use Rattle.model.specs.HiddenHalf.{HiddenWrite}
 use Rattle.model.specs.Rounds.{runFrom}
 use Rattle.model.specs.Refusals.{driveRefusal, hiddenChecks, hiddenReadRefusal, placeChecks}
 use Rattle.model.specs.Refusals.{publicReadRefusal, walkChecks, writeRefusal}
-use Rattle.model.specs.Calls.{written, shownAt, Written, doneWrite, hiddenRead, offerRefusal}
-use Rattle.model.specs.Calls.{offeredWrites, publicRead, refusedWrite, startState, writeRun}
+use Rattle.model.specs.Calls.{publicRead, shownAt, hiddenRead, Offered, nothing, offerRefusal}
+use Rattle.model.specs.Calls.{offeredWrites, startState, writeRun, Written, refusedWrite, doneWrite}
+use Rattle.model.specs.Calls.{written}
 use Rattle.model.proofs.Laws.Refusals.{after-drive-pass}
-use Rattle.model.proofs.Laws.Accepted.{AcceptedHidden, AcceptedNumber, offeredWrites-bad}
+use Rattle.model.proofs.Laws.Accepted.{AcceptedHidden, AcceptedNumber}
 use Rattle.model.proofs.Laws.Accepted.{passed-of-accepted, passed-of-hidden}
 
 -- ---- reads ----
@@ -83,7 +82,7 @@ module _ (disk : Bytes) (number : ℕ) (content random : Bytes) (room : ℕ) whe
   abbrev refusal : ℕ
   refusal = writeRefusal disk number content (length random) room
 
-  module _ (offer : Option HiddenWrite) where
+  module _ (offer : Offered) where
     -- what a write with this offer gives where it is not refused
     abbrev pub doneWith : Written
     doneWith =
@@ -112,7 +111,7 @@ module _ (disk : Bytes) (number : ℕ) (content random : Bytes) (room : ℕ) whe
 
   -- what is the same in done writes is the same in all
   pub written-same :
-      {A : Type 0} (offer other : Option HiddenWrite) (part : Written → A) →
+      {A : Type 0} (offer other : Offered) (part : Written → A) →
       (refusal ≡ 0 → part (doneWith offer) ≡ part (doneWith other)) →
       part (written disk number content random room offer) ≡
       part (written disk number content random room other)
@@ -120,12 +119,29 @@ module _ (disk : Bytes) (number : ℕ) (content random : Bytes) (room : ℕ) whe
       written-cases offer (λ (w : Written). part w ≡ part (written disk number content random room other))
       (λ e. same e ∙ ap part (sym (written-done other e))) (λ f. ap part (sym (written-refused other f)))
 
--- a bad offer is run as none is
-pub writeRun-bad :
-    (g : Geometry) (disk : Bytes) (number : ℕ) (content random : Bytes) (offer : Option HiddenWrite) →
-    offerRefusal g offer ≢ 0 →
-    writeRun g disk number content random offer ≡ writeRun g disk number content random none
-unfolding writeRun offeredWrites
-writeRun-bad g disk number content random offer f =
-    ap (λ writes. runFrom (g .slots) g number content (headIn disk) random disk (startState writes))
-    (offeredWrites-bad g offer f)
+-- ---- by the hidden writes that are brought ----
+
+module _ (g : Geometry) (disk : Bytes) (number : ℕ) (content random : Bytes) where
+  pub writeRun-same :
+      (offer other : Offered) → offeredWrites g offer ≡ offeredWrites g other →
+      writeRun g disk number content random offer ≡ writeRun g disk number content random other
+  unfolding writeRun
+  writeRun-same offer other e =
+      ap (λ writes. runFrom (g .slots) g number content (headIn disk) random disk (startState writes)) e
+
+  -- what brings nothing is run as nothing is
+  pub writeRun-nothing :
+      (offer : Offered) → offeredWrites g offer ≡ [] →
+      writeRun g disk number content random offer ≡ writeRun g disk number content random nothing
+  unfolding offeredWrites
+  writeRun-nothing offer e = writeRun-same offer nothing e
+
+-- two that are refused alike and bring the same are written alike
+pub written-alike :
+    (disk : Bytes) (number : ℕ) (content random : Bytes) (room : ℕ) (offer other : Offered) →
+    offerRefusal (geometryIn disk) offer ≡ offerRefusal (geometryIn disk) other →
+    offeredWrites (geometryIn disk) offer ≡ offeredWrites (geometryIn disk) other →
+    written disk number content random room offer ≡ written disk number content random room other
+written-alike disk number content random room offer other p q =
+    written-same disk number content random room offer other (λ (made : Written). made)
+    (λ e. ap₂ doneWrite p (writeRun-same (geometryIn disk) disk number content random offer other q))

@@ -1,10 +1,9 @@
--- Laws of an offer: its refusal, the hidden writes that it brings to the rounds, and what becomes of it.
--- Assumes nothing.
+-- Laws of what a write brings along: its refusal, the hidden writes that it brings to the rounds, and what
+-- becomes of it. Assumes nothing.
 use mathlib.Core.Path.{_≡_, refl, _∙_}
 use mathlib.Core.Logic.{_≢_}
 use mathlib.Core.Bool.{cond, not}
-use mathlib.Core.List.{[], _∷_}
-use mathlib.Core.Option.{Option, none, some}
+use mathlib.Core.List.{List, [], _∷_}
 use Prim.Native.Nat.{ℕ}
 use lib.Dec.{eqb}
 use lib.ListN.{length}
@@ -18,40 +17,53 @@ use Rattle.model.specs.HiddenHalf.{HiddenWrite, HiddenState, isWaiting}
 use Rattle.model.specs.Rounds.{runFrom}
 use Rattle.model.specs.Refusals.{hiddenChecks, hiddenWriteRefusal}
 use Rattle.model.specs.Calls.{Outcome, noWrite, placed, waiting, badNumber, badSize, damagedWalk}
-use Rattle.model.specs.Calls.{offerOutcome, offerRefusal, offeredWrites, startState, writeRun}
+use Rattle.model.specs.Line.{Offer, turns, hiddenWritesOf}
+use Rattle.model.specs.Calls.{offerOutcome, Offered, nothing, one, inLine, offerRefusal, offeredWrites}
+use Rattle.model.specs.Calls.{startState, writeRun}
 
 -- ---- its refusal ----
 
-pub offerRefusal-none : (g : Geometry) → offerRefusal g none ≡ 0
+pub offerRefusal-nothing : (g : Geometry) → offerRefusal g nothing ≡ 0
 unfolding offerRefusal
-offerRefusal-none g = refl
+offerRefusal-nothing g = refl
+
+pub offerRefusal-inLine :
+    (g : Geometry) (blocks : Bytes) (line : List Offer) → offerRefusal g (inLine blocks line) ≡ 0
+unfolding offerRefusal
+offerRefusal-inLine g blocks line = refl
 
 module _ (g : Geometry) (write : HiddenWrite) where
-  pub offerRefusal-some : offerRefusal g (some write) ≡ hiddenWriteRefusal g (write .number) (write .content)
+  pub offerRefusal-one : offerRefusal g (one write) ≡ hiddenWriteRefusal g (write .number) (write .content)
   unfolding offerRefusal
-  offerRefusal-some = refl
+  offerRefusal-one = refl
 
   -- by 10 and 11
   pub offerRefusal-checks :
-      offerRefusal g (some write) ≡ firstOf (hiddenChecks g (write .number) (length (write .content)))
+      offerRefusal g (one write) ≡ firstOf (hiddenChecks g (write .number) (length (write .content)))
   unfolding offerRefusal hiddenWriteRefusal
   offerRefusal-checks = refl
 
 -- ---- the hidden writes that it brings ----
 
-pub offeredWrites-none : (g : Geometry) → offeredWrites g none ≡ []
+pub offeredWrites-nothing : (g : Geometry) → offeredWrites g nothing ≡ []
 unfolding offeredWrites
-offeredWrites-none g = refl
+offeredWrites-nothing g = refl
 
-pub offeredWrites-some :
+pub offeredWrites-one :
     (g : Geometry) (write : HiddenWrite) →
-    offeredWrites g (some write) ≡
+    offeredWrites g (one write) ≡
     cond (eqb (hiddenWriteRefusal g (write .number) (write .content)) 0) (write ∷ []) []
 unfolding offeredWrites
-offeredWrites-some g write = refl
+offeredWrites-one g write = refl
+
+pub offeredWrites-inLine :
+    (g : Geometry) (blocks : Bytes) (line : List Offer) →
+    offeredWrites g (inLine blocks line) ≡ hiddenWritesOf g blocks (turns g blocks line)
+unfolding offeredWrites
+offeredWrites-inLine g blocks line = refl
 
 pub writeRun-is :
-    (g : Geometry) (disk : Bytes) (number : ℕ) (content random : Bytes) (offer : Option HiddenWrite) →
+    (g : Geometry) (disk : Bytes) (number : ℕ) (content random : Bytes) (offer : Offered) →
     writeRun g disk number content random offer ≡
     runFrom (g .slots) g number content (headIn disk) random disk (startState (offeredWrites g offer))
 unfolding writeRun

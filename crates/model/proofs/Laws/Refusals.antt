@@ -107,8 +107,8 @@ drive-of-refusal disk e =
     let a = accepted-of-refusal disk e in
     record { fits = a .sized .fits; whole = a .sized .whole }
 
--- what every call knows of a drive that 1 to 3 do not meet: its header is there, and the geometry read from it
--- is a drive's
+-- what every call knows of a drive that 1 to 3 do not meet: its header is there, and the geometry read from
+-- it is a drive's
 module _ (disk : Bytes) (accepted : driveRefusal disk ≡ 0) where
   pub long-enough : 24 ≤ length disk
   long-enough = accepted-of-refusal disk accepted .sized .long

@@ -1,23 +1,21 @@
 -- The run of a write that is not refused: it has what a run needs, its rounds are those that the bitmap says,
 -- and its stores and its effect those of so many rounds from the head on. Assumes nothing.
 use mathlib.Core.Path.{_≡_}
-use mathlib.Core.Option.{Option}
 use Prim.Native.Nat.{ℕ, _-_}
 use native.Mathlib.Nat.{mul-assoc}
 use lib.ListN.{length}
 use Rattle.model.specs.Geometry.{Geometry}
 use Rattle.model.specs.Blocks.{Bytes}
 use Rattle.model.specs.Layout.{geometryIn, headIn}
-use Rattle.model.specs.HiddenHalf.{HiddenWrite}
 use Rattle.model.specs.Refusals.{roundCount, writeRefusal}
-use Rattle.model.specs.Calls.{offeredWrites, startState, writeRun}
+use Rattle.model.specs.Calls.{Offered, offeredWrites, startState, writeRun}
 use Rattle.model.proofs.Laws.Refusals.{accepted-of-refusal, Accepted}
 use Rattle.model.proofs.Laws.Accepted.{accepted-of-write, driveRefusal-of-write, offeredWrites-good}
 use Rattle.model.proofs.Laws.Accepted.{AcceptedWrite}
 use Rattle.model.proofs.Laws.Ready.{Ready}
 use Rattle.model.proofs.Laws.Runs.{Ran, runFrom-ran}
 
-module _ (disk : Bytes) (number : ℕ) (content random : Bytes) (room : ℕ) (offer : Option HiddenWrite)
+module _ (disk : Bytes) (number : ℕ) (content random : Bytes) (room : ℕ) (offer : Offered)
     (free : writeRefusal disk number content (length random) room ≡ 0) where
   abbrev g : Geometry
   g = geometryIn disk

@@ -4,6 +4,7 @@ use mathlib.Core.Path.{_≡_, _∙_}
 use mathlib.Core.Logic.{_⊎_, inl, inr}
 use mathlib.Core.Bool.{true, false}
 use mathlib.Core.List.{List, [], _∷_, _++_}
+use Prim.Native.Nat.{ℕ}
 use Rattle.laws.specs.Checks.{Check, firstOf}
 use Rattle.laws.proofs.Cases.{bool-cases}
 use Rattle.laws.proofs.Checks.{Passed, firstOf-nil, firstOf-stop, firstOf-pass}
@@ -37,3 +38,12 @@ answers-of-judges (c ∷ cs) (d ∷ ds) h = by (bool-cases (c .holds)) (λ e. an
         Answers (d ∷ ds) (firstOf (c ∷ cs))
     by (inl e) later = inl (h .1 .holds e, firstOf-stop (c .number) cs e ∙ h .0)
     by (inr e) later = inr (h .1 .fails e, rw (firstOf-pass (c .number) cs e) (later e))
+
+-- a condition that does not hold may stand at the end
+pub answers-append-false :
+    (ds : List Condition) (d : Condition) (answer : ℕ) → (d .Holds → ⊥) → Answers ds answer →
+    Answers (ds ++ (d ∷ [])) answer
+answers-append-false [] d answer false-here h = inr (false-here, h)
+answers-append-false (e ∷ ds) d answer false-here (inl h) = inl h
+answers-append-false (e ∷ ds) d answer false-here (inr h) =
+    inr (h .0, answers-append-false ds d answer false-here (h .1))

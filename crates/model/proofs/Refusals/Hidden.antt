@@ -17,7 +17,7 @@ unfolding hiddenChecks
 judges-hidden g number size =
     (refl, decides-le (g .hidden) number, λ e. (refl, decides-not (decides-eq size (g .blockSize)), λ p. tt))
 
-decides-damaged : (end : End) → Decides (isDamaged end) (end ≡ damaged)
+pub decides-damaged : (end : End) → Decides (isDamaged end) (end ≡ damaged)
 decides-damaged end = record { holds = holds end; fails = λ e p. true-is-not-false (rw p) e }
   where
     holds : (end : End) → isDamaged end ≡ true → end ≡ damaged

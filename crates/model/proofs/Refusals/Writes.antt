@@ -2,16 +2,14 @@
 -- and bitmap give, and the lent list holds them. Assumes nothing.
 use mathlib.Core.Path.{_≡_}
 use mathlib.Core.List.{_++_}
-use mathlib.Core.Option.{Option}
 use Prim.Native.Nat.{ℕ, _-_, _≤_}
 use native.Mathlib.Omega.{arith}
 use lib.ListN.{length}
 use Rattle.model.specs.Blocks.{Bytes}
 use Rattle.model.specs.Layout.{geometryIn, headIn, mapEntry}
 use Rattle.model.specs.Stores.{addresses}
-use Rattle.model.specs.HiddenHalf.{HiddenWrite}
 use Rattle.model.specs.Refusals.{roundCount, writeRefusal}
-use Rattle.model.specs.Calls.{writeRun, Written, written}
+use Rattle.model.specs.Calls.{Offered, writeRun, Written, written}
 use Rattle.model.specs.Simulator.{keptRounds, lastRound}
 use Rattle.model.proofs.Laws.Slots.{slotAfter}
 use Rattle.model.proofs.Laws.Accepted.{AcceptedWrite, accepted-of-write}
@@ -19,7 +17,7 @@ use Rattle.model.proofs.Laws.Runs.{Ran, rounds-ran, length-ran}
 use Rattle.model.proofs.Laws.WriteRuns.{writeRun-ran}
 use Rattle.model.proofs.Laws.Calls.{doneWith, written-cases}
 
-module _ (disk : Bytes) (number : ℕ) (content random : Bytes) (room : ℕ) (offer : Option HiddenWrite) where
+module _ (disk : Bytes) (number : ℕ) (content random : Bytes) (room : ℕ) (offer : Offered) where
   module _ (e : writeRefusal disk number content (length random) room ≡ 0) where
     allowed : AcceptedWrite (geometryIn disk) disk number (length content) (length random) room
     allowed = accepted-of-write disk number content (length random) room e

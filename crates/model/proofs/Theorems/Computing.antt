@@ -12,8 +12,11 @@ use Rattle.model.specs.Rounds.{publicStore, movedStores, bitStores, mapS
 use Rattle.model.specs.Refusals.{sizeChecks, sizeRefusal, driveChecks, placeChecks, roundsTo}
 use Rattle.model.specs.Refusals.{roundChecks, hiddenChecks, walkChecks, driveRefusal, publicReadRefusal}
 use Rattle.model.specs.Refusals.{writeRefusal, hiddenReadRefusal, hiddenWriteRefusal}
+use Rattle.model.specs.Line.{without, firstOffers, goodOffers, hiddenWritesOf, leftAfter, isWaitingIn}
+use Rattle.model.specs.Line.{enterRefusal, withOffer, entered, goodBlock, waitingFor}
 use Rattle.model.specs.Calls.{headerBlock, freshFront, formatted, publicRead, hiddenRead, offerOutcome}
-use Rattle.model.specs.Calls.{offerRefusal, offeredWrites, writeRun, written}
+use Rattle.model.specs.Calls.{offerRefusal, offeredWrites, writeRun, written, lineLeft, diskChecks}
+use Rattle.model.specs.Calls.{lineReadRefusal, lineRead}
 
 -- to unfold it is to unfold all that its own line names
 unfoldable pub computing : Type 0
@@ -23,5 +26,7 @@ unfolding computingBytes isGeometry blockAt setBlock entryAt setEntry packed isS
     movedStores bitStores mapStores roundTrace runFrom sizeChecks sizeRefusal driveChecks placeChecks
     roundsTo roundChecks hiddenChecks walkChecks driveRefusal publicReadRefusal writeRefusal
     hiddenReadRefusal hiddenWriteRefusal headerBlock freshFront formatted publicRead hiddenRead offerOutcome
-    offerRefusal offeredWrites writeRun written
+    offerRefusal offeredWrites writeRun written without firstOffers goodOffers hiddenWritesOf leftAfter
+    isWaitingIn enterRefusal withOffer entered goodBlock waitingFor lineLeft diskChecks lineReadRefusal
+    lineRead
 computing = Unit {0}

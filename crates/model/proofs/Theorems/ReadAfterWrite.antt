@@ -6,11 +6,11 @@ use mathlib.Core.Option.{none}
 use Rattle.model.specs.Geometry.{Geometry}
 use Rattle.model.specs.Blocks.{Bytes}
 use Rattle.model.specs.Refusals.{formatRefusal}
-use Rattle.model.specs.Calls.{formatted}
+use Rattle.model.specs.Calls.{formatted, orElse}
 use Rattle.model.specs.Runs.{Call}
-use Rattle.model.specs.Promises.ReadAfterWrite.{lastPublic, lastHidden, orElse, ReadsBack}
-use Rattle.model.specs.Promises.ReadAfterWrite.{ReadAfterWrite}
+use Rattle.model.specs.Promises.ReadAfterWrite.{lastPublic, lastHidden, ReadsBack, ReadAfterWrite}
 use Rattle.model.proofs.Volumes.Fresh.{formatted-sound, publicRead-formatted, hiddenRead-formatted}
+use Rattle.model.proofs.Volumes.Placed.{told-of-written, one-placed}
 use Rattle.model.proofs.Volumes.Lists.{reads-back-of-steps}
 use Rattle.model.proofs.Volumes.Calls.{call-keeps-public, call-keeps-bitmap, call-keeps-hidden}
 use Rattle.model.proofs.Volumes.Calls.{call-stepped, readable-of-sound}
@@ -26,6 +26,8 @@ reads-from-fresh disk g calls good =
 pub read-after-write : ReadAfterWrite
 read-after-write =
     record {
+      told = told-of-written;
+      one-placed = one-placed;
       public-kept = call-keeps-public;
       bitmap-kept = call-keeps-bitmap;
       hidden-kept = call-keeps-hidden;

@@ -2,8 +2,7 @@
 -- Assumes nothing.
 use mathlib.Core.Path.{_≡_, refl, sym, ap, _∙_}
 use mathlib.Core.Logic.{_≢_}
-use mathlib.Core.List.{List}
-use mathlib.Core.Option.{Option, none}
+use mathlib.Core.List.{List, []}
 use Prim.Native.Nat.{ℕ, _+_, _≤_}
 use native.Mathlib.Omega.{arith}
 use lib.ListN.{length}
@@ -12,26 +11,30 @@ use Rattle.model.specs.Geometry.{blockWidth}
 use Rattle.model.specs.Blocks.{Bytes, DiskAddress}
 use Rattle.model.specs.Layout.{geometryIn}
 use Rattle.model.specs.Stores.{apply, addresses}
-use Rattle.model.specs.HiddenHalf.{HiddenWrite}
 use Rattle.model.specs.Rounds.{Run}
 use Rattle.model.specs.Refusals.{writeRefusal}
-use Rattle.model.specs.Calls.{Written, refusedWrite, written, writtenDisk, writtenList, outcomeNumber}
+use Rattle.model.specs.Calls.{outcomeNumber, Offered, nothing, offeredWrites, Written, refusedWrite}
+use Rattle.model.specs.Calls.{written, writtenDisk, writtenList}
 use Rattle.model.specs.Promises.Refusals.{WriteRefusals, Refusals}
 use Rattle.model.proofs.Laws.Stores.{apply-nil, length-addresses}
 use Rattle.model.proofs.Laws.Formatting.{formatted-refused}
 use Rattle.model.proofs.Laws.Calls.{answer-written, hiddenRead-refused, publicRead-refused}
-use Rattle.model.proofs.Laws.Calls.{writeRun-bad, written-refused, written-same}
+use Rattle.model.proofs.Laws.Calls.{writeRun-nothing, written-refused, written-same}
+use Rattle.model.proofs.Laws.Accepted.{offeredWrites-bad}
+use Rattle.model.proofs.Laws.LineCalls.{lineRead-refused, entered-refused, lineLeft-none}
 use Rattle.model.proofs.Refusals.Calls.{answers-format, answers-public-read, answers-hidden-read}
 use Rattle.model.proofs.Refusals.Calls.{answers-write}
+use Rattle.model.proofs.Refusals.Offers.{answers-offer}
+use Rattle.model.proofs.Refusals.Lines.{answers-enter, answers-line-read}
 use Rattle.model.proofs.Refusals.Writes.{rounds-done, stores-done, stores-written-le}
 
 module _ (disk : Bytes) (number : ℕ) (content random : Bytes) (list : List DiskAddress)
-    (offer : Option HiddenWrite) where
+    (offer : Offered) where
   abbrev result : Written
   result = written disk number content random (length list) offer
 
   abbrev bare : Written
-  bare = written disk number content random (length list) none
+  bare = written disk number content random (length list) nothing
 
   -- nothing of a refused write is left open
   result-refused :
@@ -50,6 +53,13 @@ module _ (disk : Bytes) (number : ℕ) (content random : Bytes) (list : List Dis
         stores-written-le disk number content random (length list) offer,
       )
 
+  -- what brings no hidden write leaves the disk of a write with nothing offered
+  unbrought : offeredWrites (geometryIn disk) offer ≡ [] → writtenDisk result disk ≡ writtenDisk bare disk
+  unbrought none =
+      written-same disk number content random (length list) offer nothing (λ w. writtenDisk w disk)
+      (λ e. ap (λ (run : Run). apply (blockWidth (geometryIn disk)) (run .trace) disk)
+      (writeRun-nothing (geometryIn disk) disk number content random offer none))
+
   write-refusals : WriteRefusals disk number content random list offer result bare
   unfolding addresses
   write-refusals =
@@ -58,27 +68,28 @@ module _ (disk : Bytes) (number : ℕ) (content random : Bytes) (list : List Dis
             rw (answer-written disk number content random (length list) offer)
             (answers-write disk number content (length random) (length list));
         offer-answer =
-            written-same disk number content random (length list) offer none (λ w. w .answer) (λ e. refl);
+            written-same disk number content random (length list) offer nothing (λ w. w .answer) (λ e. refl);
         offer-rounds =
-            written-same disk number content random (length list) offer none (λ w. w .rounds)
+            written-same disk number content random (length list) offer nothing (λ w. w .rounds)
             (λ e. rounds-done disk number content random (length list) offer e
-            ∙ sym (rounds-done disk number content random (length list) none e));
+            ∙ sym (rounds-done disk number content random (length list) nothing e));
         offer-stores =
-            written-same disk number content random (length list) offer none (λ w. addresses (w .trace))
+            written-same disk number content random (length list) offer nothing (λ w. addresses (w .trace))
             (λ e. stores-done disk number content random (length list) offer e
-            ∙ sym (stores-done disk number content random (length list) none e));
-        bad-offer = λ f.
-            written-same disk number content random (length list) offer none (λ w. writtenDisk w disk)
-            (λ e. ap (λ (run : Run). apply (blockWidth (geometryIn disk)) (run .trace) disk)
-            (writeRun-bad (geometryIn disk) disk number content random offer f));
+            ∙ sym (stores-done disk number content random (length list) nothing e));
+        bad-offer = λ f. unbrought (offeredWrites-bad (geometryIn disk) offer f);
+        nothing-counts = unbrought;
         refused-rounds = λ f. ap (λ (w : Written). w .rounds) (result-refused f);
         refused-stores = λ f. ap (λ (w : Written). w .trace) (result-refused f);
         refused-outcome = λ f. ap (λ (w : Written). outcomeNumber (w .outcome)) (result-refused f);
+        refused-placed = λ f. ap (λ (w : Written). w .placed) (result-refused f);
         refused-disk = λ f.
             ap (λ (w : Written). writtenDisk w disk) (result-refused f)
             ∙ apply-nil (blockWidth (geometryIn disk)) disk;
         refused-list = λ f.
             ap (λ (w : Written). writtenList w list) (result-refused f) ∙ over-nil 0 list (omega arith);
+        refused-line = λ f blocks line.
+            lineLeft-none result disk blocks line (ap (λ (w : Written). w .placed) (result-refused f));
         list-length = length-over (addresses (result .trace)) list 0 stores-fit;
         list-rest = λ index h.
             getD-over-after (addresses (result .trace)) list 0 stores-fit index 0
@@ -94,6 +105,11 @@ refusals =
       public-read-refused = publicRead-refused;
       hidden-read-exact = answers-hidden-read;
       hidden-read-refused = hiddenRead-refused;
-      reads-change-nothing = λ disk number blank. (refl, refl);
+      line-offer-exact = answers-offer;
+      enter-exact = answers-enter;
+      enter-refused = entered-refused;
+      line-read-exact = answers-line-read;
+      line-read-refused = lineRead-refused;
+      reads-change-nothing = λ disk number blank asked. (refl, refl);
       writes = write-refusals;
     }

@@ -3,11 +3,11 @@
 use mathlib.Core.Path.{_≡_, refl, ap, _∙_}
 use mathlib.Core.Option.{Option, none, some}
 use Prim.Native.Nat.{ℕ, _<_}
+use Rattle.model.specs.Calls.{orElse}
 use Rattle.model.specs.Geometry.{Geometry, Fits, treeCapacity}
 use Rattle.model.specs.Blocks.{Bytes}
 use Rattle.model.specs.HiddenTree.{walk}
 use Rattle.model.specs.Calls.{shownAt}
-use Rattle.model.specs.Promises.ReadAfterWrite.{orElse}
 use Rattle.model.proofs.Tree.Ghost.{Tree, slotAt, Linked, blockIn, valueOf}
 use Rattle.model.proofs.Tree.Walks.{endIn, walk-end}
 

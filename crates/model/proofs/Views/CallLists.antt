@@ -3,14 +3,14 @@
 use mathlib.Core.Path.{_≡_, refl, sym, ap, ap₂, _∙_}
 use mathlib.Core.Bool.{cond}
 use mathlib.Core.List.{List, [], _∷_}
-use mathlib.Core.Option.{none}
+use Rattle.model.specs.Calls.{nothing}
 use Prim.Native.Nat.{ℕ}
 use lib.ListN.{length, replicate, length-replicate}
 use Rattle.model.specs.Blocks.{Bytes, DiskAddress}
 use Rattle.model.specs.Refusals.{driveRefusal, publicReadRefusal}
 use Rattle.model.specs.Calls.{publicRead, written, writtenDisk}
 use Rattle.model.specs.View.{viewOf}
-use Rattle.model.specs.Runs.{Call, readPublic, readHidden, write, diskAfterAll, PublicCall, publicParts}
+use Rattle.model.specs.Runs.{Call, readPublic, askHidden, write, diskAfterAll, PublicCall, publicParts}
 use Rattle.model.specs.Runs.{bareCalls, Seen, seenOfWrite, seenOfAll}
 use Rattle.model.specs.Simulator.{Simulator, lengthsOfAll, Told, toldOf, told, reportOf, reportsOf}
 use Rattle.model.proofs.Views.Tracking.{trackerOf}
@@ -52,7 +52,7 @@ reportsOf-seenOfAll (readPublic number blank ∷ calls) disk accepted =
     (reportsOf-seenOfAll calls disk accepted
     ∙ ap (λ (sim : Simulator). told sim (lengthsOfAll (publicParts calls)))
     (sym (simulatorAfter-refused (trackerOf disk) (readLengths number (length blank)) refl)))
-reportsOf-seenOfAll (readHidden number blank ∷ calls) disk accepted = reportsOf-seenOfAll calls disk accepted
+reportsOf-seenOfAll (askHidden asked ∷ calls) disk accepted = reportsOf-seenOfAll calls disk accepted
 reportsOf-seenOfAll (write number content random list offer ∷ calls) disk accepted =
     let f = written-follows disk accepted number content random list offer in
     ap₂ {C = List Told} (λ (x : Told) (xs : List Told). x ∷ xs) (f .told-same)
@@ -66,7 +66,7 @@ reportsOf-seenOfAll (write number content random list offer ∷ calls) disk acce
 abbrev plainCall : PublicCall → Call
 plainCall call =
     cond (call .isWrite)
-    (write (call .number) (call .content) (replicate (call .random) 0) (replicate (call .room) 0) none)
+    (write (call .number) (call .content) (replicate (call .random) 0) (replicate (call .room) 0) nothing)
     (readPublic (call .number) (call .content))
 
 unfoldable pub plainCalls : List PublicCall → List Call
@@ -107,7 +107,7 @@ plainCalls-same (readPublic number blank ∷ calls) disk other twins =
     first =
         seen-ext (told-ext (publicReadRefusal-twins disk other twins number blank) refl refl refl)
         (publicRead-twins disk other twins number blank) (viewOf-twins disk other twins)
-plainCalls-same (readHidden number blank ∷ calls) disk other twins =
+plainCalls-same (askHidden asked ∷ calls) disk other twins =
     let later = plainCalls-same calls disk other twins in
     record { seen-same = later .seen-same; twins-after = later .twins-after }
 plainCalls-same (write number content random list offer ∷ calls) disk other twins =
@@ -124,19 +124,19 @@ plainCalls-same (write number content random list offer ∷ calls) disk other tw
     room = replicate (length list) 0
 
     after : Twins (writtenDisk (written disk number content random (length list) offer) disk)
-        (writtenDisk (written other number content zeros (length room) none) other)
+        (writtenDisk (written other number content zeros (length room) nothing) other)
     after =
         writtenDisk-twins disk other twins number content random zeros
         (sym (length-replicate (length random) 0)) list room
-        (sym (length-replicate (length list) 0)) offer none
+        (sym (length-replicate (length list) 0)) offer nothing
 
     first : seenOfWrite (written disk number content random (length list) offer) disk list ≡
-        seenOfWrite (written other number content zeros (length room) none) other room
+        seenOfWrite (written other number content zeros (length room) nothing) other room
     first =
         seen-ext
         (written-follows disk (twins .accepted) number content random list offer .told-same
         ∙ lengths (sym (length-replicate (length random) 0)) (sym (length-replicate (length list) 0))
-        ∙ sym (written-follows other (twins .other-accepted) number content zeros room none .told-same))
+        ∙ sym (written-follows other (twins .other-accepted) number content zeros room nothing .told-same))
         refl (viewOf-twins _ _ after)
       where
         lengths : length random ≡ length zeros → length list ≡ length room →
@@ -153,5 +153,5 @@ pub publicParts-bareCalls : (calls : List Call) → publicParts (bareCalls calls
 unfolding publicParts bareCalls
 publicParts-bareCalls [] = refl
 publicParts-bareCalls (readPublic number blank ∷ calls) = rw (publicParts-bareCalls calls)
-publicParts-bareCalls (readHidden number blank ∷ calls) = publicParts-bareCalls calls
+publicParts-bareCalls (askHidden asked ∷ calls) = publicParts-bareCalls calls
 publicParts-bareCalls (write number content random list offer ∷ calls) = rw (publicParts-bareCalls calls)

@@ -4,7 +4,6 @@ use mathlib.Core.Path.{_≡_, refl, sym, ap, _∙_}
 use mathlib.Core.Logic.{_≢_}
 use mathlib.Core.Bool.{true, false}
 use mathlib.Core.List.{List, []}
-use mathlib.Core.Option.{Option}
 use Prim.Native.Nat.{_<_, ℕ, suc, _-_, _≤_}
 use native.Mathlib.Omega.{arith}
 use lib.ListN.{length, take}
@@ -16,9 +15,8 @@ use Rattle.model.specs.Geometry.{blockWidth}
 use Rattle.model.specs.Blocks.{Bytes, DiskAddress}
 use Rattle.model.specs.Layout.{geometryIn, headIn}
 use Rattle.model.specs.Stores.{addresses}
-use Rattle.model.specs.HiddenHalf.{HiddenWrite}
 use Rattle.model.specs.Refusals.{driveRefusal, roundCount, writeRefusal}
-use Rattle.model.specs.Calls.{writeRun, Written, refusedWrite, written, writtenDisk}
+use Rattle.model.specs.Calls.{Offered, writeRun, Written, refusedWrite, written, writtenDisk}
 use Rattle.model.specs.Runs.{seenOfWrite}
 use Rattle.model.specs.Simulator.{Simulator, CallLengths, simulatedRounds, simulatedStores}
 use Rattle.model.specs.Simulator.{simulatedAnswer, Told, toldStores, isDone, toldOf, simulatedWrite}
@@ -72,7 +70,7 @@ pub record Follows (disk : Bytes) (list : List DiskAddress) (call : CallLengths)
 
 module _ (disk : Bytes) (accepted : driveRefusal disk ≡ 0) (number : ℕ) (content random : Bytes)
     (list : List DiskAddress)
-    (offer : Option HiddenWrite) where
+    (offer : Offered) where
   abbrev call : CallLengths
   call = writeLengths number (length content) (length random) (length list)
 

@@ -4,7 +4,6 @@
 use mathlib.Core.Path.{_≡_, sym, ap, ap₂, _∙_, subst}
 use mathlib.Core.Logic.{_≢_, ⊎-elim}
 use mathlib.Core.List.{List}
-use mathlib.Core.Option.{Option}
 use Prim.Native.Nat.{ℕ}
 use native.Mathlib.Omega.{arith}
 use lib.ListN.{length}
@@ -13,10 +12,9 @@ use Rattle.model.specs.Geometry.{Geometry, blockCount, blockWidth}
 use Rattle.model.specs.Blocks.{Bytes, DiskAddress}
 use Rattle.model.specs.Layout.{geometryIn, headIn}
 use Rattle.model.specs.Stores.{apply}
-use Rattle.model.specs.HiddenHalf.{HiddenWrite}
 use Rattle.model.specs.Rounds.{Run, runFrom}
 use Rattle.model.specs.Refusals.{writeRefusal}
-use Rattle.model.specs.Calls.{offeredWrites, startState, writeRun, written, writtenDisk}
+use Rattle.model.specs.Calls.{Offered, offeredWrites, startState, writeRun, written, writtenDisk}
 use Rattle.model.specs.View.{shownOf}
 use Rattle.model.specs.Simulator.{Simulator, simulatedAnswer}
 use Rattle.model.proofs.Laws.Stores.{apply-nil}
@@ -44,7 +42,7 @@ module _ (disk other : Bytes) (twins : Twins disk other) (number : ℕ) (content
       (trackerOf-twins disk other twins) same-random
       ∙ simulatedAnswer-write other (twins .other-accepted) number content (length others) room
 
-  module _ (offer offerOther : Option HiddenWrite)
+  module _ (offer offerOther : Offered)
       (free : writeRefusal disk number content (length random) room ≡ 0) where
     abbrev g : Geometry
     g = geometryIn disk
@@ -109,7 +107,7 @@ module _ (disk other : Bytes) (twins : Twins disk other) (number : ℕ) (content
 
 module _ (disk other : Bytes) (twins : Twins disk other) (number : ℕ) (content random others : Bytes)
     (same-random : length random ≡ length others) (list lists : List DiskAddress)
-    (same-room : length list ≡ length lists) (offer offerOther : Option HiddenWrite) where
+    (same-room : length list ≡ length lists) (offer offerOther : Offered) where
   -- the drives that the two writes leave
   abbrev after : Bytes
   after = writtenDisk (written disk number content random (length list) offer) disk

@@ -1,10 +1,10 @@
 -- A drive whose hidden volume is sound: every call keeps it so, and none answers or reports damage. Assumes
 -- nothing.
-use mathlib.Core.Path.{_≡_, refl, _∙_}
+use mathlib.Core.Path.{_≡_, refl, sym, _∙_}
 use mathlib.Core.Logic.{_≢_, ⊎-elim}
 use mathlib.Core.Bool.{Bool, true, false, cond, not}
 use mathlib.Core.List.{List, [], _∷_, _++_}
-use mathlib.Core.Option.{Option}
+use mathlib.Core.Option.{Option, none, some}
 use Prim.Native.Nat.{ℕ, _≤_, _<_}
 use native.Mathlib.Omega.{arith}
 use lib.Dec.{eqb}
@@ -16,17 +16,19 @@ use Rattle.model.specs.Geometry.{Geometry, Fits}
 use Rattle.model.specs.Blocks.{Bytes}
 use Rattle.model.specs.Layout.{geometryIn}
 use Rattle.model.specs.HiddenTree.{walk, isDamaged}
-use Rattle.model.specs.HiddenHalf.{HiddenWrite, HiddenState, isWaiting}
+use Rattle.model.specs.HiddenHalf.{HiddenState, isWaiting}
 use Rattle.model.specs.Refusals.{driveChecks, placeChecks, roundChecks, hiddenChecks, walkChecks}
 use Rattle.model.specs.Refusals.{driveRefusal, publicReadRefusal, hiddenReadRefusal}
 use Rattle.model.specs.Calls.{noWrite, placed, waiting, badNumber, badSize, outcomeNumber, offerOutcome}
-use Rattle.model.specs.Calls.{Written, written}
+use Rattle.model.specs.Line.{Offer, waitingFor}
+use Rattle.model.specs.Calls.{Offered, Written, written, lineReadRefusal}
 use Rattle.model.specs.Invariants.{HiddenInvariant}
 use Rattle.model.specs.Runs.{Call, diskAfter, diskAfterAll}
 use Rattle.model.specs.Promises.ReadAfterWrite.{Sound}
 use Rattle.model.specs.Promises.TreeCheck.{NeverDamaged}
 use Rattle.model.proofs.Laws.Refusals.{after-drive-pass}
 use Rattle.model.proofs.Laws.Calls.{answer-written}
+use Rattle.model.proofs.Laws.LineCalls.{lineReadRefusal-disk, lineReadRefusal-checks}
 use Rattle.model.proofs.Refusals.Bounds.{never-drive, never-place, refusal-of-rounds}
 use Rattle.model.proofs.Tree.Keys.{lt-treeCapacity}
 use Rattle.model.proofs.Tree.Ghost.{Ghost}
@@ -122,7 +124,27 @@ module _ (disk : Bytes) (sound : HiddenSound (geometryIn disk) disk) where
           ∙ firstOf-stop 10 _ (le-leb (g .hidden) number h) in
           omega (arith, e, ten)
 
-  module _ (number : ℕ) (content random : Bytes) (room : ℕ) (offer : Option HiddenWrite) where
+  module _ (number : ℕ) (blank blocks : Bytes) (line : List Offer) where
+    waited-undamaged : (block : Bytes) → waitingFor g blocks line number ≡ some block →
+        lineReadRefusal disk number blank blocks line ≢ 12
+    unfolding hiddenChecks
+    waited-undamaged block waits e =
+        let own = hiddenChecks g number (length blank) ++ [] in
+        firstOf-never 12 (driveChecks disk ++ own) (λ z. omega arith)
+        (never-append 12 (driveChecks disk) own (never-drive disk 12 (omega arith))
+        (λ z. absurd (omega arith), ((λ z. absurd (omega arith)), tt)))
+        (sym (lineReadRefusal-checks disk number blank blocks line block waits) ∙ e)
+
+    line-undamaged : lineReadRefusal disk number blank blocks line ≢ 12
+    line-undamaged = by (waitingFor g blocks line number) refl
+      where
+        by : (waits : Option Bytes) → waitingFor g blocks line number ≡ waits →
+            lineReadRefusal disk number blank blocks line ≢ 12
+        by none e z =
+            hidden-undamaged number blank (sym (lineReadRefusal-disk disk number blank blocks line e) ∙ z)
+        by (some block) e z = waited-undamaged block e z
+
+  module _ (number : ℕ) (content random : Bytes) (room : ℕ) (offer : Offered) where
     answer-undamaged : written disk number content random room offer .answer ≢ 12
     unfolding roundChecks
     answer-undamaged =
@@ -142,6 +164,7 @@ module _ (disk : Bytes) (sound : HiddenSound (geometryIn disk) disk) where
       record {
         public-answer = public-undamaged;
         hidden-answer = hidden-undamaged;
+        line-answer = line-undamaged;
         writes = λ number content random room offer.
             record {
               answer = answer-undamaged number content random room offer;

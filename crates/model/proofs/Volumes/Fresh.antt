@@ -5,13 +5,14 @@ use Prim.Native.Nat.{ℕ, _<_}
 use lib.ListN.{length}
 use borrow.Author.Tests.{eq-eqb}
 use Rattle.laws.proofs.Cases.{true-is-not-false, cond-true}
+use Rattle.model.specs.Calls.{orElse}
 use Rattle.model.specs.Geometry.{Geometry}
 use Rattle.model.specs.Blocks.{Bytes}
 use Rattle.model.specs.Layout.{mapEntry}
 use Rattle.model.specs.Refusals.{formatRefusal}
 use Rattle.model.specs.Calls.{formatted, publicRead, hiddenRead}
 use Rattle.model.specs.Invariants.{PublicInvariant, BitmapInvariant}
-use Rattle.model.specs.Promises.ReadAfterWrite.{Sound, orElse}
+use Rattle.model.specs.Promises.ReadAfterWrite.{Sound}
 use Rattle.model.proofs.Laws.Formatting.{fits-formatted, geometry-formatted, refusal-formatted}
 use Rattle.model.proofs.Laws.Formatting.{root-formatted, mapEntry-formatted, bitmapBit-formatted}
 use Rattle.model.proofs.Tree.Ghost.{Ghost, emptyTree, ghost-empty}

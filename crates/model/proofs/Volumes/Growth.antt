@@ -20,7 +20,8 @@ use Rattle.model.proofs.Laws.Ready.{Ready, ready-round}
 use Rattle.model.proofs.Tree.Ghost.{Tree, Ghost, valueOf}
 use Rattle.model.proofs.Tree.Stored.{StoredBy}
 use Rattle.model.proofs.Tree.Turns.{Turn, still, places, hiddenHalf-turns}
-use Rattle.model.proofs.Volumes.Progress.{shownAfter, Progress, progress-then}
+use Rattle.model.proofs.Volumes.Progress.{Progress, progress-then}
+use Rattle.model.specs.Promises.ReadAfterWrite.{shownAfter}
 
 -- ---- the tree after rounds ----
 

@@ -1,14 +1,12 @@
 -- What a write keeps of a drive, refused or not: its geometry, that refusals 1 to 3 do not meet it, and the
 -- invariants of its volumes. Assumes nothing.
 use mathlib.Core.Path.{_≡_}
-use mathlib.Core.Option.{Option}
 use Prim.Native.Nat.{ℕ}
 use Rattle.model.specs.Geometry.{Geometry, Fits}
 use Rattle.model.specs.Blocks.{Bytes}
 use Rattle.model.specs.Layout.{geometryIn}
-use Rattle.model.specs.HiddenHalf.{HiddenWrite}
 use Rattle.model.specs.Refusals.{driveRefusal}
-use Rattle.model.specs.Calls.{Written, written, writtenDisk}
+use Rattle.model.specs.Calls.{Offered, Written, written, writtenDisk}
 use Rattle.model.specs.Invariants.{PublicInvariant, BitmapInvariant, HiddenInvariant}
 use Rattle.model.specs.Promises.ReadAfterWrite.{Sound}
 use Rattle.model.proofs.Tree.Invariant.{hiddenInvariant-of-ghost}
@@ -18,7 +16,7 @@ use Rattle.model.proofs.Volumes.Bitmap.{write-preserves-bitmap}
 use Rattle.model.proofs.Volumes.Writes.{finalDisk, fits-of-accepted, write-cases}
 
 module _ (g : Geometry) (disk : Bytes) (states : geometryIn disk ≡ g) (accepted : driveRefusal disk ≡ 0)
-    (number : ℕ) (content random : Bytes) (room : ℕ) (offer : Option HiddenWrite) where
+    (number : ℕ) (content random : Bytes) (room : ℕ) (offer : Offered) where
   -- the disk after the write
   abbrev after : Bytes
   after = writtenDisk (written disk number content random room offer) disk
@@ -65,7 +63,7 @@ module _ (g : Geometry) (disk : Bytes) (states : geometryIn disk ≡ g) (accepte
 -- a sound drive stays sound
 pub write-keeps-sound :
     (g : Geometry) (disk : Bytes) → Sound g disk → (number : ℕ) (content random : Bytes) (room : ℕ)
-    (offer : Option HiddenWrite) → Sound g (writtenDisk (written disk number content random room offer) disk)
+    (offer : Offered) → Sound g (writtenDisk (written disk number content random room offer) disk)
 write-keeps-sound g disk sound number content random room offer =
     let states = sound .geometry in
     let accepted = sound .accepted in

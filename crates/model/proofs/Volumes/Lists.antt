@@ -5,12 +5,13 @@ use mathlib.Core.List.{List, [], _∷_}
 use mathlib.Core.Option.{Option, none}
 use Prim.Native.Nat.{ℕ, _<_}
 use lib.ListN.{length}
+use Rattle.model.specs.Calls.{orElse}
 use Rattle.model.specs.Geometry.{Geometry}
 use Rattle.model.specs.Blocks.{Bytes}
 use Rattle.model.specs.Calls.{publicRead, hiddenRead}
 use Rattle.model.specs.Runs.{Call, diskAfter, diskAfterAll}
 use Rattle.model.specs.Promises.ReadAfterWrite.{publicAfter, lastPublic, hiddenAfter, lastHidden}
-use Rattle.model.specs.Promises.ReadAfterWrite.{orElse, Sound, Readable, ReadsBack}
+use Rattle.model.specs.Promises.ReadAfterWrite.{Sound, Readable, ReadsBack}
 
 -- what is shown goes on as the block last placed does
 abbrev pub Carries : (shown after : Bytes) → (step : Option Bytes → Option Bytes) → Type 0

@@ -13,9 +13,8 @@ use Rattle.model.specs.Blocks.{Bytes, blockAt}
 use Rattle.model.specs.Layout.{geometryIn, mapEntry}
 use Rattle.model.specs.HiddenTree.{walk}
 use Rattle.model.specs.Refusals.{driveRefusal, publicReadRefusal, hiddenReadRefusal}
-use Rattle.model.specs.Calls.{publicRead, hiddenRead, shownAt}
+use Rattle.model.specs.Calls.{publicRead, hiddenRead, shownAt, orElse}
 use Rattle.model.specs.Invariants.{PublicInvariant}
-use Rattle.model.specs.Promises.ReadAfterWrite.{orElse}
 use Rattle.model.proofs.Laws.Accepted.{AcceptedNumber}
 use Rattle.model.proofs.Laws.Calls.{publicReadRefusal-of-accepted, hiddenReadRefusal-of-accepted}
 use Rattle.model.proofs.Laws.Calls.{entryShown, hiddenRead-done, publicRead-done}

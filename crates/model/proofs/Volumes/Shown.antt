@@ -3,48 +3,48 @@
 use mathlib.Core.Path.{_≡_, refl, sym, ap, _∙_}
 use mathlib.Core.Logic.{⊎-elim}
 use mathlib.Core.Bool.{Bool, true, false, cond, _&&_}
-use mathlib.Core.Option.{Option, none, some}
+use mathlib.Core.List.{List, [], _∷_}
+use mathlib.Core.Option.{Option, some}
 use Prim.Native.Nat.{ℕ, _<_}
 use lib.Dec.{eqb}
-use lib.ListN.{length}
+use lib.ListN.{length, take}
 use borrow.Author.Tests.{eq-eqb, ne-eqb}
-use Rattle.laws.proofs.Cases.{eq-cases, and-false-left, and-false-right, cond-true, cond-false}
+use Rattle.laws.proofs.Cases.{eq-cases, and-false-right, cond-true, cond-false}
 use Rattle.model.specs.Geometry.{Geometry, Fits}
 use Rattle.model.specs.Blocks.{Bytes}
 use Rattle.model.specs.HiddenHalf.{HiddenWrite}
 use Rattle.model.specs.Rounds.{Run}
 use Rattle.model.specs.Refusals.{writeRefusal}
-use Rattle.model.specs.Calls.{publicRead, hiddenRead, offerOutcome, offerRefusal, Written, doneWrite}
-use Rattle.model.specs.Calls.{written, writtenDisk}
-use Rattle.model.specs.Promises.ReadAfterWrite.{offeredUnder, isPlaced, orElse, Sound}
+use Rattle.model.specs.Calls.{publicRead, hiddenRead, Offered, offerRefusal, offeredWrites, Written}
+use Rattle.model.specs.Calls.{doneWrite, written, writtenDisk, orElse}
+use Rattle.model.specs.Promises.ReadAfterWrite.{shownAfter, Sound}
 use Rattle.model.proofs.Tree.Ghost.{Tree, Ghost, valueOf}
 use Rattle.model.proofs.Tree.FromInvariant.{treeOf, ghost-of-hiddenInvariant}
 use Rattle.model.proofs.Volumes.Public.{write-preserves-public, publicValue, publicValue-same}
 use Rattle.model.proofs.Volumes.Public.{publicValue-other}
 use Rattle.model.proofs.Volumes.Reads.{publicRead-shows, hiddenRead-shows}
-use Rattle.model.proofs.Volumes.Progress.{saysPlaced, shows-of-progress}
+use Rattle.model.proofs.Volumes.Progress.{shows-of-progress}
 use Rattle.model.proofs.Volumes.Writes.{finalDisk, Leaves, fits-of-accepted, write-cases}
 use Rattle.model.proofs.Volumes.Lists.{Carries}
 
--- what is shown, told in two ways, stays so under a hidden write that may have been placed
-carries-offer :
-    (isDone : Bool) (offer : Option HiddenWrite) (number : ℕ) (old before : Option Bytes)
-    (blank otherwise : Bytes) →
+-- what is shown, told in two ways, stays so under hidden writes that are placed
+carries-placed :
+    (writes : List HiddenWrite) (number : ℕ) (old before : Option Bytes) (blank otherwise : Bytes) →
     orElse old blank ≡ orElse before otherwise →
-    orElse (cond isDone (offeredUnder number old offer) old) blank ≡
-    orElse (cond isDone (offeredUnder number before offer) before) otherwise
-carries-offer false offer number old before blank otherwise e = e
-carries-offer true none number old before blank otherwise e = e
-carries-offer true (some hidden) number old before blank otherwise e = by (eqb (hidden .number) number)
+    orElse (shownAfter writes number old) blank ≡ orElse (shownAfter writes number before) otherwise
+unfolding shownAfter
+carries-placed [] number old before blank otherwise e = e
+carries-placed (next ∷ later) number old before blank otherwise e =
+    carries-placed later number _ _ blank otherwise (by (eqb (next .number) number))
   where
     by : (isSame : Bool) →
-        orElse (cond isSame (some (hidden .content)) old) blank ≡
-        orElse (cond isSame (some (hidden .content)) before) otherwise
+        orElse (cond isSame (some (next .content)) old) blank ≡
+        orElse (cond isSame (some (next .content)) before) otherwise
     by true = refl
     by false = e
 
 module _ (g : Geometry) (disk : Bytes) (sound : Sound g disk) (number : ℕ) (content random : Bytes) (room : ℕ)
-    (offer : Option HiddenWrite) (other : ℕ) (blank : Bytes) (sized : length blank ≡ g .blockSize) where
+    (offer : Offered) (other : ℕ) (blank : Bytes) (sized : length blank ≡ g .blockSize) where
   abbrev refusal : ℕ
   refusal = writeRefusal disk number content (length random) room
 
@@ -113,7 +113,7 @@ module _ (g : Geometry) (disk : Bytes) (sound : Sound g disk) (number : ℕ) (co
     abbrev HiddenCarried : Written → (final : Bytes) → Type 0
     HiddenCarried made final =
         Carries (hiddenRead disk other blank) (hiddenRead final other blank)
-        (λ before. cond (isPlaced made) (offeredUnder other before offer) before)
+        (λ before. shownAfter (take (made .placed) (offeredWrites g offer)) other before)
 
     abbrev tree : Tree
     tree = treeOf g disk
@@ -130,18 +130,15 @@ module _ (g : Geometry) (disk : Bytes) (sound : Sound g disk) (number : ℕ) (co
         (grew .grown) (grew .ghost) h
         ∙ ap (λ (value : Option Bytes). orElse value blank)
         (shows-of-progress g (run .state) (valueOf g disk tree)
-        (valueOf g (finalDisk g disk run) (grew .grown)) other h offer (grew .progress))
-        ∙ carries-offer (saysPlaced (offerOutcome (offerRefusal g offer) (run .state))) offer other
+        (valueOf g (finalDisk g disk run) (grew .grown)) other h (offeredWrites g offer)
+        (grew .progress))
+        ∙ carries-placed (take (run .state .placed) (offeredWrites g offer)) other
         (valueOf g disk tree other) before blank otherwise
         (sym (hiddenRead-shows g disk (sound .geometry) (sound .accepted) other blank sized f tree ghost h)
         ∙ e)
 
     pub write-carries-hidden : HiddenCarried result (writtenDisk result disk)
+    unfolding shownAfter
     write-carries-hidden =
         write-cases g disk (sound .geometry) (sound .accepted) number content random room offer HiddenCarried
-        (λ ne before otherwise e.
-        e
-        ∙ ap (λ (value : Option Bytes). orElse value otherwise)
-        (sym (cond-false (offeredUnder other before offer) before
-        (and-false-left false (ne-eqb refusal 0 ne)))))
-        hidden-carried
+        (λ ne before otherwise e. e) hidden-carried

@@ -2,18 +2,16 @@
 -- geometry, with the effect of a run on the public volume and the ghost tree kept. Assumes nothing.
 use mathlib.Core.Path.{_≡_, sym, subst}
 use mathlib.Core.Logic.{_≢_}
-use mathlib.Core.Option.{Option}
 use Prim.Native.Nat.{ℕ, _-_, _<_}
 use lib.ListN.{length}
 use Rattle.model.specs.Geometry.{Geometry, Fits, blockWidth}
 use Rattle.model.specs.Blocks.{Bytes}
 use Rattle.model.specs.Layout.{geometryIn, headIn}
 use Rattle.model.specs.Stores.{apply}
-use Rattle.model.specs.HiddenHalf.{HiddenWrite}
 use Rattle.model.specs.Rounds.{Run}
 use Rattle.model.specs.Refusals.{roundCount, driveRefusal, writeRefusal}
-use Rattle.model.specs.Calls.{offerRefusal, offeredWrites, startState, writeRun, Written, refusedWrite}
-use Rattle.model.specs.Calls.{doneWrite, written, writtenDisk}
+use Rattle.model.specs.Calls.{Offered, offerRefusal, offeredWrites, startState, writeRun, Written}
+use Rattle.model.specs.Calls.{refusedWrite, doneWrite, written, writtenDisk}
 use Rattle.model.proofs.Laws.Slots.{slotAfter}
 use Rattle.model.proofs.Laws.Refusals.{accepted-of-refusal}
 use Rattle.model.proofs.Laws.Accepted.{accepted-of-write, AcceptedNumber, driveRefusal-of-write}
@@ -29,7 +27,7 @@ abbrev pub finalDisk : Geometry → (disk : Bytes) → Run → Bytes
 finalDisk g disk run = apply (blockWidth g) (run .trace) disk
 
 -- what the run of a write that is not refused leaves
-pub record Leaves (g : Geometry) (disk : Bytes) (number : ℕ) (content : Bytes) (offer : Option HiddenWrite)
+pub record Leaves (g : Geometry) (disk : Bytes) (number : ℕ) (content : Bytes) (offer : Offered)
     (run : Run) : Type 0 where
   pub counted : number < g .publics
   pub last : ℕ
@@ -42,7 +40,7 @@ pub record Leaves (g : Geometry) (disk : Bytes) (number : ℕ) (content : Bytes)
 
 -- ---- not refused ----
 
-module _ (disk : Bytes) (number : ℕ) (content random : Bytes) (room : ℕ) (offer : Option HiddenWrite)
+module _ (disk : Bytes) (number : ℕ) (content random : Bytes) (room : ℕ) (offer : Offered)
     (free : writeRefusal disk number content (length random) room ≡ 0) where
   abbrev g : Geometry
   g = geometryIn disk
@@ -81,7 +79,7 @@ module _ (g : Geometry) (disk : Bytes) (states : geometryIn disk ≡ g) (accepte
   pub fits-of-accepted : Fits g
   fits-of-accepted = subst Fits states (accepted-of-refusal disk accepted .sized .fits)
 
-  module _ (number : ℕ) (content random : Bytes) (room : ℕ) (offer : Option HiddenWrite) where
+  module _ (number : ℕ) (content random : Bytes) (room : ℕ) (offer : Offered) where
     abbrev refusal : ℕ
     refusal = writeRefusal disk number content (length random) room
 

@@ -10,6 +10,7 @@ use Rattle.model.proofs.Theorems.ReadAfterWrite.{read-after-write}
 use Rattle.model.proofs.Theorems.BufferBounds.{buffer-bounds}
 use Rattle.model.proofs.Theorems.Questions.{questions}
 use Rattle.model.proofs.Theorems.TreeCheck.{tree-check}
+use Rattle.model.proofs.Theorems.LineOfOffers.{line-of-offers}
 use Rattle.model.proofs.promises.Statement.{statement}
 use Rattle.model.proofs.promises.Tie as tie
 
@@ -24,7 +25,10 @@ returns c = (
         larger-figures,
         (
           order-figures,
-          (refusals, (noninterference, (read-after-write, (buffer-bounds, (questions, tree-check))))),
+          (
+            refusals,
+            (noninterference, (read-after-write, (buffer-bounds, (questions, (tree-check, line-of-offers))))),
+          ),
         ),
       ),
     ),

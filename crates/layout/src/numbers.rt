@@ -4,6 +4,7 @@
 pub struct PublicNumber(pub u32);
 
 // a block of the hidden volume, below H
+#[repr(C)]
 pub struct HiddenNumber(pub u32);
 
 // a block's place on the disk, counted in blocks

@@ -1,0 +1,10 @@
+pub mod Offers
+pub mod Faults
+pub mod Numbers
+pub mod CountingOffer
+pub mod Waiting
+pub mod Entering
+pub mod Leaving
+pub mod Runs
+pub mod Turns
+pub mod Counting

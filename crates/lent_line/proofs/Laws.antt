@@ -1,0 +1,4 @@
+pub mod Lent
+pub mod Shared
+pub mod Values
+pub mod Walks

@@ -15,6 +15,7 @@ use stores::descriptors::own;
 ghost use mathlib.Core.Path.{_≡_};
 ghost use mathlib.Core.Bool.{true, false};
 ghost use mathlib.Core.List.{[], _∷_, _++_};
+ghost use mathlib.Core.Option.{none};
 ghost use Prim.Native.Nat.{ℕ, _+_, _<_};
 ghost use Rattle.laws.specs.Bits.{setBit};
 ghost use Rattle.model.specs.Geometry.{Fits};
@@ -33,7 +34,7 @@ ghost use Rattle.round_stores.specs.Endings.{MapReady, bitCount, endingT
 // The map block with a number's entry at a slot's public block.
 fn map_store(g: Geometry, number: PublicNumber, slot: u32) -> Descriptor
     requires { ⌜ MapReady (geometryOf g) (number .0) slot ⌝ }
-    ensures { λ r. ⌜ ((place : ℕ) → Describes (geometryOf g) place (λ disk content offered random.
+    ensures { λ r. ⌜ ((place : ℕ) → Describes (geometryOf g) none place (λ disk content blocks random.
         mapStore (geometryOf g) disk (number .0) slot) r) ⌝ }
 {
     let fanout = fanout(g);
@@ -47,7 +48,7 @@ fn map_store(g: Geometry, number: PublicNumber, slot: u32) -> Descriptor
 fn bit_store(g: Geometry, slot: u32, is_set: bool) -> Descriptor
     requires { ⌜ Fits (geometryOf g) ⌝ }
     requires { ⌜ slot < g .slots ⌝ }
-    ensures { λ r. ⌜ ((place : ℕ) → Describes (geometryOf g) place (λ disk content offered random.
+    ensures { λ r. ⌜ ((place : ℕ) → Describes (geometryOf g) none place (λ disk content blocks random.
         bitStore (geometryOf g) disk slot «is_set») r) ⌝ }
 {
     let address = bit_address(g, slot);
@@ -58,7 +59,7 @@ fn bit_store(g: Geometry, slot: u32, is_set: bool) -> Descriptor
 // The one bitmap block of two slots with the new slot's bit set and the old slot's cleared.
 fn both_bits_store(g: Geometry, slot: u32, old: u32) -> Descriptor
     requires { ⌜ TwoSlots (geometryOf g) slot old ⌝ }
-    ensures { λ r. ⌜ ((place : ℕ) → Describes (geometryOf g) place (λ disk content offered random.
+    ensures { λ r. ⌜ ((place : ℕ) → Describes (geometryOf g) none place (λ disk content blocks random.
         store (bitAddress (geometryOf g) slot) (setBit (bitPlace (geometryOf g) old) false
         (bitmapWith (geometryOf g) disk slot true))) r) ⌝ }
 {
@@ -76,7 +77,7 @@ fn both_bits_store(g: Geometry, slot: u32, old: u32) -> Descriptor
 fn header_store(g: Geometry, slot: u32) -> Descriptor
     requires { ⌜ Fits (geometryOf g) ⌝ }
     requires { ⌜ slot < g .slots ⌝ }
-    ensures { λ r. ⌜ ((place : ℕ) → Describes (geometryOf g) place (λ disk content offered random.
+    ensures { λ r. ⌜ ((place : ℕ) → Describes (geometryOf g) none place (λ disk content blocks random.
         headerStore (geometryOf g) disk slot) r) ⌝ }
 {
     let slots = g.slots;
@@ -90,7 +91,7 @@ fn header_store(g: Geometry, slot: u32) -> Descriptor
 fn bits_ending_store(g: Geometry, slot: u32, bits: Bits, index: u32) -> Descriptor
     requires { ⌜ SlotPlace (geometryOf g) slot 0 (bitCount bits + 1) index ⌝ }
     requires { ⌜ BitsPlaced (geometryOf g) slot bits ⌝ }
-    ensures { λ r. ⌜ ((place : ℕ) → Describes (geometryOf g) place (λ disk content offered random.
+    ensures { λ r. ⌜ ((place : ℕ) → Describes (geometryOf g) none place (λ disk content blocks random.
         storeAt index (bitTrace bits (geometryOf g) disk slot ++
         (headerStore (geometryOf g) disk slot ∷ []))) r) ⌝ }
 {
@@ -115,7 +116,7 @@ fn bits_ending_store(g: Geometry, slot: u32, bits: Bits, index: u32) -> Descript
 pub fn ending_store(g: Geometry, slot: u32, public: PublicPlan, index: u32) -> Descriptor
     requires { ⌜ SlotPlace (geometryOf g) slot 0 (endingCount public) index ⌝ }
     requires { ⌜ PublicPlaced (geometryOf g) slot public ⌝ }
-    ensures { λ r. ⌜ ((place : ℕ) → Describes (geometryOf g) place (λ disk content offered random.
+    ensures { λ r. ⌜ ((place : ℕ) → Describes (geometryOf g) none place (λ disk content blocks random.
         storeAt index (endingTrace public (geometryOf g) disk slot)) r) ⌝ }
 {
     match public {

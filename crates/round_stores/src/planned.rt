@@ -9,6 +9,7 @@ use stores::descriptors::Descriptor;
 ghost use mathlib.Core.Path.{_≡_};
 ghost use Rattle.model.specs.Geometry.{Fits};
 ghost use Rattle.layout.specs.Geometries.{geometryOf};
+ghost use Rattle.plans.specs.HiddenPlans.{offeredBy};
 ghost use Rattle.stores.specs.Described.{storeAt, Describes};
 ghost use Rattle.round_stores.specs.Planned.{plannedTrace, plannedCount, StoreReady};
 
@@ -22,8 +23,8 @@ pub struct PlannedRound {
 // The store at a place of a round.
 pub fn round_store(g: Geometry, round: PlannedRound, place: u32) -> Descriptor
     requires { ⌜ StoreReady (geometryOf g) round place ⌝ }
-    ensures { λ r. ⌜ Describes (geometryOf g) place (λ disk content offered random.
-        storeAt place (plannedTrace round (geometryOf g) disk content offered random)) r ⌝ }
+    ensures { λ r. ⌜ Describes (geometryOf g) (offeredBy (round .hidden)) place (λ disk content blocks random.
+        storeAt place (plannedTrace round (geometryOf g) disk content blocks random)) r ⌝ }
 {
     let slot = round.slot;
     let public = round.public;

@@ -19,7 +19,7 @@ pub record SlotPlace (g : Geometry) (slot from to place : ℕ) : Type 0 where
 
 -- block A, then A + 1 to A + k and the root
 abbrev pub slotTrace :
-    PublicPlan → HiddenPlan → Geometry → (disk : Bytes) → (slot : ℕ) → (content offered random : Bytes) →
+    PublicPlan → HiddenPlan → Geometry → (disk : Bytes) → (slot : ℕ) → (content blocks random : Bytes) →
     Trace
-slotTrace public hidden g disk slot content offered random =
-    publicStore (choiceOf public) g disk slot content ∷ hiddenTrace hidden g disk slot offered random
+slotTrace public hidden g disk slot content blocks random =
+    publicStore (choiceOf public) g disk slot content ∷ hiddenTrace hidden g disk slot blocks random

@@ -15,4 +15,4 @@ nodeSource NotReached = source.Zeros
 -- the slot's own data, or what is offered
 abbrev pub dataSource : (own : DiskAddress) → Data → Source
 dataSource own Own = source.Disk own
-dataSource own Offered = source.Offered
+dataSource own (Offered place) = source.Offered place

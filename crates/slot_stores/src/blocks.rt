@@ -11,6 +11,7 @@ use stores::descriptors::Source;
 use stores::descriptors::own;
 use stores::descriptors::plain;
 ghost use mathlib.Core.Path.{_≡_};
+ghost use mathlib.Core.Option.{none};
 ghost use Prim.Native.Nat.{_-_, _+_, _<_};
 ghost use Rattle.model.specs.Geometry.{Fits};
 ghost use Rattle.model.specs.Layout.{slotStart};
@@ -25,7 +26,7 @@ ghost use Rattle.slot_stores.specs.Slots.{SlotPlace};
 pub fn public_store(g: Geometry, slot: u32, public: PublicPlan) -> Descriptor
     requires { ⌜ Fits (geometryOf g) ⌝ }
     requires { ⌜ slot < g .slots ⌝ }
-    ensures { λ r. ⌜ Describes (geometryOf g) 0 (λ disk content offered random.
+    ensures { λ r. ⌜ Describes (geometryOf g) none 0 (λ disk content blocks random.
         publicStore (choiceOf public) (geometryOf g) disk slot content) r ⌝ }
 {
     let address = slot_start(g, slot);
@@ -47,7 +48,7 @@ fn block_address(g: Geometry, slot: u32, place: u32) -> DiskAddress
 // A slot's block at a place, or after its last one the root, as it is.
 pub fn kept_store(g: Geometry, slot: u32, place: u32) -> Descriptor
     requires { ⌜ SlotPlace (geometryOf g) slot 1 (geometryOf g .height + 2) place ⌝ }
-    ensures { λ r. ⌜ Describes (geometryOf g) place (λ disk content offered random.
+    ensures { λ r. ⌜ Describes (geometryOf g) none place (λ disk content blocks random.
         storeAt (place - 1) (writtenBack (geometryOf g) disk slot)) r ⌝ }
 {
     if g.height < place {
@@ -61,7 +62,7 @@ pub fn kept_store(g: Geometry, slot: u32, place: u32) -> Descriptor
 // A slot's block at a place of random bytes, or after its last one the root as it is.
 pub fn random_store(g: Geometry, slot: u32, place: u32) -> Descriptor
     requires { ⌜ SlotPlace (geometryOf g) slot 1 (geometryOf g .height + 2) place ⌝ }
-    ensures { λ r. ⌜ Describes (geometryOf g) place (λ disk content offered random.
+    ensures { λ r. ⌜ Describes (geometryOf g) none place (λ disk content blocks random.
         storeAt (place - 1) (dummyStores (geometryOf g) disk slot random)) r ⌝ }
 {
     if g.height < place {

@@ -16,6 +16,7 @@ use stores::descriptors::Source;
 use stores::descriptors::own;
 use stores::descriptors::plain;
 ghost use mathlib.Core.Path.{_≡_};
+ghost use mathlib.Core.Option.{none};
 ghost use Prim.Native.Nat.{_-_, _+_, _<_};
 ghost use Rattle.model.specs.Geometry.{Fits, rootAddress, blockWidth};
 ghost use Rattle.model.specs.Blocks.{blockAt};
@@ -24,7 +25,7 @@ ghost use Rattle.model.specs.Stores.{store};
 ghost use Rattle.model.specs.Paths.{linkedNode, pathStores};
 ghost use Rattle.layout.specs.Geometries.{geometryOf};
 ghost use Rattle.hidden_map.specs.Nodes.{addressAt, nodeBlock, pathBlocks, StandsByLevel};
-ghost use Rattle.plans.specs.HiddenPlans.{dataOf};
+ghost use Rattle.plans.specs.HiddenPlans.{dataOf, offeredIn};
 ghost use Rattle.stores.specs.Described.{storeAt, Describes};
 ghost use Rattle.slot_stores.specs.Slots.{SlotPlace};
 ghost use Rattle.slot_stores.specs.Sources.{nodeSource, dataSource};
@@ -44,7 +45,7 @@ fn node_source(node: Node) -> Source
 fn node_store(g: Geometry, slot: u32, number: HiddenNumber, nodes: Nodes, level: u32) -> Descriptor
     requires { ⌜ SlotPlace (geometryOf g) slot 1 (geometryOf g .height) level ⌝ }
     requires { ⌜ StandsByLevel (geometryOf g) (addressAt nodes) ⌝ }
-    ensures { λ r. ⌜ Describes (geometryOf g) level (λ disk content offered random.
+    ensures { λ r. ⌜ Describes (geometryOf g) none level (λ disk content blocks random.
         store (levelAddress (geometryOf g) slot level) (linkedNode (geometryOf g) (number .0) slot (level - 1)
         (nodeBlock (geometryOf g) disk (addressAt nodes level)))) r ⌝ }
 {
@@ -77,7 +78,7 @@ fn data_source(own: DiskAddress, data: Data) -> Source
 {
     match data {
         Data::Own => Source::Disk(own),
-        Data::Offered => Source::Offered,
+        Data::Offered(place) => Source::Offered(place),
     }
 }
 
@@ -85,8 +86,9 @@ fn data_source(own: DiskAddress, data: Data) -> Source
 fn data_store(g: Geometry, slot: u32, data: Data) -> Descriptor
     requires { ⌜ Fits (geometryOf g) ⌝ }
     requires { ⌜ slot < g .slots ⌝ }
-    ensures { λ r. ⌜ Describes (geometryOf g) (geometryOf g .height) (λ disk content offered random.
-        store (levelAddress (geometryOf g) slot 0) (dataOf «data» (geometryOf g) disk slot offered)) r ⌝ }
+    ensures { λ r. ⌜ Describes (geometryOf g) (offeredIn «data») (geometryOf g .height)
+        (λ disk content blocks random. store (levelAddress (geometryOf g) slot 0)
+        (dataOf «data» (geometryOf g) disk slot blocks)) r ⌝ }
 {
     let address = level_address(g, slot, 0);
     plain(address, data_source(address, data))
@@ -96,7 +98,7 @@ fn data_store(g: Geometry, slot: u32, data: Data) -> Descriptor
 fn root_store(g: Geometry, slot: u32, number: HiddenNumber) -> Descriptor
     requires { ⌜ Fits (geometryOf g) ⌝ }
     requires { ⌜ slot < g .slots ⌝ }
-    ensures { λ r. ⌜ Describes (geometryOf g) (geometryOf g .height + 1) (λ disk content offered random.
+    ensures { λ r. ⌜ Describes (geometryOf g) none (geometryOf g .height + 1) (λ disk content blocks random.
         store (rootAddress (geometryOf g)) (linkedNode (geometryOf g) (number .0) slot
         (geometryOf g .height - 1)
         (blockAt (blockWidth (geometryOf g)) disk (rootAddress (geometryOf g))))) r ⌝ }
@@ -119,9 +121,9 @@ pub fn path_store(
 ) -> Descriptor
     requires { ⌜ SlotPlace (geometryOf g) slot 1 (geometryOf g .height + 2) place ⌝ }
     requires { ⌜ StandsByLevel (geometryOf g) (addressAt nodes) ⌝ }
-    ensures { λ r. ⌜ Describes (geometryOf g) place (λ disk content offered random.
+    ensures { λ r. ⌜ Describes (geometryOf g) (offeredIn «data») place (λ disk content blocks random.
         storeAt (place - 1) (pathStores (geometryOf g) (number .0) slot
-        (dataOf «data» (geometryOf g) disk slot offered)
+        (dataOf «data» (geometryOf g) disk slot blocks)
         (pathBlocks (geometryOf g) disk (addressAt nodes)))) r ⌝ }
 {
     if place < g.height {

@@ -9,7 +9,7 @@ use plans::public_plans::PublicPlan;
 use stores::descriptors::Descriptor;
 ghost use Prim.Native.Nat.{_-_, _+_};
 ghost use Rattle.layout.specs.Geometries.{geometryOf};
-ghost use Rattle.plans.specs.HiddenPlans.{hiddenTrace, PathPlaced};
+ghost use Rattle.plans.specs.HiddenPlans.{hiddenTrace, offeredBy, PathPlaced};
 ghost use Rattle.stores.specs.Described.{storeAt, Describes};
 ghost use Rattle.slot_stores.specs.Slots.{SlotPlace, slotTrace};
 
@@ -17,8 +17,8 @@ ghost use Rattle.slot_stores.specs.Slots.{SlotPlace, slotTrace};
 fn hidden_store(g: Geometry, slot: u32, plan: HiddenPlan, place: u32) -> Descriptor
     requires { ⌜ SlotPlace (geometryOf g) slot 1 (geometryOf g .height + 2) place ⌝ }
     requires { ⌜ PathPlaced (geometryOf g) plan ⌝ }
-    ensures { λ r. ⌜ Describes (geometryOf g) place (λ disk content offered random.
-        storeAt (place - 1) (hiddenTrace plan (geometryOf g) disk slot offered random)) r ⌝ }
+    ensures { λ r. ⌜ Describes (geometryOf g) (offeredBy plan) place (λ disk content blocks random.
+        storeAt (place - 1) (hiddenTrace plan (geometryOf g) disk slot blocks random)) r ⌝ }
 {
     match plan {
         HiddenPlan::Back => kept_store(g, slot, place),
@@ -37,8 +37,8 @@ pub fn slot_store(
 ) -> Descriptor
     requires { ⌜ SlotPlace (geometryOf g) slot 0 (geometryOf g .height + 2) place ⌝ }
     requires { ⌜ PathPlaced (geometryOf g) hidden ⌝ }
-    ensures { λ r. ⌜ Describes (geometryOf g) place (λ disk content offered random.
-        storeAt place (slotTrace public hidden (geometryOf g) disk slot content offered random)) r ⌝ }
+    ensures { λ r. ⌜ Describes (geometryOf g) (offeredBy hidden) place (λ disk content blocks random.
+        storeAt place (slotTrace public hidden (geometryOf g) disk slot content blocks random)) r ⌝ }
 {
     if place == 0 {
         return public_store(g, slot, public);

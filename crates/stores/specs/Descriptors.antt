@@ -17,28 +17,28 @@ use Rattle.stores.specs.Changes.{changed, Inside}
 
 -- ---- what is taken ----
 
--- the block of a source: one of the disk, zeros, the call's data, what is offered, or the random bytes' block
--- at an index
-abbrev pub sourceBlock : Source → Geometry → (disk content offered random : Bytes) → Bytes
-sourceBlock (Disk address) g disk content offered random = blockAt (blockWidth g) disk (address .0)
-sourceBlock Zeros g disk content offered random = zeroBlock (g .blockSize)
-sourceBlock Content g disk content offered random = content
-sourceBlock Offered g disk content offered random = offered
-sourceBlock (Random index) g disk content offered random = blockAt (blockWidth g) random index
+-- the block of a source: one of the disk, zeros, the call's data, or one of the lent blocks or of the random
+-- bytes, by its index
+abbrev pub sourceBlock : Source → Geometry → (disk content blocks random : Bytes) → Bytes
+sourceBlock (Disk address) g disk content blocks random = blockAt (blockWidth g) disk (address .0)
+sourceBlock Zeros g disk content blocks random = zeroBlock (g .blockSize)
+sourceBlock Content g disk content blocks random = content
+sourceBlock (Offered place) g disk content blocks random = blockAt (blockWidth g) blocks place
+sourceBlock (Random index) g disk content blocks random = blockAt (blockWidth g) random index
 
 -- it stands on the drive, or is lent whole
-abbrev pub Takeable : Source → Geometry → (content offered random : Bytes) → Type 0
-Takeable (Disk address) g content offered random = address .0 < blockCount g
-Takeable Zeros g content offered random = Unit {0}
-Takeable Content g content offered random = length content ≡ g .blockSize
-Takeable Offered g content offered random = length offered ≡ g .blockSize
-Takeable (Random index) g content offered random = index * g .blockSize + g .blockSize ≤ length random
+abbrev pub Takeable : Source → Geometry → (content blocks random : Bytes) → Type 0
+Takeable (Disk address) g content blocks random = address .0 < blockCount g
+Takeable Zeros g content blocks random = Unit {0}
+Takeable Content g content blocks random = length content ≡ g .blockSize
+Takeable (Offered place) g content blocks random = place * g .blockSize + g .blockSize ≤ length blocks
+Takeable (Random index) g content blocks random = index * g .blockSize + g .blockSize ≤ length random
 
 -- it can be taken from a whole drive into a buffer of one block
-pub record Fillable (source : Source) (g : Geometry) (disk content offered random buffer : Bytes) : Type 0
+pub record Fillable (source : Source) (g : Geometry) (disk content blocks random buffer : Bytes) : Type 0
   where
     pub drive : Drive g disk
-    pub takeable : Takeable source g content offered random
+    pub takeable : Takeable source g content blocks random
     pub whole : length buffer ≡ g .blockSize
 
 -- ---- what is stored ----
@@ -53,15 +53,15 @@ ownOf address first second =
     record { address = address; source = Disk address; first = first; second = second }
 
 -- the store that a descriptor means: the block with both changes made, at its address
-abbrev pub storeOf : Descriptor → Geometry → (disk content offered random : Bytes) → Store
-storeOf descriptor g disk content offered random =
+abbrev pub storeOf : Descriptor → Geometry → (disk content blocks random : Bytes) → Store
+storeOf descriptor g disk content blocks random =
     store (descriptor .address .0)
     (changed (descriptor .second)
-    (changed (descriptor .first) (sourceBlock (descriptor .source) g disk content offered random)))
+    (changed (descriptor .first) (sourceBlock (descriptor .source) g disk content blocks random)))
 
 -- it goes to the drive, its block can be taken, and its changes stand inside a block
-pub record Makeable (descriptor : Descriptor) (g : Geometry) (content offered random : Bytes) : Type 0 where
+pub record Makeable (descriptor : Descriptor) (g : Geometry) (content blocks random : Bytes) : Type 0 where
   pub address-inside : descriptor .address .0 < blockCount g
-  pub takeable : Takeable (descriptor .source) g content offered random
+  pub takeable : Takeable (descriptor .source) g content blocks random
   pub first-inside : Inside (blockWidth g) (descriptor .first)
   pub second-inside : Inside (blockWidth g) (descriptor .second)

@@ -46,21 +46,21 @@ pub fn make_store(
     g: Geometry,
     descriptor: Descriptor,
     content: &[u8],
-    offered: &[u8],
+    blocks: &[u8],
     random: &[u8],
     buffer: &mut [u8],
 ) -> usize
     requires { ⌜ LentFor (geometryOf g) (now disk) (now buffer) (now list) next 1 ⌝ }
-    requires { ⌜ Makeable descriptor (geometryOf g) (now content) (now offered) (now random) ⌝ }
+    requires { ⌜ Makeable descriptor (geometryOf g) (now content) (now blocks) (now random) ⌝ }
     ensures { λ r. ⌜ Made (blockWidth (geometryOf g)) (storeOf descriptor (geometryOf g) (now (disk .entry))
-        (now (content .entry)) (now (offered .entry)) (now (random .entry)) ∷ [])
+        (now (content .entry)) (now (blocks .entry)) (now (random .entry)) ∷ [])
         (now (disk .entry)) (now (list .entry)) next (now (disk .exit)) (now (list .exit)) r ⌝ }
 {
     let source = descriptor.source;
     let first = descriptor.first;
     let second = descriptor.second;
     let address = descriptor.address;
-    take_source(disk, g, source, content, offered, random, buffer);
+    take_source(disk, g, source, content, blocks, random, buffer);
     change_block(buffer, first);
     change_block(buffer, second);
     store_block(disk, list, next, g, address, buffer)

@@ -13,13 +13,13 @@ ghost use Rattle.model.specs.Blocks.{blockAt};
 ghost use Rattle.layout.specs.Geometries.{geometryOf};
 ghost use Rattle.stores.specs.Descriptors.{plainOf, ownOf, sourceBlock, Fillable};
 
-// Where the block of a store is taken from: the disk, zeros, the call's data, what is offered, or so many
-// blocks into the round's random bytes.
+// Where the block of a store is taken from: the disk, zeros, the call's data, or so many blocks into the lent
+// blocks, for what is offered, or into the round's random bytes.
 pub enum Source {
     Disk(DiskAddress),
     Zeros,
     Content,
-    Offered,
+    Offered(u32),
     Random(u32),
 }
 
@@ -56,15 +56,15 @@ pub fn own(address: DiskAddress, first: Change, second: Change) -> Descriptor
     }
 }
 
-// The block that stands so many blocks into the random bytes.
-fn random_block<'a>(random: &'a [u8], g: Geometry, index: u32) -> &'a [u8]
-    requires { ⌜ index * geometryOf g .blockSize + geometryOf g .blockSize ≤ length (now random) ⌝ }
-    ensures { λ r. ⌜ now r ≡ blockAt (blockWidth (geometryOf g)) (now (random .entry)) index ⌝ }
+// The block that stands so many blocks into lent bytes.
+fn lent_block<'a>(lent: &'a [u8], g: Geometry, index: u32) -> &'a [u8]
+    requires { ⌜ index * geometryOf g .blockSize + geometryOf g .blockSize ≤ length (now lent) ⌝ }
+    ensures { λ r. ⌜ now r ≡ blockAt (blockWidth (geometryOf g)) (now (lent .entry)) index ⌝ }
 {
     let width = g.block_size as usize;
     let from = (index as usize) * width;
     let to = from + width;
-    &random[from..to]
+    &lent[from..to]
 }
 
 // Takes the block of a source into a lent buffer of one block.
@@ -73,20 +73,20 @@ pub fn take_source(
     g: Geometry,
     source: Source,
     content: &[u8],
-    offered: &[u8],
+    blocks: &[u8],
     random: &[u8],
     buffer: &mut [u8],
 )
-    requires { ⌜ Fillable source (geometryOf g) (now disk) (now content) (now offered) (now random)
+    requires { ⌜ Fillable source (geometryOf g) (now disk) (now content) (now blocks) (now random)
         (now buffer) ⌝ }
     ensures { λ _. ⌜ now (buffer .exit) ≡ sourceBlock source (geometryOf g) (now (disk .entry))
-        (now (content .entry)) (now (offered .entry)) (now (random .entry)) ⌝ }
+        (now (content .entry)) (now (blocks .entry)) (now (random .entry)) ⌝ }
 {
     match source {
         Source::Disk(address) => copy_at(buffer, 0, block_at(disk, g, address)),
         Source::Zeros => clear_at(buffer, 0, g.block_size as usize),
         Source::Content => copy_at(buffer, 0, content),
-        Source::Offered => copy_at(buffer, 0, offered),
-        Source::Random(index) => copy_at(buffer, 0, random_block(random, g, index)),
+        Source::Offered(place) => copy_at(buffer, 0, lent_block(blocks, g, place)),
+        Source::Random(index) => copy_at(buffer, 0, lent_block(random, g, index)),
     }
 }

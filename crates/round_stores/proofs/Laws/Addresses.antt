@@ -105,10 +105,10 @@ module _ (g : Geometry) (f : Fits g) (slot : ℕ) (inside : slot < g .slots) whe
 
 -- ---- the round ----
 
-module _ {g : Geometry} {disk : Bytes} {round : PlannedRound} {content offered random : Bytes}
-    (drive : Drive g disk) (storable : Storable g round content offered random) where
+module _ {g : Geometry} {disk : Bytes} {round : PlannedRound} {content blocks random : Bytes}
+    (drive : Drive g disk) (storable : Storable g round content blocks random) where
   abbrev trace : Trace
-  trace = plannedTrace round g disk content offered random
+  trace = plannedTrace round g disk content blocks random
 
   abbrev slot : ℕ
   slot = round .slot
@@ -119,12 +119,12 @@ module _ {g : Geometry} {disk : Bytes} {round : PlannedRound} {content offered r
 
   addresses-planned : addresses trace ≡ addressesFrom (slotStart g slot) (suc (g .height)) ++ front
   addresses-planned =
-      addresses-append (slotTrace (round .public) (round .hidden) g disk slot content offered random)
+      addresses-append (slotTrace (round .public) (round .hidden) g disk slot content blocks random)
       (endingTrace (round .public) g disk slot)
       ∙ ap₂ (λ (xs ys : List ℕ). xs ++ ys)
-      (addresses-slotTrace g disk drive slot (storable .placed .slot-inside) offered random
-      (storable .offered-whole) (storable .random-enough) content (round .public) (round .hidden)
-      (storable .placed .hidden-placed))
+      (addresses-slotTrace g disk drive slot (storable .placed .slot-inside) blocks random
+      (storable .random-enough) content (round .public) (round .hidden) (storable .placed .hidden-placed)
+      (storable .offered-lent))
       (addresses-endingTrace (round .public) g disk slot)
       ∙ append-assoc (addressesFrom (slotStart g slot) (suc (g .height))) (rootAddress g ∷ [])
       (endingAddresses (round .public) g slot)

@@ -3,6 +3,7 @@
 use mathlib.Core.Path.{_≡_, refl}
 use mathlib.Core.Bool.{Bool, true, false}
 use mathlib.Core.List.{[], _∷_, _++_}
+use mathlib.Core.Option.{none}
 use Prim.Native.Nat.{ℕ, _%_, _≤_, _<_}
 use native.Mathlib.Omega.{arith}
 use lib.ListN.{length}
@@ -35,40 +36,40 @@ module _ (g : Geometry) (f : Fits g) where
       (number slot : ℕ) → number < g .publics → (address : DiskAddress) (start : ℕ) →
       address .0 ≡ mapAddress g number → start ≡ slotStart g slot → {descriptor : Descriptor} →
       descriptor ≡ ownOf address (Entry (number % fanout g) start) Nothing → (place : ℕ) →
-      Describes g place (λ disk content offered random. mapStore g disk number slot) descriptor
+      Describes g none place (λ disk content blocks random. mapStore g disk number slot) descriptor
   describes-map number slot inside address start e s d place =
       describes-own address (Entry (number % fanout g) start) Nothing d
       (omega (arith, mapAddress-lt g f number inside)) (map-index-fits g f number) tt
-      (λ disk content offered random. rw (e, s))
+      (λ disk content blocks random. rw (e, s))
 
   pub describes-bit :
       (slot : ℕ) (isSet : Bool) → slot < g .slots → (address : DiskAddress) (bit : ℕ) →
       address .0 ≡ bitAddress g slot → bit ≡ bitPlace g slot → {descriptor : Descriptor} →
       descriptor ≡ ownOf address (Bit bit isSet) Nothing → (place : ℕ) →
-      Describes g place (λ disk content offered random. bitStore g disk slot isSet) descriptor
+      Describes g none place (λ disk content blocks random. bitStore g disk slot isSet) descriptor
   describes-bit slot isSet inside address bit e b d place =
       describes-own address (Bit bit isSet) Nothing d (omega (arith, bitAddress-lt g f slot inside))
-      (rw b (bitPlace-byte-lt g f slot)) tt (λ disk content offered random. rw (e, b, bitmapWith-is))
+      (rw b (bitPlace-byte-lt g f slot)) tt (λ disk content blocks random. rw (e, b, bitmapWith-is))
 
   pub describes-both-bits :
       (slot old : ℕ) → slot < g .slots → (address : DiskAddress) (new-bit old-bit : ℕ) →
       address .0 ≡ bitAddress g slot → new-bit ≡ bitPlace g slot → old-bit ≡ bitPlace g old →
       {descriptor : Descriptor} →
       descriptor ≡ ownOf address (Bit new-bit true) (Bit old-bit false) → (place : ℕ) →
-      Describes g place (λ disk content offered random.
+      Describes g none place (λ disk content blocks random.
       store (bitAddress g slot) (setBit (bitPlace g old) false (bitmapWith g disk slot true))) descriptor
   describes-both-bits slot old inside address new-bit old-bit e n o d place =
       describes-own address (Bit new-bit true) (Bit old-bit false) d
       (omega (arith, bitAddress-lt g f slot inside)) (rw n (bitPlace-byte-lt g f slot))
-      (rw o (bitPlace-byte-lt g f old)) (λ disk content offered random. rw (e, n, o, bitmapWith-is))
+      (rw o (bitPlace-byte-lt g f old)) (λ disk content blocks random. rw (e, n, o, bitmapWith-is))
 
   pub describes-header :
       (slot : ℕ) (address : DiskAddress) → address .0 ≡ 0 → {descriptor : Descriptor} →
       descriptor ≡ ownOf address (Entry 5 (nextSlot g slot)) Nothing → (place : ℕ) →
-      Describes g place (λ disk content offered random. headerStore g disk slot) descriptor
+      Describes g none place (λ disk content blocks random. headerStore g disk slot) descriptor
   describes-header slot address e d place =
       describes-own address (Entry 5 (nextSlot g slot)) Nothing d (omega arith)
-      (omega (arith, f .size-low)) tt (λ disk content offered random. rw e)
+      (omega (arith, f .size-low)) tt (λ disk content blocks random. rw e)
 
 -- ---- by index ----
 
@@ -85,9 +86,9 @@ pub describes-known :
     (g : Geometry) {A : Type 0} (trace : A → (disk : Bytes) → Trace) (at : ℕ) {value known : A}
     {index : ℕ} {descriptor : Descriptor} → value ≡ known → index ≡ at →
     ((place : ℕ) →
-    Describes g place (λ disk content offered random. storeAt at (trace known disk)) descriptor) →
+    Describes g none place (λ disk content blocks random. storeAt at (trace known disk)) descriptor) →
     (place : ℕ) →
-    Describes g place (λ disk content offered random. storeAt index (trace value disk)) descriptor
+    Describes g none place (λ disk content blocks random. storeAt index (trace value disk)) descriptor
 describes-known g trace at e z d place = rw (e, z) (d place)
 
 -- ---- count ----

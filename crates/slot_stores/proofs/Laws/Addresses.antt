@@ -23,27 +23,29 @@ use Rattle.plans.specs.declared.hidden_plans.Data.the-variants.{Own, Offered}
 use Rattle.plans.specs.declared.hidden_plans.HiddenPlan.{HiddenPlan}
 use Rattle.plans.specs.declared.hidden_plans.HiddenPlan.the-variants.{Back, Path, Fill}
 use Rattle.plans.specs.declared.public_plans.PublicPlan.{PublicPlan}
-use Rattle.plans.specs.HiddenPlans.{dataOf, hiddenTrace, PathPlaced}
+use Rattle.plans.specs.HiddenPlans.{dataOf, hiddenTrace, offeredIn, offeredBy, BlockLent, PathPlaced}
 use Rattle.plans.specs.PublicPlans.{choiceOf}
+use Rattle.stores.proofs.Laws.Descriptors.{length-lentBlock}
 use Rattle.slot_stores.specs.Slots.{slotTrace}
 
 module _ (g : Geometry) (disk : Bytes) (drive : Drive g disk) (slot : ℕ) (inside : slot < g .slots)
-    (offered random : Bytes) (sized : length offered ≡ g .blockSize)
-    (enough : g .height * g .blockSize ≤ length random) where
-  length-dataOf : (which : Data) → length (dataOf which g disk slot offered) ≡ g .blockSize
-  length-dataOf Own =
+    (blocks random : Bytes) (enough : g .height * g .blockSize ≤ length random) where
+  length-dataOf : (which : Data) → BlockLent g blocks (offeredIn which) →
+      length (dataOf which g disk slot blocks) ≡ g .blockSize
+  length-dataOf Own lent =
       blockAt-whole g (drive .fits) disk (drive .whole) (levelAddress g slot 0)
       (slot-block-lt g slot (g .height) inside (omega arith))
-  length-dataOf Offered = sized
+  length-dataOf (Offered place) lent = length-lentBlock g blocks place lent
 
   hiddenTrace-hides :
-      (plan : HiddenPlan) → PathPlaced g plan → Hides g slot (hiddenTrace plan g disk slot offered random)
-  hiddenTrace-hides Back placed = writtenBack-hides g (drive .fits) disk (drive .whole) slot inside
-  hiddenTrace-hides (Path number nodes which) placed =
+      (plan : HiddenPlan) → PathPlaced g plan → BlockLent g blocks (offeredBy plan) →
+      Hides g slot (hiddenTrace plan g disk slot blocks random)
+  hiddenTrace-hides Back placed lent = writtenBack-hides g (drive .fits) disk (drive .whole) slot inside
+  hiddenTrace-hides (Path number nodes which) placed lent =
       let f = drive .fits in
       let at = addressAt nodes in
-      pathStores-hides g f disk (drive .whole) slot inside (number .0) (dataOf which g disk slot offered)
-      (pathBlocks g disk at) (length-dataOf which)
+      pathStores-hides g f disk (drive .whole) slot inside (number .0) (dataOf which g disk slot blocks)
+      (pathBlocks g disk at) (length-dataOf which lent)
       (record {
         counted = omega (arith, length-nodeBlocks g disk at (g .height - 1), f .height-low);
         whole = (
@@ -51,16 +53,17 @@ module _ (g : Geometry) (disk : Bytes) (drive : Drive g disk) (slot : ℕ) (insi
           nodeBlocks-whole g disk drive at placed (g .height - 1),
         );
       })
-  hiddenTrace-hides Fill placed =
+  hiddenTrace-hides Fill placed lent =
       dummyStores-hides g (drive .fits) disk (drive .whole) slot inside random enough
 
   pub addresses-slotTrace :
       (content : Bytes) (public : PublicPlan) (hidden : HiddenPlan) → PathPlaced g hidden →
-      addresses (slotTrace public hidden g disk slot content offered random) ≡ slotAddresses g slot
-  addresses-slotTrace content public hidden placed =
+      BlockLent g blocks (offeredBy hidden) →
+      addresses (slotTrace public hidden g disk slot content blocks random) ≡ slotAddresses g slot
+  addresses-slotTrace content public hidden placed lent =
       addresses-cons (publicStore (choiceOf public) g disk slot content) _
       ∙ ap (λ (xs : List ℕ). publicStore (choiceOf public) g disk slot content .address ∷ xs)
-      (hiddenTrace-hides hidden placed .runs)
+      (hiddenTrace-hides hidden placed lent .runs)
       ∙ rw (
         publicStore-address (choiceOf public) g disk slot content,
         addressesFrom-suc,

@@ -2,7 +2,7 @@
 -- Assumes nothing.
 use mathlib.Core.Path.{_≡_, refl, sym, ap, ap₂, _∙_}
 use mathlib.Core.Logic.{_≢_, inl, inr}
-use mathlib.Core.Option.{Option}
+use mathlib.Core.Option.{Option, none}
 use Prim.Native.Nat.{ℕ, _+_, _-_, _≤_, _<_}
 use native.Mathlib.Omega.{arith}
 use Rattle.model.specs.Geometry.{Geometry, Fits, fanout, rootAddress, blockWidth}
@@ -21,7 +21,7 @@ use Rattle.hidden_map.specs.declared.nodes.Node.the-variants.{Read, NotReached}
 use Rattle.hidden_map.specs.Nodes.{nodeOf, nodeBlock, pathBlocks, StandsByLevel}
 use Rattle.plans.specs.declared.hidden_plans.Data.{Data}
 use Rattle.plans.specs.declared.hidden_plans.Data.the-variants.{Own, Offered}
-use Rattle.plans.specs.HiddenPlans.{dataOf}
+use Rattle.plans.specs.HiddenPlans.{dataOf, offeredIn}
 use Rattle.stores.specs.declared.changes.Change.{Change}
 use Rattle.stores.specs.declared.changes.Change.the-variants.{Nothing, Entry}
 use Rattle.stores.specs.declared.descriptors.Source.{Source}
@@ -32,20 +32,20 @@ use Rattle.stores.specs.Described.{storeAt, Takes, Describes}
 use Rattle.slot_stores.specs.Slots.{SlotPlace}
 use Rattle.slot_stores.specs.Sources.{nodeSource, dataSource}
 use Rattle.slot_stores.proofs.Laws.Places.{storeAt-path-node, storeAt-path-data, storeAt-path-root}
-use Rattle.stores.proofs.Laws.Described.{describes-own, describes-plain, describes-same}
+use Rattle.stores.proofs.Laws.Described.{describes-own, describes-plain, describes-same, describes-offering}
 
 -- ---- a node ----
 
 nodeSource-block :
-    (node : Node) (g : Geometry) (disk content offered random : Bytes) →
-    sourceBlock (nodeSource node) g disk content offered random ≡ nodeBlock g disk (nodeOf node)
-nodeSource-block (Read address) g disk content offered random = refl
-nodeSource-block NotReached g disk content offered random = refl
+    (node : Node) (g : Geometry) (disk content blocks random : Bytes) →
+    sourceBlock (nodeSource node) g disk content blocks random ≡ nodeBlock g disk (nodeOf node)
+nodeSource-block (Read address) g disk content blocks random = refl
+nodeSource-block NotReached g disk content blocks random = refl
 
 nodeSource-takes :
     (node : Node) (g : Geometry) (at : ℕ → Option ℕ) (level own : ℕ) → StandsByLevel g at →
     level < g .height →
-    nodeOf node ≡ at level → Takes g level own (nodeSource node)
+    nodeOf node ≡ at level → Takes g none level own (nodeSource node)
 nodeSource-takes (Read address) g at level own placed high e =
     inr (high, placed .well-formed level (address .0) (sym e))
 nodeSource-takes NotReached g at level own placed high e = tt
@@ -67,26 +67,26 @@ module _ {g : Geometry} {slot number level : ℕ} {at : ℕ → Option ℕ} {add
     (l : NodeLinked g slot number level at address below branch node taken) where
   -- what is taken is the level's node
   node-block :
-      (disk content offered random : Bytes) →
-      sourceBlock taken g disk content offered random ≡ nodeBlock g disk (at level)
-  node-block disk content offered random =
-      rw (l .takes) (nodeSource-block node g disk content offered random ∙ ap (nodeBlock g disk) (l .read))
+      (disk content blocks random : Bytes) →
+      sourceBlock taken g disk content blocks random ≡ nodeBlock g disk (at level)
+  node-block disk content blocks random =
+      rw (l .takes) (nodeSource-block node g disk content blocks random ∙ ap (nodeBlock g disk) (l .read))
 
   -- and it takes one entry
   node-entry :
-      (disk content offered random : Bytes) →
-      setEntry branch (below .0) (sourceBlock taken g disk content offered random) ≡
+      (disk content blocks random : Bytes) →
+      setEntry branch (below .0) (sourceBlock taken g disk content blocks random) ≡
       setEntry (branchAt g number (level - 1)) (levelAddress g slot (level - 1)) (nodeBlock g disk (at level))
-  node-entry disk content offered random =
-      ap₂ (λ (b a : ℕ). setEntry b a (sourceBlock taken g disk content offered random)) (l .branches)
+  node-entry disk content blocks random =
+      ap₂ (λ (b a : ℕ). setEntry b a (sourceBlock taken g disk content blocks random)) (l .branches)
       (l .under)
       ∙ ap (setEntry (branchAt g number (level - 1)) (levelAddress g slot (level - 1)))
-      (node-block disk content offered random)
+      (node-block disk content blocks random)
 
   -- what is stored with this second change is the level's node
   abbrev OfNode : (second : Change) → Type 0
   OfNode second =
-      Describes g level (λ disk content offered random.
+      Describes g none level (λ disk content blocks random.
       store (levelAddress g slot level) (linkedNode g number slot (level - 1) (nodeBlock g disk (at level))))
       (record {
         address = address;
@@ -105,9 +105,9 @@ module _ {g : Geometry} {slot number level : ℕ} {at : ℕ → Option ℕ} {add
       OfNode second
   node-described second within links =
       record {
-        means = λ disk content offered random.
+        means = λ disk content blocks random.
             ap₂ store (l .to)
-            (ap (changed second) (node-entry disk content offered random)
+            (ap (changed second) (node-entry disk content blocks random)
             ∙ links (nodeBlock g disk (at level)));
         address-inside =
             rw (l .to) (levelAddress-lt g slot level (l .at-level .slot-inside) (l .at-level .high));
@@ -133,43 +133,43 @@ module _ {g : Geometry} {slot number level : ℕ} {at : ℕ → Option ℕ} {add
 
 dataSource-takes :
     (which : Data) (g : Geometry) (place : ℕ) (own : DiskAddress) →
-    Takes g place (own .0) (dataSource own which)
+    Takes g (offeredIn which) place (own .0) (dataSource own which)
 dataSource-takes Own g place own = inl refl
-dataSource-takes Offered g place own = tt
+dataSource-takes (Offered at) g place own = refl
 
 dataSource-block :
-    (which : Data) (g : Geometry) (slot : ℕ) (own : DiskAddress) (disk content offered random : Bytes) →
+    (which : Data) (g : Geometry) (slot : ℕ) (own : DiskAddress) (disk content blocks random : Bytes) →
     own .0 ≡ levelAddress g slot 0 →
-    sourceBlock (dataSource own which) g disk content offered random ≡ dataOf which g disk slot offered
-dataSource-block Own g slot own disk content offered random e = ap (blockAt (blockWidth g) disk) e
-dataSource-block Offered g slot own disk content offered random e = refl
+    sourceBlock (dataSource own which) g disk content blocks random ≡ dataOf which g disk slot blocks
+dataSource-block Own g slot own disk content blocks random e = ap (blockAt (blockWidth g) disk) e
+dataSource-block (Offered at) g slot own disk content blocks random e = refl
 
 pub data-described :
     (g : Geometry) (fits : Fits g) (slot : ℕ) (inside : slot < g .slots) (which : Data) (own : DiskAddress) →
     own .0 ≡ levelAddress g slot 0 →
     {taken : Source} → taken ≡ dataSource own which → {descriptor : Descriptor} →
     descriptor ≡ plainOf own taken →
-    Describes g (g .height) (λ disk content offered random.
-    store (levelAddress g slot 0) (dataOf which g disk slot offered)) descriptor
+    Describes g (offeredIn which) (g .height) (λ disk content blocks random.
+    store (levelAddress g slot 0) (dataOf which g disk slot blocks)) descriptor
 data-described g fits slot inside which own to takes e =
     describes-plain own (dataSource own which) (e ∙ ap (plainOf own) takes)
     (rw to (levelAddress-lt g slot 0 inside (omega (arith, fits .height-low))))
     (dataSource-takes which g (g .height) own)
-    (λ disk content offered random.
-    ap₂ store to (dataSource-block which g slot own disk content offered random to))
+    (λ disk content blocks random.
+    ap₂ store to (dataSource-block which g slot own disk content blocks random to))
 
 pub root-described :
     (g : Geometry) (fits : Fits g) (slot number branch : ℕ) (root below : DiskAddress) →
     root .0 ≡ rootAddress g → below .0 ≡ levelAddress g slot (g .height - 1) →
     branch ≡ branchAt g number (g .height - 1) →
     {descriptor : Descriptor} → descriptor ≡ ownOf root (Entry branch (below .0)) Nothing →
-    Describes g (g .height + 1) (λ disk content offered random.
+    Describes g none (g .height + 1) (λ disk content blocks random.
     store (rootAddress g)
     (linkedNode g number slot (g .height - 1) (blockAt (blockWidth g) disk (rootAddress g)))) descriptor
 root-described g fits slot number branch root below to under branches e =
     describes-own root (Entry branch (below .0)) Nothing e (rw to (rootAddress-lt g))
     (rw branches (branchAt-fits g fits number (g .height - 1))) tt
-    (λ disk content offered random.
+    (λ disk content blocks random.
     ap₂ store to
     (ap₂ (λ (b a : ℕ). setEntry b a (blockAt (blockWidth g) disk (root .0))) branches under
     ∙ ap (λ (a : ℕ). setEntry (branchAt g number (g .height - 1)) (levelAddress g slot (g .height - 1))
@@ -184,39 +184,39 @@ module _ (g : Geometry) (fits : Fits g) (number slot place : ℕ) (which : Data)
   -- it describes the store at the place
   abbrev OfPath : Descriptor → Type 0
   OfPath descriptor =
-      Describes g place (λ disk content offered random.
+      Describes g (offeredIn which) place (λ disk content blocks random.
       storeAt (place - 1)
-      (pathStores g number slot (dataOf which g disk slot offered) (pathBlocks g disk at))) descriptor
+      (pathStores g number slot (dataOf which g disk slot blocks) (pathBlocks g disk at))) descriptor
 
   pub describes-path-node :
       {descriptor : Descriptor} → 1 ≤ place → place < g .height →
-      Describes g place (λ disk content offered random.
+      Describes g none place (λ disk content blocks random.
       store (levelAddress g slot place)
       (linkedNode g number slot (place - 1) (nodeBlock g disk (at place)))) descriptor →
       OfPath descriptor
   describes-path-node low high d =
-      describes-same d refl
-      (λ disk content offered random.
-      storeAt-path-node g fits number slot place (dataOf which g disk slot offered) disk at low high)
+      describes-same (describes-offering d) refl
+      (λ disk content blocks random.
+      storeAt-path-node g fits number slot place (dataOf which g disk slot blocks) disk at low high)
 
   pub describes-path-data :
       {descriptor : Descriptor} → place ≡ g .height →
-      Describes g (g .height) (λ disk content offered random.
-      store (levelAddress g slot 0) (dataOf which g disk slot offered)) descriptor →
+      Describes g (offeredIn which) (g .height) (λ disk content blocks random.
+      store (levelAddress g slot 0) (dataOf which g disk slot blocks)) descriptor →
       OfPath descriptor
   describes-path-data e d =
       describes-same d e
-      (λ disk content offered random.
-      storeAt-path-data g fits number slot place (dataOf which g disk slot offered) disk at e)
+      (λ disk content blocks random.
+      storeAt-path-data g fits number slot place (dataOf which g disk slot blocks) disk at e)
 
   pub describes-path-root :
       {descriptor : Descriptor} → g .height < place → place < g .height + 2 →
-      Describes g (g .height + 1) (λ disk content offered random.
+      Describes g none (g .height + 1) (λ disk content blocks random.
       store (rootAddress g) (linkedNode g number slot (g .height - 1)
       (blockAt (blockWidth g) disk (rootAddress g)))) descriptor →
       OfPath descriptor
   describes-path-root low high d =
       let e : place ≡ g .height + 1 = omega arith in
-      describes-same d e
-      (λ disk content offered random.
-      storeAt-path-root g fits number slot place (dataOf which g disk slot offered) disk at e)
+      describes-same (describes-offering d) e
+      (λ disk content blocks random.
+      storeAt-path-root g fits number slot place (dataOf which g disk slot blocks) disk at e)

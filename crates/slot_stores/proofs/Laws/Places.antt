@@ -144,16 +144,16 @@ length-path g f number slot content disk at =
     (omega (arith, f .height-low, length-lowestStores g number slot disk at (g .height - 1)))
 
 length-hiddenTrace :
-    (g : Geometry) → Fits g → (disk offered random : Bytes) (slot : ℕ) (plan : HiddenPlan) →
-    length (hiddenTrace plan g disk slot offered random) ≡ g .height + 1
-length-hiddenTrace g f disk offered random slot Back = length-writtenBack g disk slot
-length-hiddenTrace g f disk offered random slot (Path number nodes which) =
-    length-path g f (number .0) slot (dataOf which g disk slot offered) disk (addressAt nodes)
-length-hiddenTrace g f disk offered random slot Fill = length-dummyStores g disk slot random
+    (g : Geometry) → Fits g → (disk blocks random : Bytes) (slot : ℕ) (plan : HiddenPlan) →
+    length (hiddenTrace plan g disk slot blocks random) ≡ g .height + 1
+length-hiddenTrace g f disk blocks random slot Back = length-writtenBack g disk slot
+length-hiddenTrace g f disk blocks random slot (Path number nodes which) =
+    length-path g f (number .0) slot (dataOf which g disk slot blocks) disk (addressAt nodes)
+length-hiddenTrace g f disk blocks random slot Fill = length-dummyStores g disk slot random
 
 pub length-slotTrace :
-    (g : Geometry) → Fits g → (disk content offered random : Bytes) (slot : ℕ) (public : PublicPlan)
+    (g : Geometry) → Fits g → (disk content blocks random : Bytes) (slot : ℕ) (public : PublicPlan)
     (hidden : HiddenPlan) →
-    length (slotTrace public hidden g disk slot content offered random) ≡ g .height + 2
-length-slotTrace g f disk content offered random slot public hidden =
-    omega (arith, length-hiddenTrace g f disk offered random slot hidden)
+    length (slotTrace public hidden g disk slot content blocks random) ≡ g .height + 2
+length-slotTrace g f disk content blocks random slot public hidden =
+    omega (arith, length-hiddenTrace g f disk blocks random slot hidden)

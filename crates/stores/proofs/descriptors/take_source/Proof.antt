@@ -21,32 +21,38 @@ start-of c = c .before .before .before .before .before
 abbrev at-disk : tie.After-copy-at-arg → tie.After-source
 at-disk c = c .before .before
 
-abbrev at-random : tie.After-copy-at-arg4 → tie.After-source2
+abbrev at-offered : tie.After-copy-at-arg3 → tie.After-source2
+at-offered c = c .before .before
+
+abbrev at-random : tie.After-copy-at-arg4 → tie.After-source3
 at-random c = c .before .before
 
 abbrev start-disk : tie.After-source → tie.Start
 start-disk c = start-of (c .before .before)
 
-abbrev start-random : tie.After-source2 → tie.Start
+abbrev start-offered : tie.After-source2 → tie.Start
+start-offered c = start-of (c .before .before)
+
+abbrev start-random : tie.After-source3 → tie.Start
 start-random c = start-of (c .before .before)
 
 -- ---- what is known there ----
 
 -- what a known source asks
 known : (s : tie.Start) (source : Source) → s .args .source ≡ source →
-    Takeable source (geometryOf (s .args .g)) (s .args .content .now) (s .args .offered .now)
+    Takeable source (geometryOf (s .args .g)) (s .args .content .now) (s .args .blocks .now)
     (s .args .random .now)
 known s source e =
-    takeable-known (geometryOf (s .args .g)) (s .args .content .now) (s .args .offered .now)
+    takeable-known (geometryOf (s .args .g)) (s .args .content .now) (s .args .blocks .now)
     (s .args .random .now) e (s .pre .takeable)
 
 -- the block of a known source is as long as the buffer
 long : (s : tie.Start) (source : Source) → s .args .source ≡ source →
     length (sourceBlock source (geometryOf (s .args .g)) (s .args .disk .now) (s .args .content .now)
-    (s .args .offered .now) (s .args .random .now)) ≡ length (s .args .buffer .now)
+    (s .args .blocks .now) (s .args .random .now)) ≡ length (s .args .buffer .now)
 long s source e =
     length-sourceBlock (geometryOf (s .args .g)) (s .args .disk .now) (s .args .content .now)
-    (s .args .offered .now) (s .args .random .now) (s .pre .drive) source (known s source e)
+    (s .args .blocks .now) (s .args .random .now) (s .pre .drive) source (known s source e)
     ∙ sym (s .pre .whole)
 
 -- a buffer that took the block of a known source
@@ -54,11 +60,11 @@ filled :
     (s : tie.Start) (source : Source) → s .args .source ≡ source → {after new : Bytes} →
     after ≡ over 0 new (s .args .buffer .now) →
     new ≡ sourceBlock source (geometryOf (s .args .g)) (s .args .disk .now) (s .args .content .now)
-    (s .args .offered .now) (s .args .random .now) →
+    (s .args .blocks .now) (s .args .random .now) →
     after ≡ sourceBlock (s .args .source) (geometryOf (s .args .g)) (s .args .disk .now)
-    (s .args .content .now) (s .args .offered .now) (s .args .random .now)
+    (s .args .content .now) (s .args .blocks .now) (s .args .random .now)
 filled s source e {after} {new} f n =
-    took (geometryOf (s .args .g)) (s .args .content .now) (s .args .offered .now) (s .args .random .now) e
+    took (geometryOf (s .args .g)) (s .args .content .now) (s .args .blocks .now) (s .args .random .now) e
     (s .args .disk .now) new (s .args .buffer .now) f (ap length n ∙ long s source e) n
 
 -- ---- the disk ----
@@ -106,7 +112,7 @@ returns-2 c =
     let told = cleared .before .before .before in
     filled (start-of (told .before .before)) _ (told .enum-told .given .1) (cleared .clear-at .ensures) refl
 
--- ---- what is lent ----
+-- ---- the call's data ----
 
 enum-told-2 : tie.Need-enum-told-2
 enum-told-2 c = search needs
@@ -125,13 +131,19 @@ returns-3 c =
     let told = copied .before .before in
     filled (start-of (told .before .before)) _ (told .enum-told2 .given .1) (copied .copy-at2 .ensures) refl
 
-enum-told-3 : tie.Need-enum-told-3
-enum-told-3 c = search needs
+-- ---- lent blocks ----
+
+enum-known-source-2 : tie.Need-enum-known-source-2
+enum-known-source-2 c = search needs
+
+lent-block-requires : tie.Need-lent-block-requires
+lent-block-requires c κs =
+    let at = at-offered c in known (start-offered at) _ (at .source2 .given .1)
 
 copy-at-requires-3 : tie.Need-copy-at-requires-3
 copy-at-requires-3 c κs =
-    let told = c .before in
-    omega (arith, long (start-of (told .before .before)) _ (told .enum-told3 .given .1))
+    let at = at-offered (c .before) in
+    omega (arith, ap length (c .lent-block .ensures), long (start-offered at) _ (at .source2 .given .1))
 
 same-length-4 : tie.Need-same-length-4
 same-length-4 c = search needs
@@ -139,22 +151,23 @@ same-length-4 c = search needs
 returns-4 : tie.Need-returns-4
 returns-4 c =
     let copied = c .before .before in
-    let told = copied .before .before in
-    filled (start-of (told .before .before)) _ (told .enum-told3 .given .1) (copied .copy-at3 .ensures) refl
+    let at = at-offered (copied .before .before) in
+    filled (start-offered at) _ (at .source2 .given .1) (copied .copy-at3 .ensures)
+    (copied .before .lent-block .ensures)
 
 -- ---- random bytes ----
 
-enum-known-source-2 : tie.Need-enum-known-source-2
-enum-known-source-2 c = search needs
+enum-known-source-3 : tie.Need-enum-known-source-3
+enum-known-source-3 c = search needs
 
-random-block-requires : tie.Need-random-block-requires
-random-block-requires c κs =
-    let at = at-random c in known (start-random at) _ (at .source2 .given .1)
+lent-block-requires-2 : tie.Need-lent-block-requires-2
+lent-block-requires-2 c κs =
+    let at = at-random c in known (start-random at) _ (at .source3 .given .1)
 
 copy-at-requires-4 : tie.Need-copy-at-requires-4
 copy-at-requires-4 c κs =
     let at = at-random (c .before) in
-    omega (arith, ap length (c .random-block .ensures), long (start-random at) _ (at .source2 .given .1))
+    omega (arith, ap length (c .lent-block2 .ensures), long (start-random at) _ (at .source3 .given .1))
 
 same-length-5 : tie.Need-same-length-5
 same-length-5 c = search needs
@@ -163,13 +176,13 @@ returns-5 : tie.Need-returns-5
 returns-5 c =
     let copied = c .before .before in
     let at = at-random (copied .before .before) in
-    filled (start-random at) _ (at .source2 .given .1) (copied .copy-at4 .ensures)
-    (copied .before .random-block .ensures)
+    filled (start-random at) _ (at .source3 .given .1) (copied .copy-at4 .ensures)
+    (copied .before .lent-block2 .ensures)
 
 pub take-source-spec : {M : Type 1} → statement M
 take-source-spec =
     tie.close
     (tie.spec enum-known-source block-at-requires copy-at-requires enum-told cast-clear-at clear-at-requires
-    enum-told-2 copy-at-requires-2 enum-told-3 copy-at-requires-3 enum-known-source-2 random-block-requires
-    copy-at-requires-4 same-length returns same-length-2 returns-2 same-length-3 returns-3 same-length-4
-    returns-4 same-length-5 returns-5)
+    enum-told-2 copy-at-requires-2 enum-known-source-2 lent-block-requires copy-at-requires-3
+    enum-known-source-3 lent-block-requires-2 copy-at-requires-4 same-length returns same-length-2 returns-2
+    same-length-3 returns-3 same-length-4 returns-4 same-length-5 returns-5)

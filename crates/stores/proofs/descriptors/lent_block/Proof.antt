@@ -1,12 +1,12 @@
--- `random_block` meets its contract: the block ends inside the random bytes. Assumes nothing.
+-- `lent_block` meets its contract: the block ends inside the lent bytes. Assumes nothing.
 use mathlib.Core.Path.{_≡_, sym, _∙_}
 use Prim.Native.Nat.{_+_, _*_, _-_}
 use native.Mathlib.Omega.{arith}
 use borrow.Author.Needs.{needs}
 use Rattle.laws.proofs.Lists.{part-is}
 use Rattle.model.proofs.Laws.Blocks.{blockAt-is}
-use Rattle.stores.proofs.descriptors.random_block.Statement.{statement}
-use Rattle.stores.proofs.descriptors.random_block.Tie as tie
+use Rattle.stores.proofs.descriptors.lent_block.Statement.{statement}
+use Rattle.stores.proofs.descriptors.lent_block.Tie as tie
 
 cast-width : tie.Need-cast-width
 cast-width c = search needs
@@ -32,8 +32,8 @@ returns c =
     let width = s .g .«block_size» in
     let from = s .index * width in
     let size : from + width - from ≡ width = omega arith in
-    rw size (sym (blockAt-is width (s .random .now) (s .index) ∙ part-is from width (s .random .now)))
+    rw size (sym (blockAt-is width (s .lent .now) (s .index) ∙ part-is from width (s .lent .now)))
 
-pub random-block-spec : {M : Type 1} → statement M
-random-block-spec =
+pub lent-block-spec : {M : Type 1} → statement M
+lent-block-spec =
     tie.close (tie.spec cast-width mul-from add-to sub-result part-result-start part-result-end returns)

@@ -2,8 +2,7 @@
 // one for the waiting number where that is another.
 use crate::hidden_plans::Data;
 use crate::hidden_plans::HiddenPlan;
-use crate::states::Offer;
-use crate::states::State;
+use crate::states::Turn;
 use crate::states::is_waiting;
 use hidden_map::ends::is_damaged;
 use hidden_map::walks::Trail;
@@ -11,6 +10,8 @@ use hidden_map::walks::walk;
 use layout::bitmap::is_allocated;
 use layout::geometry::Geometry;
 use layout::numbers::HiddenNumber;
+use line::offers::Offer;
+use line::turns::First;
 use owners::Owner;
 use owners::is_live;
 use owners::is_owner_damaged;
@@ -25,13 +26,14 @@ ghost use Rattle.model.specs.Layout.{Drive};
 ghost use Rattle.layout.specs.Geometries.{geometryOf};
 ghost use Rattle.hidden_map.specs.Walks.{Walked};
 ghost use Rattle.owners.specs.Owners.{OwnWalked};
-ghost use Rattle.plans.specs.Plans.{keptPlan, placedPlan, stateAfter, HalfPlanned, Planned};
+ghost use Rattle.plans.specs.Plans.{keptPlan, placedPlan, FirstPlanned, HalfPlanned, turnOf};
+ghost use Rattle.plans.specs.Plans.{Planned};
 
-// The choice for the public block, the plan of the hidden half, and the state of the offer after the round.
+// The choice for the public block, the plan of the hidden half, and what it does with the first one waiting.
 pub struct Plans {
     pub choice: PublicChoice,
     pub plan: HiddenPlan,
-    pub after: State,
+    pub turn: Turn,
 }
 
 // ---- the hidden half ----
@@ -66,17 +68,34 @@ fn plan_kept(owner: Owner) -> HiddenPlan
     }
 }
 
-// The plan for a number that is placed: its path with what is offered, or the slot written back where its
-// walk is damaged.
-fn plan_placed(number: HiddenNumber, trail: Trail) -> HiddenPlan
-    ensures { λ r. ⌜ r ≡ placedPlan number trail ⌝ }
+// The plan for an offer that is placed: its number's path with its block, or the slot written back where the
+// number's walk is damaged.
+fn plan_placed(offer: Offer, trail: Trail) -> HiddenPlan
+    ensures { λ r. ⌜ r ≡ placedPlan offer trail ⌝ }
 {
+    let number = offer.number;
+    let place = offer.place;
     let end = trail.end;
     let nodes = trail.nodes;
     if is_damaged(end) {
         return HiddenPlan::Back;
     }
-    HiddenPlan::Path(number, nodes, Data::Offered)
+    HiddenPlan::Path(number, nodes, Data::Offered(place))
+}
+
+// The plan for the first one waiting; where nobody waits, random bytes.
+fn plan_first(disk: &[u8], g: Geometry, owner: Owner, first: First) -> HiddenPlan
+    requires { ⌜ Drive (geometryOf g) (now disk) ⌝ }
+    requires { ⌜ OwnWalked (geometryOf g) (now disk) owner ⌝ }
+    ensures { λ r. ⌜ FirstPlanned (geometryOf g) (now (disk .entry)) first r ⌝ }
+{
+    match first {
+        First::Nobody => HiddenPlan::Fill,
+        First::Waits(offer) => {
+            let number = offer.number;
+            plan_placed(offer, next_trail(disk, g, owner, number))
+        }
+    }
 }
 
 // The plan for a slot's hidden half by the table's choice, or the slot written back where its owner's walk is
@@ -86,53 +105,45 @@ fn plan_half(
     g: Geometry,
     choice: HiddenChoice,
     owner: Owner,
-    number: HiddenNumber,
+    first: First,
 ) -> HiddenPlan
     requires { ⌜ Drive (geometryOf g) (now disk) ⌝ }
     requires { ⌜ OwnWalked (geometryOf g) (now disk) owner ⌝ }
-    ensures { λ r. ⌜ HalfPlanned (geometryOf g) (now (disk .entry)) choice owner number r ⌝ }
+    ensures { λ r. ⌜ HalfPlanned (geometryOf g) (now (disk .entry)) choice owner first r ⌝ }
 {
     if is_owner_damaged(owner) {
         return HiddenPlan::Back;
     }
     match choice {
         HiddenChoice::Keep => plan_kept(owner),
-        HiddenChoice::Place => plan_placed(number, next_trail(disk, g, owner, number)),
+        HiddenChoice::Place => plan_first(disk, g, owner, first),
         HiddenChoice::Fill => HiddenPlan::Fill,
     }
 }
 
-// The state of the offer after a round with this plan.
-fn state_after(state: State, plan: HiddenPlan) -> State
-    ensures { λ r. ⌜ r ≡ stateAfter state plan ⌝ }
+// What a plan does with the first one waiting.
+fn turn_of(plan: HiddenPlan) -> Turn
+    ensures { λ r. ⌜ r ≡ turnOf plan ⌝ }
 {
-    let offer = state.offer;
     match plan {
-        HiddenPlan::Back => State {
-            offer,
-            met_damage: true,
-        },
+        HiddenPlan::Back => Turn::Damaged,
         HiddenPlan::Path(_, _, data) => match data {
-            Data::Own => state,
-            Data::Offered => State {
-                offer: Offer::Placed,
-                met_damage: state.met_damage,
-            },
+            Data::Own => Turn::Still,
+            Data::Offered(_) => Turn::Placed,
         },
-        HiddenPlan::Fill => state,
+        HiddenPlan::Fill => Turn::Still,
     }
 }
 
 // ---- the round ----
 
 // What a round at a slot is to do, by the table's row.
-pub fn plan_round(disk: &[u8], g: Geometry, slot: u32, state: State, number: HiddenNumber) -> Plans
+pub fn plan_round(disk: &[u8], g: Geometry, slot: u32, first: First) -> Plans
     requires { ⌜ Drive (geometryOf g) (now disk) ⌝ }
     requires { ⌜ slot < g .slots ⌝ }
-    ensures { λ r. ⌜ Planned (geometryOf g) (now (disk .entry)) slot state (number .0) r ⌝ }
+    ensures { λ r. ⌜ Planned (geometryOf g) (now (disk .entry)) slot first r ⌝ }
 {
-    let offer = state.offer;
-    let waiting = is_waiting(offer);
+    let waiting = is_waiting(first);
     let own = owner_of(disk, g, slot);
     let owner = walk_owner(disk, g, own);
     let row = row_at(
@@ -142,10 +153,10 @@ pub fn plan_round(disk: &[u8], g: Geometry, slot: u32, state: State, number: Hid
     );
     let choice = row.public;
     let hidden_choice = row.hidden;
-    let plan = plan_half(disk, g, hidden_choice, owner, number);
+    let plan = plan_half(disk, g, hidden_choice, owner, first);
     Plans {
         choice,
         plan,
-        after: state_after(state, plan),
+        turn: turn_of(plan),
     }
 }

@@ -20,12 +20,12 @@ chosen :
     (c : tie.Else1) (told : HiddenChoice) →
     let a = startOf (c .before) .args in
     a .choice ≡ told → (hidden : HiddenPlan) →
-    PlannedBy told (geometryOf (a .g)) (a .disk .now) (a .owner) (a .number) hidden →
-    HalfPlanned (geometryOf (a .g)) (a .disk .now) (a .choice) (a .owner) (a .number) hidden
+    PlannedBy told (geometryOf (a .g)) (a .disk .now) (a .owner) (a .first) hidden →
+    HalfPlanned (geometryOf (a .g)) (a .disk .now) (a .choice) (a .owner) (a .first) hidden
 chosen c told e hidden h =
     let judged = c .before in
     let a = startOf judged .args in
-    half-chosen (geometryOf (a .g)) (a .disk .now) (a .choice) (a .owner) (a .number)
+    half-chosen (geometryOf (a .g)) (a .disk .now) (a .choice) (a .owner) (a .first)
     (judged .is-owner-damaged .result) (judged .is-owner-damaged .ensures) (c .if1 .left) told e hidden h
 
 is-owner-damaged-requires : tie.Need-is-owner-damaged-requires
@@ -35,7 +35,7 @@ returns : tie.Need-returns
 returns c =
     let judged = c .before in
     let a = startOf judged .args in
-    half-stopped (geometryOf (a .g)) (a .disk .now) (a .choice) (a .owner) (a .number)
+    half-stopped (geometryOf (a .g)) (a .disk .now) (a .choice) (a .owner) (a .first)
     (judged .is-owner-damaged .result) (judged .is-owner-damaged .ensures) (c .if1 .taken)
 
 enum-told : tie.Need-enum-told
@@ -47,11 +47,8 @@ plan-kept-requires c κs = search needs
 enum-told-2 : tie.Need-enum-told-2
 enum-told-2 c = search needs
 
-next-trail-requires : tie.Need-next-trail-requires
-next-trail-requires c κs = search needs
-
-plan-placed-requires : tie.Need-plan-placed-requires
-plan-placed-requires c κs = search needs
+plan-first-requires : tie.Need-plan-first-requires
+plan-first-requires c κs = search needs
 
 enum-told-3 : tie.Need-enum-told-3
 enum-told-3 c = search needs
@@ -64,11 +61,9 @@ returns-2 c =
 
 returns-3 : tie.Need-returns-3
 returns-3 c =
-    let walked = c .before in
-    let told = walked .before in
+    let told = c .before in
     let free = told .before .before in
-    chosen free Place (told .enum-told2 .given .1) (c .plan-placed .result)
-    (walked .next-trail .result, (walked .next-trail .ensures, c .plan-placed .ensures))
+    chosen free Place (told .enum-told2 .given .1) (c .plan-first .result) (c .plan-first .ensures)
 
 returns-4 : tie.Need-returns-4
 returns-4 c =
@@ -84,8 +79,7 @@ plan-half-spec =
     enum-told
     plan-kept-requires
     enum-told-2
-    next-trail-requires
-    plan-placed-requires
+    plan-first-requires
     enum-told-3
     returns-2
     returns-3

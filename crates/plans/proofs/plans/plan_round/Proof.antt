@@ -21,7 +21,7 @@ known :
     (c : tie.After-row-at) →
     let walked = walkedOf c in
     let a = startOf walked .args in
-    Settled (geometryOf (a .g)) (a .disk .now) (a .slot) (a .state .offer) (a .number .0) (c .row-at .result)
+    Settled (geometryOf (a .g)) (a .disk .now) (a .slot) (a .first) (c .row-at .result)
     (walked .walk-owner .result)
 known c =
     let live = c .before in
@@ -30,7 +30,7 @@ known c =
     let owned = walked .before .owner-of in
     let waiting = waitingOf walked .is-waiting in
     let a = startOf walked .args in
-    settled (geometryOf (a .g)) (a .disk .now) (a .slot) (owned .result .0) (a .state .offer) (a .number .0)
+    settled (geometryOf (a .g)) (a .disk .now) (a .slot) (owned .result .0) (a .first)
     (c .row-at .result) (walked .walk-owner .result) (waiting .result) (allocated .is-allocated .result)
     (live .is-live .result) (owned .ensures) (walked .walk-owner .ensures) (waiting .ensures)
     (allocated .is-allocated .ensures) (live .is-live .ensures) (c .row-at .ensures)
@@ -63,8 +63,8 @@ plan-half-requires c κs =
           (walked .walk-owner .result) (walked .walk-owner .ensures),
     )
 
-state-after-requires : tie.Need-state-after-requires
-state-after-requires c κs = search needs
+turn-of-requires : tie.Need-turn-of-requires
+turn-of-requires c κs = search needs
 
 returns : tie.Need-returns
 returns c =
@@ -72,9 +72,9 @@ returns c =
     let row = half .before in
     let walked = walkedOf row in
     let a = startOf walked .args in
-    planned (geometryOf (a .g)) (a .disk .now) (a .slot) (a .state) (a .number) (row .row-at .result)
+    planned (geometryOf (a .g)) (a .disk .now) (a .slot) (a .first) (row .row-at .result)
     (walked .walk-owner .result) (known row) (half .plan-half .result) (half .plan-half .ensures)
-    (c .state-after .result) (c .state-after .ensures)
+    (c .turn-of .result) (c .turn-of .ensures)
 
 pub plan-round-spec : {M : Type 1} → statement M
 plan-round-spec =
@@ -87,5 +87,5 @@ plan-round-spec =
     is-live-requires
     row-at-requires
     plan-half-requires
-    state-after-requires
+    turn-of-requires
     returns)

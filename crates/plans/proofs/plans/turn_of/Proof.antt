@@ -1,12 +1,12 @@
--- `state_after` meets its contract, by the plan. Assumes nothing.
+-- `turn_of` meets its contract, by the plan. Assumes nothing.
 use mathlib.Core.Path.{sym, ap, _∙_}
 use borrow.Author.Needs.{needs}
 use Rattle.plans.specs.declared.hidden_plans.Data.{Data}
 use Rattle.plans.specs.declared.hidden_plans.HiddenPlan.the-variants.{Path}
-use Rattle.plans.specs.declared.states.State.{State}
-use Rattle.plans.specs.Plans.{stateAfter}
-use Rattle.plans.proofs.plans.state_after.Statement.{statement}
-use Rattle.plans.proofs.plans.state_after.Tie as tie
+use Rattle.plans.specs.declared.states.Turn.{Turn}
+use Rattle.plans.specs.Plans.{turnOf}
+use Rattle.plans.proofs.plans.turn_of.Statement.{statement}
+use Rattle.plans.proofs.plans.turn_of.Tie as tie
 
 -- the plan is a path, with the slot's own data and with what is offered
 abbrev ownOf : tie.At-match2-keys1 → tie.After-plan
@@ -15,13 +15,9 @@ ownOf c = c .before .before
 abbrev offeredOf : tie.At-match2-keys2 → tie.After-plan
 offeredOf c = c .before .before
 
-abbrev startOf : tie.After-plan → tie.Start
-startOf c = c .before .before
-
--- the state after it, by its data
-abbrev pathAfter : tie.After-plan → Data → State
-pathAfter c which =
-    let told = c .plan .given .0 in stateAfter (startOf c .args .state) (Path (told .0) (told .1 .0) which)
+-- what it does, by its data
+abbrev pathTurn : tie.After-plan → Data → Turn
+pathTurn c which = let told = c .plan .given .0 in turnOf (Path (told .0) (told .1 .0) which)
 
 enum-told : tie.Need-enum-told
 enum-told c = search needs
@@ -39,26 +35,23 @@ enum-told-4 : tie.Need-enum-told-4
 enum-told-4 c = search needs
 
 returns : tie.Need-returns
-returns c =
-    let a = c .before .before .args in sym (ap (stateAfter (a .state)) (c .enum-told .given .1))
+returns c = sym (ap turnOf (c .enum-told .given .1))
 
 returns-2 : tie.Need-returns-2
 returns-2 c =
     let path = ownOf (c .before) in
-    sym (ap (stateAfter (startOf path .args .state)) (path .plan .given .1)
-    ∙ ap (pathAfter path) (c .enum-told2 .given .1))
+    sym (ap turnOf (path .plan .given .1) ∙ ap (pathTurn path) (c .enum-told2 .given .1))
 
 returns-3 : tie.Need-returns-3
 returns-3 c =
     let path = offeredOf (c .before) in
-    sym (ap (stateAfter (startOf path .args .state)) (path .plan .given .1)
-    ∙ ap (pathAfter path) (c .enum-told3 .given .1))
+    sym (ap turnOf (path .plan .given .1) ∙ ap (pathTurn path) (c .enum-told3 .given .1))
 
 returns-4 : tie.Need-returns-4
 returns-4 c = search needs
 
-pub state-after-spec : {M : Type 1} → statement M
-state-after-spec =
+pub turn-of-spec : {M : Type 1} → statement M
+turn-of-spec =
     tie.close
     (tie.spec
     enum-told

@@ -8,13 +8,14 @@ use Rattle.model.specs.Blocks.{Bytes, DiskAddress}
 use Rattle.model.specs.Layout.{mapEntry}
 use Rattle.model.specs.Stores.{Trace}
 use Rattle.model.specs.Table.{PublicChoice}
-use Rattle.model.specs.HiddenHalf.{HiddenState, hiddenHalf, rowOf}
+use Rattle.model.specs.HiddenHalf.{HiddenWrite, HiddenState, hiddenHalf, rowOf}
 use Rattle.model.specs.Rounds.{goesOn, roundTrace}
 use Rattle.layout.specs.PublicMap.{OldEntry}
-use Rattle.stores.specs.Made.{Made}
-use Rattle.plans.specs.declared.states.State.{State}
+use Rattle.stores.specs.Made.{LentFor, Made}
+use Rattle.line.specs.declared.turns.First.{First}
+use Rattle.plans.specs.HiddenPlans.{BlockLent}
+use Rattle.plans.specs.States.{firstPlace, waitingBy, turned}
 use Rattle.rounds.specs.declared.rounds.Step.{Step}
-use Rattle.plans.specs.States.{stateOf}
 
 -- what the table says of a slot's public block
 abbrev pub choiceAt : Geometry → (disk : Bytes) → (slot : ℕ) → HiddenState → PublicChoice
@@ -27,24 +28,32 @@ roundAt g disk number slot content random state =
     roundTrace (choiceAt g disk slot state) g disk number slot content
     (hiddenHalf g disk slot random state .trace)
 
--- a public number with a place or none, a slot, whole blocks of data, and random bytes for one round
-pub record RoundReady (g : Geometry) (disk : Bytes) (number slot : ℕ) (content random offered : Bytes) :
-    Type 0 where
+-- a public number with a place or none, a slot, a whole block of data, the first one's block lent whole, and
+-- random bytes for one round
+pub record RoundReady (g : Geometry) (disk : Bytes) (number slot : ℕ) (content random : Bytes) (first : First)
+    (blocks : Bytes) : Type 0 where
   pub number-inside : number < g .publics
   pub slot-inside : slot < g .slots
   pub content-whole : length content ≡ g .blockSize
-  pub offered-whole : length offered ≡ g .blockSize
+  pub first-lent : BlockLent g blocks (firstPlace first)
   pub random-enough : g .height * g .blockSize ≤ length random
   pub old-entry : OldEntry g (mapEntry g disk number)
 
--- its stores are made, and it answers the state of the offer and whether another round follows
+-- what is lent for the stores of a round, by some state in which this one is first
+pub record RoundLent (g : Geometry) (disk buffer : Bytes) (list : List DiskAddress) (next number slot : ℕ)
+    (content random : Bytes) (first : First) (blocks : Bytes) : Type 0 where
+  pub state : HiddenState
+  pub later : List HiddenWrite
+  pub waits : state .waiting ≡ waitingBy g blocks first later
+  pub lent : LentFor g disk buffer list next (length (roundAt g disk number slot content random state))
+
+-- the round of a state in which others wait behind the first one: its stores are made, and it answers what
+-- becomes of the state and whether another round follows
 pub record RoundDone (g : Geometry) (disk : Bytes) (list : List DiskAddress) (next number slot : ℕ)
-    (content random : Bytes) (state : State) (hiddenNumber : ℕ) (offered : Bytes) (diskAfter : Bytes)
+    (content random : Bytes) (later : List HiddenWrite) (state : HiddenState) (diskAfter : Bytes)
     (listAfter : List DiskAddress) (step : Step) : Type 0 where
   pub made :
-      Made (blockWidth g) (roundAt g disk number slot content random (stateOf state hiddenNumber offered))
-      disk list next diskAfter listAfter (step .next)
-  pub state-is :
-      stateOf (step .state) hiddenNumber offered ≡
-      hiddenHalf g disk slot random (stateOf state hiddenNumber offered) .state
-  pub goes-on : step .«goes_on» ≡ goesOn (choiceAt g disk slot (stateOf state hiddenNumber offered))
+      Made (blockWidth g) (roundAt g disk number slot content random state) disk list next diskAfter listAfter
+      (step .next)
+  pub state-is : turned (step .turn) later state ≡ hiddenHalf g disk slot random state .state
+  pub goes-on : step .«goes_on» ≡ goesOn (choiceAt g disk slot state)

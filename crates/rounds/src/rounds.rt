@@ -1,30 +1,33 @@
 // One round: planned, and then stored.
 use layout::geometry::Geometry;
-use layout::numbers::HiddenNumber;
 use layout::numbers::PublicNumber;
+use line::turns::First;
 use plans::plans::plan_round;
 use plans::public_plans::plan_public;
-use plans::states::State;
+use plans::states::Turn;
 use round_stores::planned::PlannedRound;
 use round_stores::planned::round_store;
 use round_stores::planned::store_count;
 use stores::blocks::make_store;
 use table::PublicChoice;
 ghost use mathlib.Core.Path.{_≡_};
+ghost use mathlib.Core.List.{List};
 ghost use lib.ListN.{length};
 ghost use Rattle.model.specs.Geometry.{blockWidth};
+ghost use Rattle.model.specs.HiddenHalf.{HiddenWrite, HiddenState};
 ghost use Rattle.model.specs.Rounds.{goesOn};
 ghost use Rattle.layout.specs.Geometries.{geometryOf};
 ghost use Rattle.stores.specs.Made.{LentFor, Made};
 ghost use Rattle.table.specs.Rows.{publicOf};
-ghost use Rattle.plans.specs.States.{stateOf};
+ghost use Rattle.plans.specs.States.{waitingBy};
 ghost use Rattle.round_stores.specs.Planned.{plannedTrace, Storable};
-ghost use Rattle.rounds.specs.Rounds.{roundAt, RoundReady, RoundDone};
+ghost use Rattle.rounds.specs.Rounds.{RoundReady, RoundLent, RoundDone};
 
-// The index after a round's stores in the list, the state of the offer, and whether another round follows.
+// The index after a round's stores in the list, what it did with the first one waiting, and whether another
+// round follows.
 pub struct Step {
     pub next: usize,
-    pub state: State,
+    pub turn: Turn,
     pub goes_on: bool,
 }
 
@@ -46,15 +49,15 @@ fn store_round(
     g: Geometry,
     round: PlannedRound,
     content: &[u8],
-    offered: &[u8],
+    blocks: &[u8],
     random: &[u8],
     buffer: &mut [u8],
 ) -> usize
     requires { ⌜ LentFor (geometryOf g) (now disk) (now buffer) (now list) first (length (plannedTrace round
-        (geometryOf g) (now disk) (now content) (now offered) (now random))) ⌝ }
-    requires { ⌜ Storable (geometryOf g) round (now content) (now offered) (now random) ⌝ }
+        (geometryOf g) (now disk) (now content) (now blocks) (now random))) ⌝ }
+    requires { ⌜ Storable (geometryOf g) round (now content) (now blocks) (now random) ⌝ }
     ensures { λ r. ⌜ Made (blockWidth (geometryOf g)) (plannedTrace round (geometryOf g) (now (disk .entry))
-        (now (content .entry)) (now (offered .entry)) (now (random .entry)))
+        (now (content .entry)) (now (blocks .entry)) (now (random .entry)))
         (now (disk .entry)) (now (list .entry)) first (now (disk .exit)) (now (list .exit)) r ⌝ }
 {
     let count = store_count(g, round);
@@ -69,7 +72,7 @@ fn store_round(
             g,
             descriptor,
             content,
-            offered,
+            blocks,
             random,
             buffer,
         );
@@ -78,7 +81,7 @@ fn store_round(
     next
 }
 
-// A round at a slot.
+// A round at a slot, with the first one waiting, whoever waits behind it.
 pub fn do_round(
     disk: &mut [u8],
     list: &mut [u32],
@@ -88,33 +91,32 @@ pub fn do_round(
     slot: u32,
     content: &[u8],
     random: &[u8],
-    state: State,
-    hidden_number: HiddenNumber,
-    offered: &[u8],
+    first: First,
+    blocks: &[u8],
     buffer: &mut [u8],
 ) -> Step
-    requires { ⌜ LentFor (geometryOf g) (now disk) (now buffer) (now list) next (length (roundAt
-        (geometryOf g) (now disk) (number .0) slot (now content) (now random)
-        (stateOf state («hidden_number» .0) (now offered)))) ⌝ }
-    requires { ⌜ RoundReady (geometryOf g) (now disk) (number .0) slot (now content) (now random)
-        (now offered) ⌝ }
-    ensures { λ r. ⌜ RoundDone (geometryOf g) (now (disk .entry)) (now (list .entry)) next (number .0) slot
-        (now (content .entry)) (now (random .entry)) state («hidden_number» .0) (now (offered .entry))
-        (now (disk .exit)) (now (list .exit)) r ⌝ }
+    requires { ⌜ RoundLent (geometryOf g) (now disk) (now buffer) (now list) next (number .0) slot
+        (now content) (now random) first (now blocks) ⌝ }
+    requires { ⌜ RoundReady (geometryOf g) (now disk) (number .0) slot (now content) (now random) first
+        (now blocks) ⌝ }
+    ensures { λ r. ⌜ ((later : List HiddenWrite) (state : HiddenState) →
+        state .waiting ≡ waitingBy (geometryOf g) (now (blocks .entry)) first later →
+        RoundDone (geometryOf g) (now (disk .entry)) (now (list .entry)) next (number .0) slot
+        (now (content .entry)) (now (random .entry)) later state (now (disk .exit)) (now (list .exit)) r) ⌝ }
 {
-    let plans = plan_round(disk, g, slot, state, hidden_number);
+    let plans = plan_round(disk, g, slot, first);
     let choice = plans.choice;
     let plan = plans.plan;
-    let after = plans.after;
+    let turn = plans.turn;
     let round = PlannedRound {
         slot,
         public: plan_public(disk, g, number, slot, choice),
         hidden: plan,
     };
-    let last = store_round(disk, list, next, g, round, content, offered, random, buffer);
+    let last = store_round(disk, list, next, g, round, content, blocks, random, buffer);
     Step {
         next: last,
-        state: after,
+        turn,
         goes_on: is_kept(choice),
     }
 }

@@ -1,24 +1,25 @@
 // The rounds of a write, from the head on until one takes the call's data.
 use crate::rounds::do_round;
 use layout::geometry::Geometry;
-use layout::numbers::HiddenNumber;
 use layout::numbers::PublicNumber;
+use line::turns::first_of;
 use plans::states::State;
+use plans::states::state_after;
 ghost use mathlib.Core.Path.{_≡_};
 ghost use lib.ListN.{length};
-ghost use Rattle.model.specs.Rounds.{runFrom};
 ghost use Rattle.layout.specs.Geometries.{geometryOf};
-ghost use Rattle.plans.specs.States.{stateOf};
-ghost use Rattle.rounds.specs.Runs.{Runnable, RunMade};
+ghost use Rattle.line.specs.Turns.{offersBy};
+ghost use Rattle.rounds.specs.Runs.{turnsRun, Runnable, RunMade};
 
-// The index after all stores in the list, how many rounds there were, and the state of the offer.
+// The index after all stores in the list, how many rounds there were, and how far the turns came.
 pub struct Ran {
     pub next: usize,
     pub rounds: u32,
     pub state: State,
 }
 
-// Rounds from a slot on, at most one for each slot. Round i has the i-th k × B random bytes.
+// Rounds from a slot on, at most one for each slot, each with the first turn that is not placed yet. Round i
+// has the i-th k × B random bytes.
 pub fn do_rounds(
     disk: &mut [u8],
     list: &mut [u32],
@@ -28,28 +29,35 @@ pub fn do_rounds(
     head: u32,
     content: &[u8],
     random: &[u8],
-    state: State,
-    hidden_number: HiddenNumber,
-    offered: &[u8],
+    numbers: &[u32],
+    places: &[u32],
+    blocks: &[u8],
     buffer: &mut [u8],
 ) -> Ran
-    requires { ⌜ Runnable (geometryOf g) (now disk) (number .0) head (now content) (now random) (now offered)
-        (runFrom (geometryOf g .slots) (geometryOf g) (number .0) (now content) head (now random) (now disk)
-        (stateOf state («hidden_number» .0) (now offered))) first (length (now list)) ⌝ }
+    requires { ⌜ Runnable (geometryOf g) (now disk) (number .0) head (now content) (now random)
+        (offersBy (now numbers) (now places)) (now blocks) (turnsRun (geometryOf g) (now disk) (number .0)
+        head (now content) (now random) (offersBy (now numbers) (now places)) (now blocks)) first
+        (length (now list)) ⌝ }
     requires { ⌜ length (now buffer) ≡ geometryOf g .blockSize ⌝ }
-    ensures { λ r. ⌜ RunMade (geometryOf g) (now (disk .entry)) (now (list .entry)) first (runFrom
-        (geometryOf g .slots) (geometryOf g) (number .0) (now (content .entry)) head (now (random .entry))
-        (now (disk .entry)) (stateOf state («hidden_number» .0) (now (offered .entry)))) («hidden_number» .0)
-        (now (offered .entry)) (now (disk .exit)) (now (list .exit)) r ⌝ }
+    ensures { λ r. ⌜ RunMade (geometryOf g) (now (disk .entry)) (now (list .entry)) first (turnsRun
+        (geometryOf g) (now (disk .entry)) (number .0) head (now (content .entry)) (now (random .entry))
+        (offersBy (now (numbers .entry)) (now (places .entry))) (now (blocks .entry)))
+        (offersBy (now (numbers .entry)) (now (places .entry))) (now (blocks .entry)) (now (disk .exit))
+        (now (list .exit)) r ⌝ }
 {
     let slots = g.slots;
     let width = (g.height as usize) * (g.block_size as usize);
     let mut slot = head;
     let mut next = first;
-    let mut reached = state;
+    let mut reached = State {
+        placed: 0,
+        met_damage: false,
+    };
     let mut done: u32 = 0;
     while done < slots {
         let from = (done as usize) * width;
+        let placed = reached.placed;
+        let waiting = first_of(numbers, places, placed);
         let step = do_round(
             disk,
             list,
@@ -59,13 +67,13 @@ pub fn do_rounds(
             slot,
             content,
             &random[from..],
-            reached,
-            hidden_number,
-            offered,
+            waiting,
+            blocks,
             buffer,
         );
         next = step.next;
-        reached = step.state;
+        let turn = step.turn;
+        reached = state_after(reached, turn);
         done += 1;
         if !step.goes_on {
             return Ran {
@@ -93,17 +101,19 @@ pub fn run_write(
     head: u32,
     content: &[u8],
     random: &[u8],
-    state: State,
-    hidden_number: HiddenNumber,
-    offered: &[u8],
+    numbers: &[u32],
+    places: &[u32],
+    blocks: &[u8],
 ) -> Ran
-    requires { ⌜ Runnable (geometryOf g) (now disk) (number .0) head (now content) (now random) (now offered)
-        (runFrom (geometryOf g .slots) (geometryOf g) (number .0) (now content) head (now random) (now disk)
-        (stateOf state («hidden_number» .0) (now offered))) 0 (length (now list)) ⌝ }
-    ensures { λ r. ⌜ RunMade (geometryOf g) (now (disk .entry)) (now (list .entry)) 0 (runFrom
-        (geometryOf g .slots) (geometryOf g) (number .0) (now (content .entry)) head (now (random .entry))
-        (now (disk .entry)) (stateOf state («hidden_number» .0) (now (offered .entry)))) («hidden_number» .0)
-        (now (offered .entry)) (now (disk .exit)) (now (list .exit)) r ⌝ }
+    requires { ⌜ Runnable (geometryOf g) (now disk) (number .0) head (now content) (now random)
+        (offersBy (now numbers) (now places)) (now blocks) (turnsRun (geometryOf g) (now disk) (number .0)
+        head (now content) (now random) (offersBy (now numbers) (now places)) (now blocks)) 0
+        (length (now list)) ⌝ }
+    ensures { λ r. ⌜ RunMade (geometryOf g) (now (disk .entry)) (now (list .entry)) 0 (turnsRun
+        (geometryOf g) (now (disk .entry)) (number .0) head (now (content .entry)) (now (random .entry))
+        (offersBy (now (numbers .entry)) (now (places .entry))) (now (blocks .entry)))
+        (offersBy (now (numbers .entry)) (now (places .entry))) (now (blocks .entry)) (now (disk .exit))
+        (now (list .exit)) r ⌝ }
 {
     let size = g.block_size as usize;
     let mut buffer = [0u8; 4096];
@@ -116,9 +126,9 @@ pub fn run_write(
         head,
         content,
         random,
-        state,
-        hidden_number,
-        offered,
+        numbers,
+        places,
+        blocks,
         &mut buffer[..size],
     )
 }

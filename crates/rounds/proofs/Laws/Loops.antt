@@ -1,8 +1,8 @@
--- Laws of the loop over the rounds of a write: what holds whenever its test is reached, that a round keeps
--- it, and that the run is all done where it ends. Assumes nothing.
-use mathlib.Core.Path.{_≡_, refl, sym, ap, ap₂, subst, _∙_}
+-- Laws of the loop over the rounds of a write: that a round keeps what holds whenever its test is reached,
+-- and that the run is all done where it ends. Assumes nothing.
+use mathlib.Core.Path.{_≡_, sym, ap, ap₂, subst, _∙_}
 use mathlib.Core.Bool.{true, false}
-use mathlib.Core.List.{List, [], _++_}
+use mathlib.Core.List.{List, _++_}
 use Prim.Native.Nat.{ℕ, suc, _+_, _*_, _-_, _≤_, _<_}
 use native.Mathlib.Nat.{mul-le-mul-right, add-mul}
 use native.Mathlib.Omega.{arith}
@@ -11,80 +11,44 @@ use lib.Seq.{drop-drop}
 use Rattle.laws.proofs.Cases.{cond-true, cond-false}
 use Rattle.model.specs.Geometry.{Geometry, blockWidth}
 use Rattle.model.specs.Blocks.{Bytes, DiskAddress}
-use Rattle.model.specs.Layout.{Drive, nextSlot}
+use Rattle.model.specs.Layout.{nextSlot}
 use Rattle.model.specs.Stores.{Trace, apply}
 use Rattle.model.specs.Table.{PublicChoice}
 use Rattle.model.specs.HiddenHalf.{HiddenState, hiddenHalf}
+use Rattle.model.specs.Line.{Offer}
 use Rattle.model.specs.Rounds.{Run, goesOn, roundTrace, runFrom}
 use Rattle.model.proofs.Laws.HiddenHalf.{WholeWrite, hiddenHalf-hides}
 use Rattle.model.proofs.Laws.Paths.{Hides}
 use Rattle.model.proofs.Laws.Places.{Placed}
 use Rattle.model.proofs.Laws.RoundStores.{Round, round-stored}
-use Rattle.model.proofs.Laws.RunSteps.{after, after-nothing, after-round, after-stopped, restBy}
+use Rattle.model.proofs.Laws.RunSteps.{after, after-round, after-stopped, restBy}
 use Rattle.model.proofs.Laws.RunSteps.{runFrom-suc, runFrom-zero, keep-of-goesOn}
 use Rattle.model.proofs.Laws.Slots.{nextSlot-lt}
 use Rattle.model.proofs.Laws.Wrote.{placed-kept}
 use Rattle.layout.proofs.Laws.PublicMap.{entry-of-placed}
-use Rattle.stores.specs.Made.{LentFor, Made}
-use Rattle.stores.proofs.Laws.Made.{disk-after, next-after, made-nothing, made-then, drive-made}
+use Rattle.stores.specs.Made.{Made}
+use Rattle.stores.proofs.Laws.Made.{disk-after, next-after, made-then, drive-made}
 use Rattle.stores.proofs.Laws.Made.{length-made-list}
+use Rattle.line.specs.declared.turns.First.{First}
+use Rattle.line.specs.Turns.{firstAt}
 use Rattle.plans.specs.declared.states.State.{State}
 use Rattle.rounds.specs.declared.rounds.Step.{Step}
-use Rattle.plans.specs.States.{stateOf}
-use Rattle.rounds.specs.Rounds.{choiceAt, roundAt, RoundReady, RoundDone}
+use Rattle.plans.specs.States.{waitingBy, stateAfter, stateOf}
+use Rattle.rounds.specs.Rounds.{choiceAt, roundAt, RoundReady, RoundLent, RoundDone}
 use Rattle.rounds.specs.Runs.{Runnable}
-use Rattle.rounds.proofs.Laws.Steps.{waiting-whole}
+use Rattle.rounds.proofs.Laws.Going.{Going}
+use Rattle.rounds.proofs.Laws.Waiting.{behind, waiting-first, first-lent, waiting-whole, turned-is}
+use Rattle.rounds.proofs.Laws.Waiting.{placed-after}
 
--- what holds whenever the loop's test is reached
-pub record Going (g : Geometry) (number : ℕ) (content random offered : Bytes) (hiddenNumber : ℕ) (run : Run)
-    (disk : Bytes) (list : List DiskAddress) (first : ℕ) (diskNow : Bytes) (listNow : List DiskAddress)
-    (slot next : ℕ) (state : State) (done : ℕ) : Type 0 where
-  pub front : Trace
-  pub made : Made (blockWidth g) front disk list first diskNow listNow next
-  pub within : done ≤ g .slots
-  pub drive : Drive g diskNow
-  pub inside : slot < g .slots
-  pub placed : Placed g diskNow number
-  pub list-kept : length listNow ≡ length list
-  pub run-is :
-      run ≡ after front done (runFrom (g .slots - done) g number content slot
-      (drop (done * (g .height * g .blockSize)) random) diskNow (stateOf state hiddenNumber offered))
-
-module _ (g : Geometry) (number : ℕ) (content random offered : Bytes) (hiddenNumber : ℕ) (disk : Bytes)
-    (head : ℕ) (list : List DiskAddress) (first : ℕ) (state : State) where
-  abbrev pub theRun : Run
-  theRun = runFrom (g .slots) g number content head random disk (stateOf state hiddenNumber offered)
-
-  pub going-none :
-      Runnable g disk number head content random offered theRun first (length list) →
-      Going g number content random offered hiddenNumber theRun disk list first disk list head first state 0
-  going-none r =
-      let e : g .slots ≡ g .slots - 0 = omega arith in
-      let z : 0 ≡ 0 * (g .height * g .blockSize) = omega arith in
-      record {
-        front = [];
-        made = made-nothing (blockWidth g) disk list first (omega (arith, r .room-enough));
-        within = omega arith;
-        drive = r .drive;
-        inside = r .head-inside;
-        placed = r .old-place;
-        list-kept = refl;
-        run-is =
-            after-nothing theRun
-            ∙ ap₂ (λ (n m : ℕ).
-            after [] 0 (runFrom n g number content head (drop m random) disk
-            (stateOf state hiddenNumber offered))) e z;
-      }
-
-module _ {g : Geometry} {number head : ℕ} {content random offered : Bytes} {hiddenNumber : ℕ} {run : Run}
-    {disk : Bytes} {list : List DiskAddress} {first : ℕ}
-    (ready : Runnable g disk number head content random offered run first (length list)) {diskNow : Bytes}
-    {listNow : List DiskAddress} {slot next : ℕ} {state : State} {done : ℕ}
-    (going : Going g number content random offered hiddenNumber run disk list first diskNow listNow slot next
-    state done)
+module _ {g : Geometry} {number head : ℕ} {content random : Bytes} {turns : List Offer} {blocks : Bytes}
+    {run : Run} {disk : Bytes} {list : List DiskAddress} {first : ℕ}
+    (ready : Runnable g disk number head content random turns blocks run first (length list))
+    {diskNow : Bytes} {listNow : List DiskAddress} {slot next : ℕ} {state : State} {done : ℕ}
+    (going : Going g number content random turns blocks run disk list first diskNow listNow slot next state
+    done)
   where
     abbrev stateNow : HiddenState
-    stateNow = stateOf state hiddenNumber offered
+    stateNow = stateOf g state turns blocks
 
     abbrev randomNow : Bytes
     randomNow = drop (done * (g .height * g .blockSize)) random
@@ -150,30 +114,41 @@ module _ {g : Geometry} {number head : ℕ} {content random offered : Bytes} {hi
             ready .room-enough,
           )
 
-      pub round-lent : {buffer : Bytes} → length buffer ≡ g .blockSize →
-          LentFor g diskNow buffer listNow next (length round)
-      round-lent whole = record { drive = going .drive; whole = whole; room = round-room }
-
       random-here : g .height * g .blockSize ≤ length randomNow
       random-here = simp length-drop (omega (arith, random-from))
 
-      pub round-ready : RoundReady g diskNow number slot content randomNow offered
-      round-ready =
-          record {
-            number-inside = ready .number-inside;
-            slot-inside = going .inside;
-            content-whole = ready .content-whole;
-            offered-whole = ready .offered-whole;
-            random-enough = random-here;
-            old-entry = entry-of-placed g diskNow number (going .placed);
-          }
+      -- the turn that is first now
+      module _ {waiting : First} (taken : waiting ≡ firstAt turns (state .placed)) where
+        pub round-waits :
+            stateNow .waiting ≡ waitingBy g blocks waiting (behind g blocks turns (state .placed))
+        round-waits = rw taken (waiting-first g blocks turns (state .placed))
+
+        pub round-lent : {buffer : Bytes} → length buffer ≡ g .blockSize →
+            RoundLent g diskNow buffer listNow next number slot content randomNow waiting blocks
+        round-lent whole =
+            record {
+              state = stateNow;
+              later = behind g blocks turns (state .placed);
+              waits = round-waits;
+              lent = record { drive = going .drive; whole = whole; room = round-room };
+            }
+
+        pub round-ready : RoundReady g diskNow number slot content randomNow waiting blocks
+        round-ready =
+            record {
+              number-inside = ready .number-inside;
+              slot-inside = going .inside;
+              content-whole = ready .content-whole;
+              first-lent = rw taken (first-lent g blocks turns (state .placed) (ready .turns-lent));
+              random-enough = random-here;
+              old-entry = entry-of-placed g diskNow number (going .placed);
+            }
 
       hides : Hides g slot (hiddenHalf g diskNow slot randomNow stateNow .trace)
       hides =
           hiddenHalf-hides g (going .drive .fits) diskNow (going .drive .whole) slot (going .inside) randomNow
-          random-here
-          (WholeWrite g) (λ write h. h) stateNow (waiting-whole g (state .offer) hiddenNumber offered
-          (ready .offered-whole)) .hides
+          random-here (WholeWrite g) (λ write h. h) stateNow
+          (waiting-whole g blocks turns (state .placed) (ready .turns-lent)) .hides
 
       this-round : Round g diskNow number slot content (hiddenHalf g diskNow slot randomNow stateNow .trace)
       this-round =
@@ -188,8 +163,9 @@ module _ {g : Geometry} {number head : ℕ} {content random offered : Bytes} {hi
           }
 
       module _ {diskAfter : Bytes} {listAfter : List DiskAddress} {step : Step}
-          (stepped : RoundDone g diskNow listNow next number slot content randomNow state hiddenNumber offered
-          diskAfter listAfter step) where
+          (stepped : RoundDone g diskNow listNow next number slot content randomNow
+          (behind g blocks turns (state .placed)) stateNow diskAfter listAfter step) {reached : State}
+          (moved : reached ≡ stateAfter state (step .turn)) where
         made-round : Made (blockWidth g) (going .front ++ round) disk list first diskAfter listAfter
             (step .next)
         made-round =
@@ -197,20 +173,26 @@ module _ {g : Geometry} {number head : ℕ} {content random offered : Bytes} {hi
             (omega (arith, round-room, next-after (going .made), going .list-kept)) (going .made)
             (stepped .made)
 
+        state-done : stateOf g reached turns blocks ≡ hiddenHalf g diskNow slot randomNow stateNow .state
+        state-done =
+            ap (λ (s : State). stateOf g s turns blocks) moved
+            ∙ sym (turned-is g blocks turns state (step .turn))
+            ∙ stepped .state-is
+
         -- no other round follows: all of the run is done
         pub run-ends :
             step .«goes_on» ≡ false →
             run ≡ record {
               trace = going .front ++ round;
               rounds = done + 1;
-              state = stateOf (step .state) hiddenNumber offered;
+              state = stateOf g reached turns blocks;
             }
         run-ends e =
             run-round
             ∙ ap (after (going .front ++ round) (done + 1)) (cond-false _ _ (sym (stepped .goes-on) ∙ e))
             ∙ after-stopped (going .front ++ round) (done + 1) _
             ∙ ap (λ (s : HiddenState). record { trace = going .front ++ round; rounds = done + 1; state = s })
-            (sym (stepped .state-is))
+            (sym state-done)
 
         pub made-ends :
             step .«goes_on» ≡ false → Made (blockWidth g) (run .trace) disk list first diskAfter listAfter
@@ -223,9 +205,8 @@ module _ {g : Geometry} {number head : ℕ} {content random offered : Bytes} {hi
         -- another round follows
         pub going-next :
             step .«goes_on» ≡ true →
-            Going g number content random offered hiddenNumber run disk list first diskAfter listAfter
-            (nextSlot g slot)
-            (step .next) (step .state) (done + 1)
+            Going g number content random turns blocks run disk list first diskAfter listAfter
+            (nextSlot g slot) (step .next) reached (done + 1)
         going-next e =
             let on : goesOn (choiceAt g diskNow slot stateNow) ≡ true = sym (stepped .goes-on) ∙ e in
             let kept = keep-of-goesOn (choiceAt g diskNow slot stateNow) on in
@@ -243,6 +224,7 @@ module _ {g : Geometry} {number head : ℕ} {content random offered : Bytes} {hi
                   Placed g (apply (blockWidth g) (roundTrace choice g diskNow number slot content
                   (hiddenHalf g diskNow slot randomNow stateNow .trace)) diskNow) number) (sym kept)
                   (placed-kept this-round));
+              few = rw moved (omega (arith, placed-after state (step .turn), going .few));
               list-kept = length-made-list (stepped .made) round-room ∙ going .list-kept;
               run-is =
                   run-round
@@ -255,30 +237,19 @@ module _ {g : Geometry} {number head : ℕ} {content random offered : Bytes} {hi
                 (hiddenHalf g diskNow slot randomNow stateNow .state) ≡
                 runFrom (g .slots - (done + 1)) g number content (nextSlot g slot)
                 (drop ((done + 1) * (g .height * g .blockSize)) random) diskAfter
-                (stateOf (step .state) hiddenNumber offered)
+                (stateOf g reached turns blocks)
             rest-same =
                 let width : ℕ = g .height * g .blockSize in
-                let moved : done * (g .height * g .blockSize) + g .height * g .blockSize ≡
+                let moved-on : done * (g .height * g .blockSize) + g .height * g .blockSize ≡
                 (done + 1) * (g .height * g .blockSize) =
                 omega (arith, add-mul done 1 (g .height * g .blockSize)) in
                 let dropped : drop (g .height * g .blockSize) randomNow ≡
                 drop ((done + 1) * (g .height * g .blockSize)) random =
                 drop-drop (g .height * g .blockSize) (done * (g .height * g .blockSize)) random
-                ∙ ap (λ (n : ℕ). drop n random) moved in
+                ∙ ap (λ (n : ℕ). drop n random) moved-on in
                 ap₂ (λ (xs ds : Bytes).
                 runFrom (g .slots - (done + 1)) g number content (nextSlot g slot) xs ds
                 (hiddenHalf g diskNow slot randomNow stateNow .state)) dropped
                 (sym (disk-after (stepped .made)))
                 ∙ ap (runFrom (g .slots - (done + 1)) g number content (nextSlot g slot)
-                (drop ((done + 1) * (g .height * g .blockSize)) random) diskAfter) (sym (stepped .state-is))
-
--- the loop's invariant: that, and a buffer as long as it was
-pub record Looping (g : Geometry) (number : ℕ) (content random offered : Bytes) (hiddenNumber : ℕ) (run : Run)
-    (disk : Bytes) (list : List DiskAddress) (first : ℕ) (buffer diskNow : Bytes)
-    (listNow : List DiskAddress) (bufferNow : Bytes) (slot next : ℕ) (state : State) (done : ℕ) : Type 0
-  where
-    pub going :
-        Going g number content random offered hiddenNumber run disk list first diskNow listNow slot next state
-        done
-    pub disk-kept : length diskNow ≡ length disk
-    pub buffer-kept : length bufferNow ≡ length buffer
+                (drop ((done + 1) * (g .height * g .blockSize)) random) diskAfter) (sym state-done)

@@ -8,48 +8,36 @@ use Rattle.model.specs.Geometry.{Geometry, blockWidth}
 use Rattle.model.specs.Blocks.{Bytes, DiskAddress}
 use Rattle.model.specs.Stores.{Trace}
 use Rattle.model.specs.Table as model
-use Rattle.model.specs.HiddenHalf.{HiddenHalf, hiddenHalf}
+use Rattle.model.specs.HiddenHalf.{HiddenWrite, HiddenState, HiddenHalf, half, hiddenHalf, rowOf}
 use Rattle.model.specs.Rounds.{publicStore, headerStore, roundTrace, goesOn}
-use Rattle.model.proofs.Laws.HiddenHalf.{WholeWrite}
-use Rattle.model.proofs.Laws.Stores.{All}
 use Rattle.model.proofs.Laws.Traces.{roundTrace-is}
 use Rattle.stores.specs.Made.{LentFor, Made}
 use Rattle.table.specs.Rows.{publicOf}
-use Rattle.plans.specs.declared.states.Offer.{Offer}
-use Rattle.plans.specs.declared.states.Offer.the-variants.{Absent, Waiting, Placed}
-use Rattle.plans.specs.declared.states.State.{State}
+use Rattle.line.specs.declared.turns.First.{First}
 use Rattle.plans.specs.declared.plans.Plans.{Plans}
 use Rattle.plans.specs.declared.public_plans.PublicPlan.{PublicPlan}
 use Rattle.plans.specs.HiddenPlans.{hiddenTrace}
 use Rattle.plans.specs.PublicPlans.{PublicPlanned}
-use Rattle.plans.specs.States.{waitingOf, stateOf}
+use Rattle.plans.specs.States.{waitingBy, turned}
 use Rattle.plans.specs.Plans.{Planned}
 use Rattle.round_stores.specs.declared.planned.PlannedRound.{PlannedRound}
 use Rattle.round_stores.specs.Planned.{plannedTrace, Storable}
 use Rattle.rounds.specs.Rounds.{choiceAt, roundAt, RoundReady}
 
--- what waits is whole
-pub waiting-whole :
-    (g : Geometry) (offer : Offer) (number : ℕ) (content : Bytes) → length content ≡ g .blockSize →
-    All (WholeWrite g) (waitingOf offer number content)
-waiting-whole g Absent number content h = tt
-waiting-whole g Waiting number content h = (h, tt)
-waiting-whole g Placed number content h = tt
-
 -- a round whose halves are planned
-pub record Begun (g : Geometry) (disk : Bytes) (number slot : ℕ) (content random offered : Bytes)
-    (state : State) (hiddenNumber : ℕ) (plans : Plans) (public : PublicPlan) : Type 0 where
-  pub ready : RoundReady g disk number slot content random offered
-  pub planned : Planned g disk slot state hiddenNumber plans
+pub record Begun (g : Geometry) (disk : Bytes) (number slot : ℕ) (content random : Bytes) (first : First)
+    (blocks : Bytes) (plans : Plans) (public : PublicPlan) : Type 0 where
+  pub ready : RoundReady g disk number slot content random first blocks
+  pub planned : Planned g disk slot first plans
   pub public-planned : PublicPlanned g disk number slot (plans .choice) public
 
-module _ {g : Geometry} {disk : Bytes} {number slot : ℕ} {content random offered : Bytes} {state : State}
-    {hiddenNumber : ℕ} {plans : Plans} {public : PublicPlan}
-    (begun : Begun g disk number slot content random offered state hiddenNumber plans public) where
+module _ {g : Geometry} {disk : Bytes} {number slot : ℕ} {content random : Bytes} {first : First}
+    {blocks : Bytes} {plans : Plans} {public : PublicPlan}
+    (begun : Begun g disk number slot content random first blocks plans public) where
   abbrev round : PlannedRound
   round = record { slot = slot; public = public; hidden = plans .plan }
 
-  pub step-storable : Storable g round content offered random
+  pub step-storable : Storable g round content blocks random
   step-storable =
       record {
         placed =
@@ -59,45 +47,51 @@ module _ {g : Geometry} {disk : Bytes} {number slot : ℕ} {content random offer
               hidden-placed = begun .planned .placed;
             };
         content-whole = begun .ready .content-whole;
-        offered-whole = begun .ready .offered-whole;
+        offered-lent = begun .planned .lent blocks (begun .ready .first-lent);
         random-enough = begun .ready .random-enough;
       }
 
-  -- the planned round is the model's
-  round-is :
-      roundAt g disk number slot content random (stateOf state hiddenNumber offered) ≡
-      plannedTrace round g disk content offered random
-  round-is =
-      ap₂ (λ (choice : model.PublicChoice) (xs : Trace). roundTrace choice g disk number slot content xs)
-      (sym (begun .planned .chosen offered))
-      (ap (λ (h : HiddenHalf). h .trace) (begun .planned .half-is offered random))
-      ∙ roundTrace-is g disk slot _ number content _
-      ∙ ap₂ (λ (choice : model.PublicChoice) (xs : Trace).
-      publicStore choice g disk slot content ∷
-      (hiddenTrace (plans .plan) g disk slot offered random ++ (xs ++ (headerStore g disk slot ∷ []))))
-      (sym (begun .public-planned .chosen)) (begun .public-planned .stores-are)
+  -- the round of a state in which this one is first
+  module _ (later : List HiddenWrite) (state : HiddenState)
+      (waits : state .waiting ≡ waitingBy g blocks first later) where
+    half-is :
+        hiddenHalf g disk slot random state ≡
+        half (hiddenTrace (plans .plan) g disk slot blocks random) (turned (plans .turn) later state)
+    half-is = begun .planned .half-is blocks random later state waits
 
-  pub step-lent :
-      {buffer : Bytes} {list : List DiskAddress} {next : ℕ} →
-      LentFor g disk buffer list next
-      (length (roundAt g disk number slot content random (stateOf state hiddenNumber offered))) →
-      LentFor g disk buffer list next (length (plannedTrace round g disk content offered random))
-  step-lent lent = rw round-is at lent
+    choice-is : publicOf (plans .choice) ≡ choiceAt g disk slot state
+    choice-is =
+        begun .planned .chosen blocks later
+        ∙ sym (ap (λ (writes : List HiddenWrite). rowOf g disk slot writes .public) waits)
 
-  pub step-made :
-      {list entered : List DiskAddress} {next last : ℕ} {after : Bytes} →
-      Made (blockWidth g) (plannedTrace round g disk content offered random) disk list next after entered
-      last →
-      Made (blockWidth g) (roundAt g disk number slot content random (stateOf state hiddenNumber offered))
-      disk list
-      next after entered last
-  step-made made = rw round-is made
+    -- the planned round is the model's
+    round-is :
+        roundAt g disk number slot content random state ≡ plannedTrace round g disk content blocks random
+    round-is =
+        ap₂ (λ (choice : model.PublicChoice) (xs : Trace). roundTrace choice g disk number slot content xs)
+        (sym choice-is) (ap (λ (h : HiddenHalf). h .trace) half-is)
+        ∙ roundTrace-is g disk slot _ number content _
+        ∙ ap₂ (λ (choice : model.PublicChoice) (xs : Trace).
+        publicStore choice g disk slot content ∷
+        (hiddenTrace (plans .plan) g disk slot blocks random ++ (xs ++ (headerStore g disk slot ∷ []))))
+        (sym (begun .public-planned .chosen)) (begun .public-planned .stores-are)
 
-  pub step-state :
-      stateOf (plans .after) hiddenNumber offered ≡
-      hiddenHalf g disk slot random (stateOf state hiddenNumber offered) .state
-  step-state = sym (ap (λ (h : HiddenHalf). h .state) (begun .planned .half-is offered random))
+    pub step-lent :
+        {buffer : Bytes} {list : List DiskAddress} {next : ℕ} →
+        LentFor g disk buffer list next (length (roundAt g disk number slot content random state)) →
+        LentFor g disk buffer list next (length (plannedTrace round g disk content blocks random))
+    step-lent lent = rw round-is at lent
 
-  pub step-goes-on :
-      goesOn (publicOf (plans .choice)) ≡ goesOn (choiceAt g disk slot (stateOf state hiddenNumber offered))
-  step-goes-on = ap goesOn (begun .planned .chosen offered)
+    pub step-made :
+        {list entered : List DiskAddress} {next last : ℕ} {after : Bytes} →
+        Made (blockWidth g) (plannedTrace round g disk content blocks random) disk list next after entered
+        last →
+        Made (blockWidth g) (roundAt g disk number slot content random state) disk list next after entered
+        last
+    step-made made = rw round-is made
+
+    pub step-state : turned (plans .turn) later state ≡ hiddenHalf g disk slot random state .state
+    step-state = sym (ap (λ (h : HiddenHalf). h .state) half-is)
+
+    pub step-goes-on : goesOn (publicOf (plans .choice)) ≡ goesOn (choiceAt g disk slot state)
+    step-goes-on = ap goesOn choice-is

@@ -27,6 +27,7 @@ use Rattle.stores.specs.Made.{LentFor, Made}
 use Rattle.stores.proofs.Laws.Descriptors.{storeOf-stored}
 use Rattle.stores.proofs.Laws.Made.{next-after, made-nothing, made-store, made-then, length-made-list}
 use Rattle.stores.proofs.Laws.Made.{blockAt-made-outside, drive-made}
+use Rattle.plans.specs.HiddenPlans.{offeredBy, BlockLent}
 use Rattle.round_stores.specs.declared.planned.PlannedRound.{PlannedRound}
 use Rattle.round_stores.specs.Planned.{plannedTrace, Storable}
 use Rattle.round_stores.proofs.Laws.Addresses.{takes-apart}
@@ -65,23 +66,23 @@ pub record Storing (g : Geometry) (trace : Trace) (disk : Bytes) (list : List Di
 
 -- ---- a turn ----
 
-module _ {g : Geometry} {round : PlannedRound} {content offered random : Bytes}
-    (storable : Storable g round content offered random) where
+module _ {g : Geometry} {round : PlannedRound} {content blocks random : Bytes}
+    (storable : Storable g round content blocks random) where
   -- the store at a place of the round, on every disk
   abbrev StoreOf : (place : ℕ) → Descriptor → Type 0
   StoreOf place descriptor =
-      Describes g place (λ disk content offered random.
-      storeAt place (plannedTrace round g disk content offered random)) descriptor
+      Describes g (offeredBy (round .hidden)) place (λ disk content blocks random.
+      storeAt place (plannedTrace round g disk content blocks random)) descriptor
 
   module _ {place : ℕ} {descriptor : Descriptor} (described : StoreOf place descriptor) where
-    takeable : (source : Source) → Takes g place (descriptor .address .0) source →
-        Takeable source g content offered random
+    takeable : (source : Source) → Takes g (offeredBy (round .hidden)) place (descriptor .address .0) source →
+        Takeable source g content blocks random
     takeable (Disk address) (inl own) = rw own (described .address-inside)
     takeable (Disk address) (inr (low, formed)) =
         slotBlock-of g (levelPlace g place) (address .0) formed .address-inside
     takeable Zeros takes = tt
     takeable Content takes = storable .content-whole
-    takeable Offered takes = storable .offered-whole
+    takeable (Offered at) takes = subst (BlockLent g blocks) takes (storable .offered-lent)
     takeable (Random index) takes =
         omega (
           arith,
@@ -90,7 +91,7 @@ module _ {g : Geometry} {round : PlannedRound} {content offered random : Bytes}
           storable .random-enough,
         )
 
-    pub turn-makeable : Makeable descriptor g content offered random
+    pub turn-makeable : Makeable descriptor g content blocks random
     turn-makeable =
         record {
           address-inside = described .address-inside;
@@ -100,11 +101,11 @@ module _ {g : Geometry} {round : PlannedRound} {content offered random : Bytes}
         }
 
     module _ {disk buffer diskNow : Bytes} {list listNow : List DiskAddress} {first next : ℕ}
-        (lent : LentFor g disk buffer list first (length (plannedTrace round g disk content offered random)))
-        (so : SoFar g (plannedTrace round g disk content offered random) disk list first diskNow listNow place
-        next) (more : place < length (plannedTrace round g disk content offered random)) where
+        (lent : LentFor g disk buffer list first (length (plannedTrace round g disk content blocks random)))
+        (so : SoFar g (plannedTrace round g disk content blocks random) disk list first diskNow listNow place
+        next) (more : place < length (plannedTrace round g disk content blocks random)) where
       abbrev trace : Trace
-      trace = plannedTrace round g disk content offered random
+      trace = plannedTrace round g disk content blocks random
 
       long : length (take place trace) ≡ place
       long = length-take-le place trace (so .within)
@@ -127,33 +128,33 @@ module _ {g : Geometry} {round : PlannedRound} {content offered random : Bytes}
 
       own-is : descriptor .address .0 ≡ getD (addresses trace) place 0
       own-is =
-          ap (λ (x : Store). x .address) (described .means disk content offered random)
+          ap (λ (x : Store). x .address) (described .means disk content blocks random)
           ∙ sym (getD-addresses trace place)
 
       -- what is taken is on the disk as it was
       source-kept :
-          (source : Source) → Takes g place (descriptor .address .0) source →
-          sourceBlock source g diskNow content offered random ≡
-          sourceBlock source g disk content offered random
+          (source : Source) → Takes g (offeredBy (round .hidden)) place (descriptor .address .0) source →
+          sourceBlock source g diskNow content blocks random ≡
+          sourceBlock source g disk content blocks random
       source-kept (Disk address) takes =
           blockAt-made-outside (so .made) (blockCount g) (address .0) (lent .drive .whole) (so .stored)
           (takes-apart (lent .drive) storable place (address .0) (descriptor .address .0) more own-is takes)
       source-kept Zeros takes = refl
       source-kept Content takes = refl
-      source-kept Offered takes = refl
+      source-kept (Offered at) takes = refl
       source-kept (Random index) takes = refl
 
       -- so the store is the one that the round has here
-      store-is : storeOf descriptor g diskNow content offered random ≡ storeAt place trace
+      store-is : storeOf descriptor g diskNow content blocks random ≡ storeAt place trace
       store-is =
           ap (λ (block : Bytes). store (descriptor .address .0)
           (changed (descriptor .second) (changed (descriptor .first) block)))
           (source-kept (descriptor .source) (described .takes))
-          ∙ described .means disk content offered random
+          ∙ described .means disk content blocks random
 
       pub turn-made :
           {after : Bytes} {entered : List DiskAddress} {last : ℕ} →
-          Made (blockWidth g) (storeOf descriptor g diskNow content offered random ∷ []) diskNow listNow next
+          Made (blockWidth g) (storeOf descriptor g diskNow content blocks random ∷ []) diskNow listNow next
           after entered last →
           SoFar g trace disk list first after entered (place + 1) last
       turn-made made =
@@ -162,8 +163,8 @@ module _ {g : Geometry} {round : PlannedRound} {content offered random : Bytes}
           ap (λ (n : ℕ). take n trace) (add-one place) ∙ take-suc trace place (store 0 []) more in
           let Whole = Stored (blockWidth g) (blockCount g) in
           let whole : Whole here =
-          subst Whole (described .means disk content offered random)
-          (storeOf-stored g disk content offered random (lent .drive) descriptor turn-makeable) in
+          subst Whole (described .means disk content blocks random)
+          (storeOf-stored g disk content blocks random (lent .drive) descriptor turn-makeable) in
           record {
             within = omega arith;
             made =

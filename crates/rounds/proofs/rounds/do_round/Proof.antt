@@ -14,7 +14,7 @@ abbrev start-of : tie.After-plan-round → tie.Start
 start-of c = c .before .before .before .before .before .before .before .before
 
 abbrev after-plan : tie.After-plan-public → tie.After-plan-round
-after-plan c = c .before .before .before
+after-plan c = c .before .before
 
 abbrev after-public : tie.After-store-round-arg3 → tie.After-plan-public
 after-public c = c .before .before .before
@@ -29,8 +29,8 @@ begun :
     (c : tie.After-plan-public) →
     let args = start-of (after-plan c) .args in
     Begun (geometryOf (args .g)) (args .disk .now) (args .number .0) (args .slot) (args .content .now)
-    (args .random .now) (args .offered .now) (args .state) (args .hidden-number .0)
-    (after-plan c .plan-round .result) (c .plan-public .result)
+    (args .random .now) (args .first) (args .blocks .now) (after-plan c .plan-round .result)
+    (c .plan-public .result)
 begun c =
     let planned = after-plan c in
     record {
@@ -48,7 +48,10 @@ plan-public-requires c κs = search needs
 store-round-requires : tie.Need-store-round-requires
 store-round-requires c κs =
     let planned = after-public c in
-    (step-lent (begun planned) (start-of (after-plan planned) .pre .0), step-storable (begun planned))
+    let lent = start-of (after-plan planned) .pre .0 in (
+      step-lent (begun planned) (lent .later) (lent .state) (lent .waits) (lent .lent),
+      step-storable (begun planned),
+    )
 
 is-kept-requires : tie.Need-is-kept-requires
 is-kept-requires c κs = search needs
@@ -63,13 +66,13 @@ same-length-3 : tie.Need-same-length-3
 same-length-3 c = search needs
 
 returns : tie.Need-returns
-returns c =
+returns c later state waits =
     let stored = after-store c in
     let round = begun (after-public (stored .before)) in
     record {
-      made = step-made round (stored .store-round .ensures);
-      state-is = step-state round;
-      goes-on = c .is-kept .ensures ∙ step-goes-on round;
+      made = step-made round later state waits (stored .store-round .ensures);
+      state-is = step-state round later state waits;
+      goes-on = c .is-kept .ensures ∙ step-goes-on round later state waits;
     }
 
 pub do-round-spec : {M : Type 1} → statement M

@@ -15,13 +15,13 @@ use Rattle.rounds.proofs.rounds.store_round.Statement.{statement}
 use Rattle.rounds.proofs.rounds.store_round.Tie as tie
 
 abbrev Inv-loop : tie.InvT-loop
-Inv-loop disk₀ list₀ first g round content offered random buffer₀ count place₀ next₀ disk list buffer
+Inv-loop disk₀ list₀ first g round content blocks random buffer₀ count place₀ next₀ disk list buffer
     place next =
-    Storing (geometryOf g) (plannedTrace round (geometryOf g) disk₀ content offered random) disk₀ list₀ first
+    Storing (geometryOf g) (plannedTrace round (geometryOf g) disk₀ content blocks random) disk₀ list₀ first
     buffer₀ disk list buffer place next
 
 abbrev μ-loop : tie.MeasureT-loop
-μ-loop disk₀ list₀ first g round content offered random buffer₀ count place₀ next₀ disk list buffer
+μ-loop disk₀ list₀ first g round content blocks random buffer₀ count place₀ next₀ disk list buffer
     place next = count - place
 
 -- ---- places ----
@@ -45,7 +45,7 @@ after-make c = c .before .before .before .before .before .before
 abbrev traced : tie.Start Inv-loop μ-loop → Trace
 traced s =
     plannedTrace (s .args .round) (geometryOf (s .args .g)) (s .args .disk .now) (s .args .content .now)
-    (s .args .offered .now) (s .args .random .now)
+    (s .args .blocks .now) (s .args .random .now)
 
 -- they are as many as are counted
 counted : (c : tie.After-store-count Inv-loop μ-loop) →
@@ -55,7 +55,7 @@ counted c =
     let a = s .args in
     c .store-count .ensures
     ∙ sym (length-plannedTrace (geometryOf (a .g)) (s .pre .0 .drive .fits) (a .round) (a .disk .now)
-    (a .content .now) (a .offered .now) (a .random .now))
+    (a .content .now) (a .blocks .now) (a .random .now))
 
 -- a turn's place is one of the round
 more : (c : tie.In-loop Inv-loop μ-loop) → c .before .loop .place < length (traced (start-of (c .before)))

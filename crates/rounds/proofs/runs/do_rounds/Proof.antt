@@ -1,6 +1,7 @@
 -- `do_rounds` meets its contract. Invariant: the rounds done and the rest of the run from here are the whole
 -- run, and the buffer is as long as it was. The measure is the slots left. Assumes nothing.
 use mathlib.Core.Path.{refl, sym, ap, subst, _∙_}
+use mathlib.Core.List.{List}
 use Prim.Native.Nat.{ℕ, _+_, _*_, _-_, _^_, _≤_}
 use native.Mathlib.Nat.{mul-le-mul}
 use native.Mathlib.Omega.{arith}
@@ -10,31 +11,36 @@ use borrow.Author.Tests.{not-true, not-false}
 use Rattle.laws.proofs.Lists.{take-drop}
 use Rattle.model.specs.Geometry.{Geometry}
 use Rattle.model.specs.Blocks.{Bytes}
+use Rattle.model.specs.HiddenHalf.{HiddenWrite, HiddenState}
 use Rattle.model.specs.Rounds.{Run}
+use Rattle.model.specs.Line.{Offer}
 use Rattle.layout.specs.Geometries.{geometryOf}
-use Rattle.stores.specs.Made.{LentFor}
+use Rattle.line.specs.Turns.{offersBy}
 use Rattle.plans.specs.States.{stateOf}
-use Rattle.rounds.specs.Rounds.{roundAt, RoundReady, RoundDone}
-use Rattle.rounds.proofs.Laws.Loops.{Looping, theRun, going-none, going-over, made-over, random-from}
-use Rattle.rounds.proofs.Laws.Loops.{round-lent, round-ready, run-ends, made-ends, going-next}
+use Rattle.rounds.specs.Rounds.{RoundReady, RoundLent, RoundDone}
+use Rattle.rounds.specs.Runs.{turnsRun}
+use Rattle.rounds.proofs.Laws.Waiting.{behind}
+use Rattle.rounds.proofs.Laws.Going.{Looping, going-none}
+use Rattle.rounds.proofs.Laws.Loops.{going-over, made-over, random-from, round-waits, round-lent}
+use Rattle.rounds.proofs.Laws.Loops.{round-ready, run-ends, made-ends, going-next}
 use Rattle.rounds.proofs.runs.do_rounds.Statement.{statement}
 use Rattle.rounds.proofs.runs.do_rounds.Tie as tie
 
 abbrev Inv-loop : tie.InvT-loop
-Inv-loop disk₀ list₀ first g number head content random hidden-number offered buffer₀ slots width slot₀
+Inv-loop disk₀ list₀ first g number head content random numbers places blocks buffer₀ slots width slot₀
     next₀ reached₀ done₀ disk list buffer slot next reached done =
-    Looping (geometryOf g) (number .0) content random offered (hidden-number .0)
-    (theRun (geometryOf g) (number .0) content random offered (hidden-number .0) disk₀ head list₀ first
-    reached₀) disk₀ list₀ first buffer₀ disk list buffer slot next reached done
+    Looping (geometryOf g) (number .0) content random (offersBy numbers places) blocks
+    (turnsRun (geometryOf g) disk₀ (number .0) head content random (offersBy numbers places) blocks) disk₀
+    list₀ first buffer₀ disk list buffer slot next reached done
 
 abbrev μ-loop : tie.MeasureT-loop
-μ-loop disk₀ list₀ first g number head content random hidden-number offered buffer₀ slots width slot₀
+μ-loop disk₀ list₀ first g number head content random numbers places blocks buffer₀ slots width slot₀
     next₀ reached₀ done₀ disk list buffer slot next reached done = slots - done
 
 -- ---- places ----
 
 abbrev at-lent : tie.After-struct-known2 Inv-loop μ-loop → tie.After-shared-slice-known3 Inv-loop μ-loop
-at-lent c = c .before .before .before
+at-lent c = c .before .before .before .before .before
 
 abbrev at-list : tie.After-struct-known2 Inv-loop μ-loop → tie.After-slice-known2 Inv-loop μ-loop
 at-list c = at-lent c .before .before .before
@@ -49,8 +55,12 @@ start-of c = at-start (c .before)
 abbrev at-random : tie.After-do-round-arg4 Inv-loop μ-loop → tie.After-do-round-arg2 Inv-loop μ-loop
 at-random c = c .before .before
 
+-- the first one waiting is taken
+abbrev at-first : tie.After-do-round-arg4 Inv-loop μ-loop → tie.After-first-of Inv-loop μ-loop
+at-first c = at-random c .before .before
+
 abbrev test-of : tie.After-do-round-arg4 Inv-loop μ-loop → tie.In-loop Inv-loop μ-loop
-test-of c = at-random c .before .before
+test-of c = at-first c .before
 
 abbrev at-test : tie.After-do-round Inv-loop μ-loop → tie.In-loop Inv-loop μ-loop
 at-test c = test-of (c .before)
@@ -58,24 +68,38 @@ at-test c = test-of (c .before)
 abbrev at-turn : tie.After-do-round Inv-loop μ-loop → tie.At-loop Inv-loop μ-loop
 at-turn c = at-test c .before
 
-abbrev at-buffer : tie.After-struct-known3 Inv-loop μ-loop → tie.After-buffer Inv-loop μ-loop
-at-buffer c = c .before .before .before
-
-abbrev at-entries : tie.After-struct-known3 Inv-loop μ-loop → tie.After-list Inv-loop μ-loop
-at-entries c = at-buffer c .before .before
+abbrev at-entries : tie.After-slice-known6 Inv-loop μ-loop → tie.After-list Inv-loop μ-loop
+at-entries c = c .before .before .before
 
 -- the round of this turn
-abbrev at-round : tie.After-struct-known3 Inv-loop μ-loop → tie.After-do-round Inv-loop μ-loop
+abbrev at-round : tie.After-slice-known6 Inv-loop μ-loop → tie.After-do-round Inv-loop μ-loop
 at-round c = at-entries c .before .before .before
+
+-- the state that it leaves is told
+abbrev at-moved : tie.After-struct-known3 Inv-loop μ-loop → tie.After-state-after Inv-loop μ-loop
+at-moved c = c .before
+
+abbrev round-of : tie.After-struct-known3 Inv-loop μ-loop → tie.After-do-round Inv-loop μ-loop
+round-of c = at-round (at-moved c .before)
 
 -- ---- what is known there ----
 
 abbrev shape-of : tie.At-loop Inv-loop μ-loop → Geometry
 shape-of c = geometryOf (start-of c .args .g)
 
+abbrev turns-of : tie.At-loop Inv-loop μ-loop → List Offer
+turns-of c = offersBy (start-of c .args .numbers .now) (start-of c .args .places .now)
+
 -- where this round's random bytes begin
 abbrev from-of : tie.At-loop Inv-loop μ-loop → ℕ
 from-of c = c .loop .done * (shape-of c .height * shape-of c .blockSize)
+
+-- what waits behind the first one
+abbrev later-of : tie.At-loop Inv-loop μ-loop → List HiddenWrite
+later-of c = behind (shape-of c) (start-of c .args .blocks .now) (turns-of c) (c .loop .reached .placed)
+
+abbrev state-of : tie.At-loop Inv-loop μ-loop → HiddenState
+state-of c = stateOf (shape-of c) (c .loop .reached) (turns-of c) (start-of c .args .blocks .now)
 
 -- what a round has done, with the random bytes from its place on
 stepped :
@@ -83,17 +107,20 @@ stepped :
     let s = start-of (at-turn c) .args in
     let l = at-turn c .loop in
     RoundDone (shape-of (at-turn c)) (l .disk) (l .list) (l .next) (s .number .0) (l .slot) (s .content .now)
-    (drop (from-of (at-turn c)) (s .random .now)) (l .reached) (s .hidden-number .0) (s .offered .now)
+    (drop (from-of (at-turn c)) (s .random .now)) (later-of (at-turn c)) (state-of (at-turn c))
     (c .do-round .last .0) (c .do-round .last .1 .0) (c .do-round .result)
 stepped c =
     let s = start-of (at-turn c) .args in
     let l = at-turn c .loop in
+    let first = at-first (c .before) .first-of in
+    let waits = round-waits (start-of (at-turn c) .pre .0) (l .inv .going) (at-test c .loop-test .taken)
+    (first .ensures) in
     subst (λ (bytes : Bytes).
     RoundDone (shape-of (at-turn c)) (l .disk) (l .list) (l .next) (s .number .0) (l .slot) (s .content .now)
-    bytes
-    (l .reached) (s .hidden-number .0) (s .offered .now) (c .do-round .last .0) (c .do-round .last .1 .0)
+    bytes (later-of (at-turn c)) (state-of (at-turn c)) (c .do-round .last .0) (c .do-round .last .1 .0)
     (c .do-round .result))
-    (take-drop (from-of (at-turn c)) (s .random .now)) (c .do-round .ensures)
+    (take-drop (from-of (at-turn c)) (s .random .now))
+    (c .do-round .ensures (later-of (at-turn c)) (state-of (at-turn c)) waits)
 
 -- the random bytes of this round are lent
 random-inside :
@@ -120,9 +147,9 @@ loop-holds c =
     let s = at-start c .args in
     record {
       going =
-          going-none (geometryOf (s .g)) (s .number .0) (s .content .now) (s .random .now) (s .offered .now)
-          (s .hidden-number .0) (s .disk .now) (s .head) (s .list .now) (s .first) (s .state)
-          (at-start c .pre .0);
+          going-none (geometryOf (s .g)) (s .number .0) (s .content .now) (s .random .now)
+          (offersBy (s .numbers .now) (s .places .now)) (s .blocks .now) (s .disk .now) (s .head)
+          (s .list .now) (s .first) (at-start c .pre .0);
       disk-kept = refl;
       buffer-kept = refl;
     }
@@ -141,11 +168,14 @@ mul-from c =
     mul-le-mul (f .height-high) (f .size-high) in
     omega (arith, mul-le-mul most wide)
 
+first-of-requires : tie.Need-first-of-requires Inv-loop μ-loop
+first-of-requires c κs = search needs
+
 sub-do-round : tie.Need-sub-do-round Inv-loop μ-loop
-sub-do-round c = omega (arith, random-inside (c .before .before))
+sub-do-round c = omega (arith, random-inside (c .before .before .before))
 
 part-do-round-start : tie.Need-part-do-round-start Inv-loop μ-loop
-part-do-round-start c = omega (arith, random-inside (c .before .before))
+part-do-round-start c = omega (arith, random-inside (c .before .before .before))
 
 part-do-round-end : tie.Need-part-do-round-end Inv-loop μ-loop
 part-do-round-end c = omega arith
@@ -156,17 +186,24 @@ do-round-requires c κs =
     let turn = test .before in
     let s = start-of turn in
     let l = turn .loop in
+    let first = at-first c .first-of in
     let e = sym (take-drop (from-of turn) (s .args .random .now)) in (
       subst (λ (bytes : Bytes).
-          LentFor (shape-of turn) (l .disk) (l .buffer) (l .list) (l .next)
-          (length (roundAt (shape-of turn) (l .disk) (s .args .number .0) (l .slot) (s .args .content .now)
-          bytes (stateOf (l .reached) (s .args .hidden-number .0) (s .args .offered .now))))) e
-          (round-lent (s .pre .0) (l .inv .going) (test .loop-test .taken) (l .inv .buffer-kept ∙ s .pre .1)),
+          RoundLent (shape-of turn) (l .disk) (l .buffer) (l .list) (l .next) (s .args .number .0) (l .slot)
+          (s .args .content .now) bytes (first .result) (s .args .blocks .now)) e
+          (round-lent (s .pre .0) (l .inv .going) (test .loop-test .taken) (first .ensures)
+          (l .inv .buffer-kept ∙ s .pre .1)),
       subst (λ (bytes : Bytes).
           RoundReady (shape-of turn) (l .disk) (s .args .number .0) (l .slot) (s .args .content .now) bytes
-          (s .args .offered .now)) e
-          (round-ready (s .pre .0) (l .inv .going) (test .loop-test .taken)),
+          (first .result) (s .args .blocks .now)) e
+          (round-ready (s .pre .0) (l .inv .going) (test .loop-test .taken) (first .ensures)),
     )
+
+state-after-requires : tie.Need-state-after-requires Inv-loop μ-loop
+state-after-requires c κs =
+    let turn = at-turn (at-round c) in
+    let f = start-of turn .pre .0 .drive .fits in
+    omega (arith, turn .loop .inv .going .few, turn .loop .inv .going .within, f .blocks-high)
 
 add-done : tie.Need-add-done Inv-loop μ-loop
 add-done c = omega arith
@@ -175,33 +212,34 @@ add-done c = omega arith
 
 same-length : tie.Need-same-length Inv-loop μ-loop
 same-length c =
-    let round = at-round (c .before) in
+    let round = round-of (c .before) in
     omega (arith, round .do-round .kept .0, at-turn round .loop .inv .disk-kept)
 
 same-length-2 : tie.Need-same-length-2 Inv-loop μ-loop
 same-length-2 c =
-    let round = at-round (c .before) in
+    let round = round-of (c .before) in
     omega (arith, round .do-round .kept .1 .0, at-turn round .loop .inv .going .list-kept)
 
 same-length-3 : tie.Need-same-length-3 Inv-loop μ-loop
 same-length-3 c =
-    let round = at-round (c .before) in
+    let round = round-of (c .before) in
     omega (
       arith,
-      round .do-round .kept .1 .1 .1 .1 .1 .1 .1 .1 .1 .1 .1 .0,
+      round .do-round .kept .1 .1 .1 .1 .1 .1 .1 .1 .1 .1 .0,
       at-turn round .loop .inv .buffer-kept,
     )
 
 returns : tie.Need-returns Inv-loop μ-loop
 returns c =
-    let round = at-round (c .before) in
+    let round = round-of (c .before) in
     let ready = start-of (at-turn round) .pre .0 in
     let going = at-turn round .loop .inv .going in
     let more = at-test round .loop-test .taken in
     let e = not-true (round .do-round .result .«goes_on») (c .if1 .taken) in
-    let ended = run-ends ready going more (stepped round) e in
+    let moved = at-moved (c .before) .state-after .ensures in
+    let ended = run-ends ready going more (stepped round) moved e in
     record {
-      made = made-ends ready going more (stepped round) e;
+      made = made-ends ready going more (stepped round) moved e;
       rounds-are = sym (ap (λ (r : Run). r .rounds) ended);
       state-is = sym (ap (λ (r : Run). r .state) ended);
     }
@@ -219,15 +257,16 @@ loop-less c = omega arith
 
 loop-again : tie.Need-loop-again Inv-loop μ-loop
 loop-again c =
-    let round = at-round (c .before) in
+    let round = round-of (c .before) in
     let kept = round .do-round .kept in
     let inv = at-turn round .loop .inv in
     record {
       going =
           going-next (start-of (at-turn round) .pre .0) (inv .going) (at-test round .loop-test .taken)
-          (stepped round) (not-false (round .do-round .result .«goes_on») (c .if1 .left));
+          (stepped round) (at-moved (c .before) .state-after .ensures)
+          (not-false (round .do-round .result .«goes_on») (c .if1 .left));
       disk-kept = kept .0 ∙ inv .disk-kept;
-      buffer-kept = kept .1 .1 .1 .1 .1 .1 .1 .1 .1 .1 .1 .0 ∙ inv .buffer-kept;
+      buffer-kept = kept .1 .1 .1 .1 .1 .1 .1 .1 .1 .1 .0 ∙ inv .buffer-kept;
     }
 
 -- ---- every slot passed ----
@@ -255,29 +294,7 @@ returns-2 c =
 pub do-rounds-spec : {M : Type 1} → statement M
 do-rounds-spec =
     tie.close
-    (tie.spec
-    Inv-loop
-    μ-loop
-    cast-width
-    cast-width-2
-    mul-width
-    loop-holds
-    cast-from
-    mul-from
-    sub-do-round
-    part-do-round-start
-    part-do-round-end
-    do-round-requires
-    add-done
-    same-length
-    same-length-2
-    same-length-3
-    returns
-    add-slot
-    rem-slot
-    loop-less
-    loop-again
-    same-length-4
-    same-length-5
-    same-length-6
-    returns-2)
+    (tie.spec Inv-loop μ-loop cast-width cast-width-2 mul-width loop-holds cast-from mul-from
+    first-of-requires sub-do-round part-do-round-start part-do-round-end do-round-requires
+    state-after-requires add-done same-length same-length-2 same-length-3 returns add-slot rem-slot
+    loop-less loop-again same-length-4 same-length-5 same-length-6 returns-2)

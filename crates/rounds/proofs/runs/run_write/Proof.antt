@@ -9,8 +9,11 @@ use Rattle.model.specs.Blocks.{Bytes}
 use Rattle.rounds.proofs.runs.run_write.Statement.{statement}
 use Rattle.rounds.proofs.runs.run_write.Tie as tie
 
+abbrev lentOf : tie.After-struct-known → tie.After-shared-slice-known3
+lentOf c = c .before .before .before
+
 abbrev startOf : tie.After-struct-known → tie.Start
-startOf c = c .before .before .before .before .before .before
+startOf c = lentOf c .before .before .before .before .before
 
 abbrev knownOf : tie.After-buffer → tie.After-struct-known
 knownOf c = c .before .before .before

@@ -1,4 +1,6 @@
 -- The laws that the proofs of the functions cite, a file for each idea.
 pub mod Questions
-pub mod Offers
+pub mod Carried
+pub mod Outcomes
 pub mod Writes
+pub mod Told

@@ -1,4 +1,5 @@
 pub mod Headers
 pub mod Questions
 pub mod Needs
+pub mod Carried
 pub mod Writes

@@ -1,21 +1,27 @@
 -- What a write answers and leaves, by the model's `written`. Assumes nothing.
 use mathlib.Core.Path.{_≡_}
+use mathlib.Core.Logic.{_≢_}
 use mathlib.Core.Bool.{Bool, true, false}
-use mathlib.Core.List.{List, [], _∷_}
-use mathlib.Core.Option.{Option, none, some}
-use Prim.Native.Nat.{ℕ}
-use lib.ListN.{length}
-use Rattle.model.specs.Geometry.{Geometry}
+use mathlib.Core.List.{List}
+use Prim.Native.Nat.{ℕ, _^_, _≤_, _<_}
+use lib.ListN.{length, take, drop}
 use Rattle.model.specs.Blocks.{Bytes, DiskAddress}
-use Rattle.model.specs.HiddenHalf.{HiddenWrite}
-use Rattle.model.specs.Rounds.{Run}
+use Rattle.model.specs.HiddenHalf.{HiddenWrite, HiddenState}
+use Rattle.model.specs.Line.{leftAfter}
 use Rattle.model.specs.Calls as model
+use Rattle.line.specs.declared.offers.Line.{Line}
+use Rattle.line.specs.declared.turns.Turns.{Turns}
+use Rattle.line.specs.Offers.{lineOf}
+use Rattle.line.specs.Turns.{turnsIn}
+use Rattle.plans.specs.declared.states.State.{State}
 use Rattle.rounds.specs.declared.runs.Ran.{Ran}
-use Rattle.rounds.specs.Runs.{RunMade}
+use Rattle.mapper.specs.declared.carried.Carried.{Carried}
 use Rattle.mapper.specs.declared.write.Outcome.{Outcome}
 use Rattle.mapper.specs.declared.write.Outcome.the-variants.{NoWrite, Placed, Waiting, NotTried}
 use Rattle.mapper.specs.declared.write.Outcome.the-variants.{BadNumber, BadSize, DamagedWalk}
 use Rattle.mapper.specs.declared.write.Written.{Written}
+use Rattle.mapper.specs.declared.write.LineWritten.{LineWritten}
+use Rattle.mapper.specs.Carried.{carriedLeft}
 
 -- the outcome that a declared one says; `outcomeNumber` of the model gives document 01's number for it
 abbrev pub outcomeOf : Outcome → model.Outcome
@@ -28,21 +34,36 @@ outcomeOf BadSize = model.badSize
 outcomeOf DamagedWalk = model.damagedWalk
 
 -- what a call offers
-abbrev pub callOffer : (isOffered : Bool) → (number : ℕ) → (content : Bytes) → Option HiddenWrite
-callOffer true number content = some (record { number = number; content = content })
-callOffer false number content = none
+abbrev pub callOffer : (isOffered : Bool) → (number : ℕ) → (content : Bytes) → model.Offered
+callOffer true number content = model.one (record { number = number; content = content })
+callOffer false number content = model.nothing
 
--- the hidden writes of an offer that is taken, or of none
-abbrev pub takenWrites : (isTaken : Bool) → (number : ℕ) → (content : Bytes) → List HiddenWrite
-takenWrites true number content = record { number = number; content = content } ∷ []
-takenWrites false number content = []
+-- the state of these hidden writes that a declared one says
+abbrev pub stateWith : State → (writes : List HiddenWrite) → HiddenState
+stateWith state writes =
+    record {
+      waiting = drop (state .placed) writes;
+      placed = state .placed;
+      metDamage = state .«met_damage»;
+    }
 
--- a run's stores are made, for some number and data that its state speaks of
-pub record RanWith (g : Geometry) (disk : Bytes) (list : List DiskAddress) (run : Run) (diskAfter : Bytes)
-    (listAfter : List DiskAddress) (ran : Ran) : Type 0 where
-  pub hiddenNumber : ℕ
-  pub hidden : Bytes
-  pub run-made : RunMade g disk list 0 run hiddenNumber hidden diskAfter listAfter ran
+-- no more are placed than had a turn, and the stores are few
+pub record DoneFits (ran : Ran) (turns : Turns) : Type 0 where
+  pub placed-most : ran .state .placed ≤ turns .count
+  pub count-most : turns .count ≤ 16
+  pub stores-few : ran .next < 2 ^ 32
+
+-- what a run came to, with the refusal of what was carried, and the line without what it placed
+pub record DoneAnswered (bad : ℕ) (ran : Ran) (turns : Turns) (line : Line) (answer : LineWritten) :
+    Type 0 where
+  pub answered : answer .answer ≡ 0
+  pub rounds-are : answer .rounds ≡ ran .rounds
+  pub stores-are : answer .stores ≡ ran .next
+  pub outcome-is :
+      (writes : List HiddenWrite) → length writes ≡ turns .count →
+      outcomeOf (answer .outcome) ≡ model.offerOutcome bad (stateWith (ran .state) writes)
+  pub placed-are : answer .placed ≡ ran .state .placed
+  pub line-left : lineOf (answer .line) ≡ leftAfter (take (ran .state .placed) (turnsIn turns)) (lineOf line)
 
 -- the answer, rounds, stores and outcome of the model's write, and the disk and the list that it leaves
 pub record WriteAnswered (result : model.Written) (disk : Bytes) (list : List DiskAddress) (diskAfter : Bytes)
@@ -53,3 +74,37 @@ pub record WriteAnswered (result : model.Written) (disk : Bytes) (list : List Di
   pub outcome-is : outcomeOf (answer .outcome) ≡ result .outcome
   pub stored : diskAfter ≡ model.writtenDisk result disk
   pub listed : listAfter ≡ model.writtenList result list
+
+-- ---- with a line ----
+
+-- and how many it placed, and the line without their numbers; a refused write hands the line back as it was
+pub record LineAnswered (result : model.Written) (disk : Bytes) (list : List DiskAddress) (blocks : Bytes)
+    (line : Line) (diskAfter : Bytes) (listAfter : List DiskAddress) (answer : LineWritten) : Type 0 where
+  pub answered : answer .answer ≡ result .answer
+  pub rounds-are : answer .rounds ≡ result .rounds
+  pub stores-are : answer .stores ≡ length (result .trace)
+  pub outcome-is : outcomeOf (answer .outcome) ≡ result .outcome
+  pub placed-are : answer .placed ≡ result .placed
+  pub line-left : lineOf (answer .line) ≡ model.lineLeft result disk blocks (lineOf line)
+  pub line-kept : answer .answer ≢ 0 → answer .line ≡ line
+  pub stored : diskAfter ≡ model.writtenDisk result disk
+  pub listed : listAfter ≡ model.writtenList result list
+
+-- what document 01's write tells of it
+abbrev pub withoutLine : LineWritten → Written
+withoutLine answer =
+    record {
+      answer = answer .answer;
+      rounds = answer .rounds;
+      stores = answer .stores;
+      outcome = answer .outcome;
+    }
+
+-- likewise, whatever the write carries along
+pub record CarriedAnswered (carried : Carried) (result : model.Written) (disk : Bytes)
+    (list : List DiskAddress) (blocks : Bytes) (line : Line) (diskAfter : Bytes)
+    (listAfter : List DiskAddress) (answer : LineWritten) : Type 0 where
+  pub told : WriteAnswered result disk list diskAfter listAfter (withoutLine answer)
+  pub placed-are : answer .placed ≡ result .placed
+  pub line-left : lineOf (answer .line) ≡ carriedLeft carried result disk blocks (lineOf line)
+  pub line-kept : answer .answer ≢ 0 → answer .line ≡ line

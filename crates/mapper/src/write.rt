@@ -1,27 +1,30 @@
-// The write: a public number's data, and what is offered to the hidden volume.
+// The write: a public number's data, and what is carried along for the hidden volume: one offer or none, or
+// a line of offers.
+use crate::carried::Carried;
+use crate::carried::carried_by;
+use crate::carried::carried_fault;
+use crate::carried::carried_turns;
 use crate::needs::open_write;
-use checks::numbers::hidden_number_fault;
 use layout::drives::Opened;
-use layout::geometry::Geometry;
 use layout::geometry::head_in;
 use layout::numbers::HiddenNumber;
 use layout::numbers::PublicNumber;
-use plans::states::Offer;
+use line::changes::left_of;
+use line::offers::Line;
+use line::offers::no_line;
+use line::turns::Turns;
 use plans::states::State;
 use rounds::runs::Ran;
 use rounds::runs::run_write;
 ghost use mathlib.Core.Path.{_≡_};
-ghost use mathlib.Core.Bool.{true, _&&_};
-ghost use Prim.Native.Nat.{ℕ};
-ghost use lib.Dec.{eqb};
+ghost use mathlib.Core.List.{List};
 ghost use lib.ListN.{length};
-ghost use Rattle.model.specs.Blocks.{Bytes};
-ghost use Rattle.model.specs.Rounds.{runFrom};
-ghost use Rattle.model.specs.Calls.{offerRefusal, outcomeNumber, offerOutcome, startState, written};
-ghost use Rattle.layout.specs.Geometries.{geometryOf};
-ghost use Rattle.plans.specs.States.{stateOf};
-ghost use Rattle.rounds.specs.Runs.{Runnable};
-ghost use Rattle.mapper.specs.Writes.{outcomeOf, callOffer, takenWrites, RanWith, WriteAnswered};
+ghost use Rattle.model.specs.HiddenHalf.{HiddenWrite};
+ghost use Rattle.model.specs.Calls.{inLine, outcomeNumber, offerOutcome, written};
+ghost use Rattle.line.specs.Offers.{lineOf};
+ghost use Rattle.mapper.specs.Carried.{offeredOf};
+ghost use Rattle.mapper.specs.Writes.{outcomeOf, callOffer, stateWith, DoneFits, DoneAnswered};
+ghost use Rattle.mapper.specs.Writes.{WriteAnswered, LineAnswered, CarriedAnswered};
 
 // What has become of the offer: none was made, placed, waiting, not tried since the write is refused, 10, 11,
 // or 12.
@@ -58,32 +61,21 @@ pub struct Written {
     pub outcome: Outcome,
 }
 
-// ---- the offer ----
-
-// 10 or 11 of what is offered; 0 where nothing is, or a good hidden write.
-fn offer_fault(g: Geometry, offered: bool, number: HiddenNumber, hidden: &[u8]) -> u8
-    ensures { λ r. ⌜ r ≡ offerRefusal (geometryOf g) (callOffer offered (number .0) (now (hidden .entry))) ⌝ }
-{
-    if offered {
-        return hidden_number_fault(g, number, hidden.len());
-    }
-    0
+// Likewise, how many offers it placed, and the line without their numbers.
+pub struct LineWritten {
+    pub answer: u8,
+    pub rounds: u32,
+    pub stores: u32,
+    pub outcome: Outcome,
+    pub placed: u32,
+    pub line: Line,
 }
 
-// Whether an offer goes to the rounds: a bad one is left out.
-fn is_taken(offered: bool, bad: u8) -> bool
-    ensures { λ r. ⌜ r ≡ (offered && eqb bad 0) ⌝ }
-{
-    if bad == 0 {
-        return offered;
-    }
-    false
-}
-
-// What has become of an offer with this refusal, by the state after the rounds.
-fn outcome_of(bad: u8, state: State) -> Outcome
-    ensures { λ r. ⌜
-        ((number : ℕ) (content : Bytes) → outcomeOf r ≡ offerOutcome bad (stateOf state number content)) ⌝ }
+// What has become of what was carried along: by its refusal, by the state after the rounds, and by how many
+// turns it had.
+fn outcome_of(bad: u8, state: State, count: usize) -> Outcome
+    ensures { λ r. ⌜ ((writes : List HiddenWrite) → length writes ≡ count →
+        outcomeOf r ≡ offerOutcome bad (stateWith state writes)) ⌝ }
 {
     if bad == 10 {
         return Outcome::BadNumber;
@@ -91,84 +83,89 @@ fn outcome_of(bad: u8, state: State) -> Outcome
     if bad == 11 {
         return Outcome::BadSize;
     }
-    let offer = state.offer;
-    match offer {
-        Offer::Placed => Outcome::Placed,
-        Offer::Waiting => {
-            if state.met_damage {
-                return Outcome::DamagedWalk;
-            }
-            Outcome::Waiting
-        }
-        Offer::Absent => {
-            if state.met_damage {
-                return Outcome::DamagedWalk;
-            }
-            Outcome::NoWrite
-        }
+    if state.placed != 0 {
+        return Outcome::Placed;
+    }
+    if state.met_damage {
+        return Outcome::DamagedWalk;
+    }
+    if state.placed < count {
+        return Outcome::Waiting;
+    }
+    Outcome::NoWrite
+}
+
+// The answer of a write that is not refused: what its rounds came to, and the line without what they placed.
+fn answer_done(bad: u8, ran: Ran, turns: Turns, line: Line) -> LineWritten
+    requires { ⌜ DoneFits ran turns ⌝ }
+    ensures { λ r. ⌜ DoneAnswered bad ran turns line r ⌝ }
+{
+    let rounds = ran.rounds;
+    let stores = ran.next;
+    let state = ran.state;
+    let placed = state.placed;
+    let told = placed as u32;
+    let gone = turns.numbers;
+    LineWritten {
+        answer: 0,
+        rounds,
+        stores: stores as u32,
+        outcome: outcome_of(bad, state, turns.count),
+        placed: told,
+        line: left_of(line, &gone[..placed]),
     }
 }
 
 // ---- the write ----
 
-// The rounds of a write that is not refused, with the offer or without one. Where nothing is offered no round
-// takes the offered block; the public data stands in for it, as a block of the right length.
-fn run_offer(
+// Writes a public number's data, and what is carried along where slots take it. A refused write changes
+// neither disk nor list, and hands the line back as it is.
+fn write_carried(
     disk: &mut [u8],
-    list: &mut [u32],
-    g: Geometry,
     number: PublicNumber,
-    head: u32,
     content: &[u8],
+    carried: Carried,
+    line: Line,
+    blocks: &[u8],
     random: &[u8],
-    taken: bool,
-    hidden_number: HiddenNumber,
-    hidden: &[u8],
-) -> Ran
-    requires { ⌜ Runnable (geometryOf g) (now disk) (number .0) head (now content) (now random)
-        (now content) (runFrom (geometryOf g .slots) (geometryOf g) (number .0) (now content) head
-        (now random) (now disk) (startState (takenWrites taken («hidden_number» .0) (now hidden)))) 0
-        (length (now list)) ⌝ }
-    requires { ⌜ (taken ≡ true → length (now hidden) ≡ geometryOf g .blockSize) ⌝ }
-    ensures { λ r. ⌜ RanWith (geometryOf g) (now (disk .entry)) (now (list .entry)) (runFrom
-        (geometryOf g .slots) (geometryOf g) (number .0) (now (content .entry)) head (now (random .entry))
-        (now (disk .entry)) (startState (takenWrites taken («hidden_number» .0) (now (hidden .entry)))))
-        (now (disk .exit)) (now (list .exit)) r ⌝ }
+    list: &mut [u32],
+) -> LineWritten
+    ensures { λ r. ⌜ CarriedAnswered carried (written (now (disk .entry)) (number .0) (now (content .entry))
+        (now (random .entry)) (length (now (list .entry)))
+        (offeredOf carried (lineOf line) (now (blocks .entry)))) (now (disk .entry)) (now (list .entry))
+        (now (blocks .entry)) line (now (disk .exit)) (now (list .exit)) r ⌝ }
 {
-    if taken {
-        let waiting = State {
-            offer: Offer::Waiting,
-            met_damage: false,
-        };
-        return run_write(
-            disk,
-            list,
-            g,
-            number,
-            head,
-            content,
-            random,
-            waiting,
-            hidden_number,
-            hidden,
-        );
+    match open_write(disk, number, content, random, list) {
+        Opened::Refused(fault) => LineWritten {
+            answer: fault,
+            rounds: 0,
+            stores: 0,
+            outcome: Outcome::NotTried,
+            placed: 0,
+            line,
+        },
+        Opened::Good(g) => {
+            let head = head_in(disk);
+            let bad = carried_fault(g, carried, blocks.len());
+            let turns = carried_turns(g, carried, bad, line, blocks.len());
+            let count = turns.count;
+            let numbers = turns.numbers;
+            let places = turns.places;
+            let ran = run_write(
+                disk,
+                list,
+                g,
+                number,
+                head,
+                content,
+                random,
+                &numbers[..count],
+                &places[..count],
+                blocks,
+            );
+            answer_done(bad, ran, turns, line)
+        }
     }
-    let absent = State {
-        offer: Offer::Absent,
-        met_damage: false,
-    };
-    run_write(
-        disk,
-        list,
-        g,
-        number,
-        head,
-        content,
-        random,
-        absent,
-        hidden_number,
-        content,
-    )
 }
 
 // Writes a public number's data, and the hidden write that is offered where a slot takes it. A refused write
@@ -188,38 +185,53 @@ pub fn write_block(
         (callOffer offered («hidden_number» .0) (now (hidden .entry)))) (now (disk .entry))
         (now (list .entry)) (now (disk .exit)) (now (list .exit)) r ⌝ }
 {
-    match open_write(disk, number, content, random, list) {
-        Opened::Refused(fault) => Written {
-            answer: fault,
-            rounds: 0,
-            stores: 0,
-            outcome: Outcome::NotTried,
-        },
-        Opened::Good(g) => {
-            let head = head_in(disk);
-            let bad = offer_fault(g, offered, hidden_number, hidden);
-            let taken = is_taken(offered, bad);
-            let ran = run_offer(
-                disk,
-                list,
-                g,
-                number,
-                head,
-                content,
-                random,
-                taken,
-                hidden_number,
-                hidden,
-            );
-            let rounds = ran.rounds;
-            let stores = ran.next;
-            let state = ran.state;
-            Written {
-                answer: 0,
-                rounds,
-                stores: stores as u32,
-                outcome: outcome_of(bad, state),
-            }
-        }
+    let carried = carried_by(offered, hidden_number);
+    let done = write_carried(
+        disk,
+        number,
+        content,
+        carried,
+        no_line(),
+        hidden,
+        random,
+        list,
+    );
+    let answer = done.answer;
+    let rounds = done.rounds;
+    let stores = done.stores;
+    let outcome = done.outcome;
+    Written {
+        answer,
+        rounds,
+        stores,
+        outcome,
     }
+}
+
+// Writes a public number's data, and offers of the line where slots take them, the first first. A refused
+// write changes neither disk nor list, and hands the line back as it is.
+pub fn write_line(
+    disk: &mut [u8],
+    number: PublicNumber,
+    content: &[u8],
+    line: Line,
+    blocks: &[u8],
+    random: &[u8],
+    list: &mut [u32],
+) -> LineWritten
+    ensures { λ r. ⌜ LineAnswered (written (now (disk .entry)) (number .0) (now (content .entry))
+        (now (random .entry)) (length (now (list .entry))) (inLine (now (blocks .entry)) (lineOf line)))
+        (now (disk .entry)) (now (list .entry)) (now (blocks .entry)) line (now (disk .exit))
+        (now (list .exit)) r ⌝ }
+{
+    write_carried(
+        disk,
+        number,
+        content,
+        Carried::InLine,
+        line,
+        blocks,
+        random,
+        list,
+    )
 }

@@ -1,148 +1,114 @@
--- Laws of a write: a refused one leaves all as it was; one that is not refused can be run, and its run is the
--- model's write.
--- Assumes nothing.
-use mathlib.Core.Path.{_≡_, refl, sym, ap, subst, _∙_}
+-- Laws of a write: a refused one leaves all as it was; one that is not refused can be run with the turns of
+-- what it carries, and its run is the model's write. Assumes nothing.
+use mathlib.Core.Path.{_≡_, refl, sym, ap, ap₂, subst, _∙_}
 use mathlib.Core.Logic.{_≢_}
-use mathlib.Core.Bool.{Bool, true, false, _&&_}
-use mathlib.Core.List.{List, []}
-use mathlib.Core.Option.{Option}
-use Prim.Native.Nat.{ℕ, _+_, _*_, _^_, _<_}
+use mathlib.Core.List.{List, [], _∷_}
+use Prim.Native.Nat.{ℕ, _+_, _*_, _^_, _≤_, _<_}
 use native.Mathlib.Nat.{mul-assoc}
 use native.Mathlib.Omega.{arith}
-use lib.Dec.{eqb}
-use lib.ListN.{length}
+use lib.ListN.{length, take}
 use Rattle.laws.specs.Lists.{over}
 use Rattle.laws.proofs.Cases.{cond-cases}
 use Rattle.laws.proofs.Lists.{over-nil}
+use Rattle.laws.proofs.Members.{All}
 use Rattle.model.specs.Geometry.{Geometry, blockWidth}
 use Rattle.model.specs.Blocks.{Bytes, DiskAddress}
 use Rattle.model.specs.Layout.{geometryIn, headIn, roundSlot, isOneBlock, mapEntry}
-use Rattle.model.specs.HiddenHalf.{HiddenWrite}
+use Rattle.model.specs.HiddenHalf.{HiddenWrite, HiddenState}
 use Rattle.model.specs.Rounds.{Run, runFrom}
 use Rattle.model.specs.Refusals.{roundCount, writeStoreCount, writeRefusal}
+use Rattle.model.specs.Line.{Offer, hiddenWritesOf, leftAfter}
 use Rattle.model.specs.Calls as model
 use Rattle.model.proofs.Laws.Runs.{rounds-ran, length-ran}
 use Rattle.model.proofs.Laws.Stores.{apply-nil, addresses-take}
 use Rattle.model.proofs.Laws.Refusals.{Accepted, accepted-of-refusal}
-use Rattle.model.proofs.Laws.Accepted.{AcceptedWrite, accepted-of-write, driveRefusal-of-write}
+use Rattle.model.proofs.Laws.Accepted.{AcceptedWrite, accepted-of-write, driveRefusal-of-write, GoodWrite}
+use Rattle.model.proofs.Laws.Accepted.{offeredWrites-good}
 use Rattle.model.proofs.Laws.Calls.{written-refused, written-done}
+use Rattle.model.proofs.Laws.HiddenWrites.{hiddenWritesOf-cons}
+use Rattle.model.proofs.Laws.LentBlocks.{lent-inside}
+use Rattle.model.proofs.Laws.LineSteps.{leftAfter-none}
+use Rattle.model.proofs.Laws.LineTurns.{length-hiddenWritesOf}
 use Rattle.model.proofs.Laws.Offers.{writeRun-is}
+use Rattle.model.proofs.Laws.RoundSearch.{stores-small}
 use Rattle.model.proofs.Laws.WriteRuns.{writeRun-ran}
 use Rattle.model.proofs.Refusals.Circle.{roundCount-le}
+use Rattle.model.proofs.Volumes.Placed.{placed-le}
 use Rattle.stores.proofs.Laws.Made.{disk-after, list-after, next-after}
-use Rattle.model.proofs.Laws.RoundSearch.{stores-small}
+use Rattle.line.specs.declared.offers.Line.{Line}
+use Rattle.line.specs.declared.turns.Turns.{Turns}
+use Rattle.line.specs.Offers.{lineOf}
+use Rattle.line.specs.Turns.{turnsIn}
+use Rattle.line.proofs.Laws.Turns.{length-turnsIn}
 use Rattle.rounds.specs.declared.runs.Ran.{Ran}
-use Rattle.plans.specs.declared.states.Offer.the-variants.{Absent, Waiting}
-use Rattle.plans.specs.States.{stateOf}
-use Rattle.rounds.specs.Runs.{Runnable, RunMade}
-use Rattle.mapper.specs.declared.write.Outcome.{Outcome}
+use Rattle.rounds.specs.Runs.{turnsRun, TurnsLent, Runnable, RunMade}
+use Rattle.mapper.specs.declared.carried.Carried.{Carried}
+use Rattle.mapper.specs.declared.write.LineWritten.{LineWritten}
 use Rattle.mapper.specs.declared.write.Outcome.the-variants.{NotTried}
-use Rattle.mapper.specs.Writes.{outcomeOf, callOffer, takenWrites, RanWith, WriteAnswered}
-use Rattle.mapper.proofs.Laws.Offers.{writes-taken}
-
--- ---- with the offer or without ----
-
--- rounds from a head on with these hidden writes
-abbrev pub runTaken :
-    Geometry → (disk : Bytes) → (number head : ℕ) → (content random : Bytes) → (taken : Bool) →
-    (hiddenNumber : ℕ) →
-    (hidden : Bytes) → Run
-runTaken g disk number head content random taken hiddenNumber hidden =
-    runFrom (g .slots) g number content head random disk
-    (model.startState (takenWrites taken hiddenNumber hidden))
-
-module _ (g : Geometry) (disk : Bytes) (number head : ℕ) (content random : Bytes) (taken : Bool)
-    (hiddenNumber : ℕ)
-    (hidden : Bytes) where
-  abbrev run : Run
-  run = runTaken g disk number head content random taken hiddenNumber hidden
-
-  module _ (room : ℕ) (r : Runnable g disk number head content random content run 0 room) where
-    pub runnable-taken :
-        taken ≡ true → length hidden ≡ g .blockSize →
-        Runnable g disk number head content random hidden
-        (runFrom (g .slots) g number content head random disk
-        (stateOf (record { offer = Waiting; «met_damage» = false }) hiddenNumber hidden)) 0 room
-    runnable-taken e whole =
-        let here : Runnable g disk number head content random content
-        (runTaken g disk number head content random true hiddenNumber hidden) 0 room =
-        subst (λ (t : Bool).
-        Runnable g disk number head content random content
-        (runTaken g disk number head content random t hiddenNumber hidden) 0 room) e r in
-        record {
-          drive = here .drive;
-          number-inside = here .number-inside;
-          head-inside = here .head-inside;
-          content-whole = here .content-whole;
-          offered-whole = whole;
-          old-place = here .old-place;
-          random-enough = here .random-enough;
-          room-enough = here .room-enough;
-        }
-
-    pub runnable-absent :
-        taken ≡ false →
-        Runnable g disk number head content random content
-        (runFrom (g .slots) g number content head random disk
-        (stateOf (record { offer = Absent; «met_damage» = false }) hiddenNumber content)) 0 room
-    runnable-absent e =
-        subst (λ (t : Bool).
-        Runnable g disk number head content random content
-        (runTaken g disk number head content random t hiddenNumber hidden) 0 room) e r
-
-  module _ (list : List DiskAddress) (diskAfter : Bytes) (listAfter : List DiskAddress) (ran : Ran) where
-    pub ran-taken :
-        taken ≡ true →
-        RunMade g disk list 0
-        (runFrom (g .slots) g number content head random disk
-        (stateOf (record { offer = Waiting; «met_damage» = false }) hiddenNumber hidden)) hiddenNumber hidden
-        diskAfter
-        listAfter ran → RanWith g disk list run diskAfter listAfter ran
-    ran-taken e made = rw e (record { hiddenNumber = hiddenNumber; hidden = hidden; run-made = made })
-
-    pub ran-absent :
-        taken ≡ false →
-        RunMade g disk list 0
-        (runFrom (g .slots) g number content head random disk
-        (stateOf (record { offer = Absent; «met_damage» = false }) hiddenNumber content)) hiddenNumber content
-        diskAfter
-        listAfter ran → RanWith g disk list run diskAfter listAfter ran
-    ran-absent e made = rw e (record { hiddenNumber = hiddenNumber; hidden = content; run-made = made })
+use Rattle.mapper.specs.Carried.{offeredOf, carriedTurns, TurnsCarried}
+use Rattle.mapper.specs.Writes.{DoneFits, DoneAnswered, CarriedAnswered}
+use Rattle.mapper.proofs.Laws.Carried.{writes-carried}
 
 -- ---- refused ----
 
 pub answered-refused :
-    (disk : Bytes) (number : ℕ) (content random : Bytes) (list : List DiskAddress)
-    (offer : Option HiddenWrite)
-    (fault : ℕ) → fault ≡ writeRefusal disk number content (length random) (length list) → fault ≢ 0 →
-    WriteAnswered (model.written disk number content random (length list) offer) disk list disk list
-    (record { answer = fault; rounds = 0; stores = 0; outcome = NotTried })
-answered-refused disk number content random list offer fault e f =
-    rw (written-refused disk number content random (length list) offer (λ z. f (e ∙ z)))
+    (disk : Bytes) (number : ℕ) (content random : Bytes) (list : List DiskAddress) (carried : Carried)
+    (line : Line) (blocks : Bytes) (fault : ℕ) →
+    fault ≡ writeRefusal disk number content (length random) (length list) → fault ≢ 0 →
+    CarriedAnswered carried
+    (model.written disk number content random (length list) (offeredOf carried (lineOf line) blocks)) disk
+    list blocks line disk list
+    (record { answer = fault; rounds = 0; stores = 0; outcome = NotTried; placed = 0; line = line })
+answered-refused disk number content random list carried line blocks fault e f =
+    rw
+    (written-refused disk number content random (length list) (offeredOf carried (lineOf line) blocks)
+    (λ z. f (e ∙ z)))
     (record {
-      answered = e;
-      rounds-are = refl;
-      stores-are = refl;
-      outcome-is = refl;
-      stored = sym (apply-nil (blockWidth (geometryIn disk)) disk);
-      listed =
-          sym (ap (λ (addresses : List DiskAddress). over 0 addresses list) (addresses-take [] 0)
-          ∙ over-nil 0 list (omega arith));
+      told =
+          record {
+            answered = e;
+            rounds-are = refl;
+            stores-are = refl;
+            outcome-is = refl;
+            stored = sym (apply-nil (blockWidth (geometryIn disk)) disk);
+            listed =
+                sym (ap (λ (addresses : List DiskAddress). over 0 addresses list) (addresses-take [] 0)
+                ∙ over-nil 0 list (omega arith));
+          };
+      placed-are = refl;
+      line-left = sym (leftAfter-none (lineOf line));
+      line-kept = λ z. refl;
     })
+
+-- ---- the turns' blocks ----
+
+-- good hidden writes are lent whole
+lent-of-good :
+    (g : Geometry) (blocks : Bytes) (offers : List Offer) →
+    All (GoodWrite g) (hiddenWritesOf g blocks offers) → TurnsLent g blocks offers
+lent-of-good g blocks [] good = tt
+lent-of-good g blocks (offer ∷ later) good =
+    let split = rw (hiddenWritesOf-cons g blocks offer later) at good in (
+      lent-inside (g .blockSize) blocks (offer .place) (split .0 .block-sized),
+      lent-of-good g blocks later (split .1),
+    )
 
 -- ---- not refused ----
 
-module _ (disk : Bytes) (number : ℕ) (content random : Bytes) (list : List DiskAddress) (offered : Bool)
-    (hiddenNumber : ℕ) (hidden : Bytes)
+module _ (disk : Bytes) (number : ℕ) (content random : Bytes) (list : List DiskAddress) (carried : Carried)
+    (line : Line) (blocks : Bytes)
     (accepted : writeRefusal disk number content (length random) (length list) ≡ 0) (g : Geometry)
     (same : g ≡ geometryIn disk) (head : ℕ) (first : head ≡ headIn disk) (bad : ℕ)
-    (judged : bad ≡ model.offerRefusal g (callOffer offered hiddenNumber hidden)) (taken : Bool)
-    (decided : taken ≡ (offered && eqb bad 0)) where
-  abbrev offer : Option HiddenWrite
-  offer = callOffer offered hiddenNumber hidden
+    (judged : bad ≡ model.offerRefusal g (offeredOf carried (lineOf line) blocks)) (turns : Turns)
+    (found : TurnsCarried g carried (length blocks) (lineOf line) turns) where
+  abbrev offered : model.Offered
+  offered = offeredOf carried (lineOf line) blocks
 
   abbrev theirs : Run
-  theirs = model.writeRun (geometryIn disk) disk number content random offer
+  theirs = model.writeRun (geometryIn disk) disk number content random offered
+
+  abbrev ours : Run
+  ours = turnsRun g disk number head content random (turnsIn turns) blocks
 
   drive : Accepted disk
   drive =
@@ -152,35 +118,48 @@ module _ (disk : Bytes) (number : ℕ) (content random : Bytes) (list : List Dis
   allowed : AcceptedWrite (geometryIn disk) disk number (length content) (length random) (length list)
   allowed = accepted-of-write disk number content (length random) (length list) accepted
 
-  bad-is : bad ≡ model.offerRefusal (geometryIn disk) offer
-  bad-is = judged ∙ ap (λ (h : Geometry). model.offerRefusal h offer) same
+  bad-is : bad ≡ model.offerRefusal (geometryIn disk) offered
+  bad-is = judged ∙ ap (λ (h : Geometry). model.offerRefusal h offered) same
 
-  -- the run with the geometry and the head that were read is the write's
-  run-is : runTaken g disk number head content random taken hiddenNumber hidden ≡ theirs
+  turns-are : turnsIn turns ≡ carriedTurns carried (geometryIn disk) (lineOf line) blocks
+  turns-are =
+      found .turns-are blocks refl
+      ∙ ap (λ (h : Geometry). carriedTurns carried h (lineOf line) blocks) same
+
+  writes-are : hiddenWritesOf (geometryIn disk) blocks (turnsIn turns) ≡
+      model.offeredWrites (geometryIn disk) offered
+  writes-are =
+      ap (hiddenWritesOf (geometryIn disk) blocks) turns-are
+      ∙ writes-carried (geometryIn disk) carried (lineOf line) blocks
+
+  -- the run with the geometry, the head and the turns that were found is the write's
+  run-is : ours ≡ theirs
   run-is =
-      ap (λ (h : Geometry). runTaken h disk number head content random taken hiddenNumber hidden) same
-      ∙ ap (λ (k : ℕ). runTaken (geometryIn disk) disk number k content random taken hiddenNumber hidden)
-      first
-      ∙ ap (λ writes. runFrom (geometryIn disk .slots) (geometryIn disk) number content (headIn disk) random
-      disk
-      (model.startState writes))
-      (writes-taken (geometryIn disk) hiddenNumber hidden bad offered taken bad-is decided)
-      ∙ sym (writeRun-is (geometryIn disk) disk number content random offer)
+      ap (λ (h : Geometry). turnsRun h disk number head content random (turnsIn turns) blocks) same
+      ∙ ap (λ (k : ℕ). turnsRun (geometryIn disk) disk number k content random (turnsIn turns) blocks) first
+      ∙ ap (λ (writes : List HiddenWrite). runFrom (geometryIn disk .slots) (geometryIn disk) number content
+      (headIn disk) random disk (model.startState writes)) writes-are
+      ∙ sym (writeRun-is (geometryIn disk) disk number content random offered)
 
   rounds-are : theirs .rounds ≡ roundCount (geometryIn disk) disk
   rounds-are =
       rounds-ran (geometryIn disk) number content (headIn disk) (roundCount (geometryIn disk) disk)
-      (allowed .some-rounds) disk theirs (writeRun-ran disk number content random (length list) offer
+      (allowed .some-rounds) disk theirs (writeRun-ran disk number content random (length list) offered
       accepted)
 
   stores-are : length (theirs .trace) ≡ writeStoreCount (geometryIn disk) disk number
   stores-are =
       length-ran (geometryIn disk) number content (headIn disk) (roundCount (geometryIn disk) disk)
-      (allowed .some-rounds) disk theirs (writeRun-ran disk number content random (length list) offer
+      (allowed .some-rounds) disk theirs (writeRun-ran disk number content random (length list) offered
       accepted)
 
-  runnable-theirs : Runnable (geometryIn disk) disk number (headIn disk) content random content theirs 0
-      (length list)
+  turns-lent : TurnsLent (geometryIn disk) blocks (turnsIn turns)
+  turns-lent =
+      lent-of-good (geometryIn disk) blocks (turnsIn turns)
+      (rw writes-are (offeredWrites-good (geometryIn disk) offered))
+
+  runnable-theirs : Runnable (geometryIn disk) disk number (headIn disk) content random (turnsIn turns) blocks
+      theirs 0 (length list)
   runnable-theirs =
       let a = allowed .accepted in
       record {
@@ -188,7 +167,7 @@ module _ (disk : Bytes) (number : ℕ) (content random : Bytes) (list : List Dis
         number-inside = a .number-inside;
         head-inside = drive .head-inside;
         content-whole = a .block-sized;
-        offered-whole = a .block-sized;
+        turns-lent = turns-lent;
         old-place = a .in-place;
         random-enough =
             rw rounds-are
@@ -198,26 +177,38 @@ module _ (disk : Bytes) (number : ℕ) (content random : Bytes) (list : List Dis
         room-enough = omega (arith, stores-are, allowed .enough-room);
       }
 
-  pub runnable :
-      Runnable g disk number head content random content
-      (runTaken g disk number head content random taken hiddenNumber hidden) 0 (length list)
+  pub runnable : Runnable g disk number head content random (turnsIn turns) blocks ours 0 (length list)
   runnable =
       rw run-is
-      (subst (λ (h : Geometry). Runnable h disk number head content random content theirs 0 (length list))
-      (sym same)
-      (subst (λ (k : ℕ). Runnable (geometryIn disk) disk number k content random content theirs 0
-      (length list))
+      (subst (λ (h : Geometry).
+      Runnable h disk number head content random (turnsIn turns) blocks theirs 0 (length list)) (sym same)
+      (subst (λ (k : ℕ).
+      Runnable (geometryIn disk) disk number k content random (turnsIn turns) blocks theirs 0 (length list))
       (sym first) runnable-theirs))
 
-  module _ (diskAfter : Bytes) (listAfter : List DiskAddress) (ran : Ran)
-      (done : RanWith g disk list (runTaken g disk number head content random taken hiddenNumber hidden)
-      diskAfter
-      listAfter ran) where
-    done-theirs : RanWith (geometryIn disk) disk list theirs diskAfter listAfter ran
+  module _ (numbers-whole : length (turns .numbers) ≡ 16) (places-whole : length (turns .places) ≡ 16)
+      (diskAfter : Bytes) (listAfter : List DiskAddress) (ran : Ran)
+      (done : RunMade g disk list 0 ours (turnsIn turns) blocks diskAfter listAfter ran) where
+    done-theirs : RunMade (geometryIn disk) disk list 0 theirs (turnsIn turns) blocks diskAfter listAfter ran
     done-theirs =
-        subst (λ (h : Geometry). RanWith h disk list theirs diskAfter listAfter ran) same (rw run-is at done)
+        subst (λ (h : Geometry).
+        RunMade h disk list 0 theirs (turnsIn turns) blocks diskAfter listAfter ran) same (rw run-is at done)
 
-    pub next-fits : ran .next < 2 ^ 32
+    placed-is : ran .state .placed ≡ theirs .state .placed
+    placed-is = ap (λ (state : HiddenState). state .placed) (done-theirs .state-is)
+
+    writes-count : length (hiddenWritesOf (geometryIn disk) blocks (turnsIn turns)) ≡ turns .count
+    writes-count =
+        length-hiddenWritesOf (geometryIn disk) blocks (turnsIn turns)
+        ∙ length-turnsIn turns numbers-whole places-whole (found .count-most)
+
+    placed-most : ran .state .placed ≤ turns .count
+    placed-most =
+        let most = rw (written-done disk number content random (length list) offered accepted) at
+        (placed-le disk number content random (length list) offered) in
+        omega (arith, placed-is, most, writes-count, ap length writes-are)
+
+    next-fits : ran .next < 2 ^ 32
     next-fits =
         let g = geometryIn disk in
         let rounds = roundCount g disk in
@@ -226,25 +217,35 @@ module _ (disk : Bytes) (number : ℕ) (content random : Bytes) (list : List Dis
         cond-cases (λ (n : ℕ). rounds * (g .height + 3) + n < 2 ^ 32)
         (isOneBlock g (mapEntry g disk number) (roundSlot g (headIn disk) rounds))
         (λ e. omega arith) (λ e. omega arith) in
-        omega (arith, next-after (done-theirs .run-made .made), stores-are)
+        omega (arith, next-after (done-theirs .made), stores-are)
+
+    pub done-fits : DoneFits ran turns
+    done-fits = record { placed-most = placed-most; count-most = found .count-most; stores-few = next-fits }
 
     pub answered-done :
-        (outcome : Outcome) →
-        ((n : ℕ) (c : Bytes) → outcomeOf outcome ≡ model.offerOutcome bad (stateOf (ran .state) n c)) →
-        WriteAnswered (model.written disk number content random (length list) offer) disk list diskAfter
-        listAfter
-        (record { answer = 0; rounds = ran .rounds; stores = ran .next; outcome = outcome })
-    answered-done outcome said =
-        let m = done-theirs .run-made in
-        rw (written-done disk number content random (length list) offer accepted)
+        (answer : LineWritten) → DoneAnswered bad ran turns line answer →
+        CarriedAnswered carried (model.written disk number content random (length list) offered) disk list
+        blocks line diskAfter listAfter answer
+    answered-done answer said =
+        let m = done-theirs in
+        rw (written-done disk number content random (length list) offered accepted)
         (record {
-          answered = refl;
-          rounds-are = m .rounds-are;
-          stores-are = omega (arith, next-after (m .made));
-          outcome-is =
-              said (done-theirs .hiddenNumber) (done-theirs .hidden)
-              ∙ ap (model.offerOutcome bad) (m .state-is)
-              ∙ ap (λ (n : ℕ). model.offerOutcome n (theirs .state)) bad-is;
-          stored = disk-after (m .made);
-          listed = list-after (m .made);
+          told =
+              record {
+                answered = said .answered;
+                rounds-are = said .rounds-are ∙ m .rounds-are;
+                stores-are = omega (arith, said .stores-are, next-after (m .made));
+                outcome-is =
+                    said .outcome-is (hiddenWritesOf (geometryIn disk) blocks (turnsIn turns)) writes-count
+                    ∙ ap (model.offerOutcome bad) (m .state-is)
+                    ∙ ap (λ (n : ℕ). model.offerOutcome n (theirs .state)) bad-is;
+                stored = disk-after (m .made);
+                listed = list-after (m .made);
+              };
+          placed-are = said .placed-are ∙ placed-is;
+          line-left =
+              said .line-left
+              ∙ ap₂ (λ (count : ℕ) (offers : List Offer). leftAfter (take count offers) (lineOf line))
+              placed-is turns-are;
+          line-kept = λ refused. absurd (refused (said .answered));
         })

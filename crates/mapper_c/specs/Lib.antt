@@ -1,5 +1,8 @@
 pub mod Geometries
 pub mod Questions
 pub mod Finds
+pub mod LineFinds
+pub mod LineEnters
 pub mod Needs
 pub mod Writes
+pub mod LineWrites

@@ -19,7 +19,7 @@ pub struct Found {
 }
 
 // What is found, in the fields of the struct.
-fn found_as(find: Find) -> Found
+pub fn found_as(find: Find) -> Found
     ensures { λ r. ⌜ r ≡ foundOf (findOf find) ⌝ }
 {
     match find {

@@ -3,6 +3,9 @@
 mod formatting; // an empty drive
 mod questions; // which drive a disk is, and how large a drive is
 mod finds; // where the block of a number stands, in either volume
+mod line_finds; // where a hidden number's block stands where offers wait
+mod line_enters; // an offer that enters a lent line
 mod needs; // the buffers that a write takes
 mod writes; // the write, with or without an offer
+mod line_writes; // the write with a lent line of offers
 mod trees; // the check of the whole hidden tree

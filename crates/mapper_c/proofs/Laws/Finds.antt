@@ -19,7 +19,7 @@ use Rattle.mapper_c.specs.Finds.{foundOf, foundPublic, foundHidden, show
 
 -- ---- any find ----
 
-shownBy-foundOf :
+pub shownBy-foundOf :
     (find : Find) (disk blank : Bytes) → shownBy (foundOf find) disk blank ≡ shownFind find disk blank
 unfolding shownBy
 shownBy-foundOf (refusedFind fault) disk blank = refl
@@ -27,11 +27,11 @@ shownBy-foundOf blankFind disk blank = refl
 shownBy-foundOf (blockFind address) disk blank = refl
 
 -- an answer of kind 2 names a whole block of the disk
-abbrev WholeBlock : Found → (disk : Bytes) → Type 0
-WholeBlock answer disk =
+abbrev pub WholeOnDisk : Found → (disk : Bytes) → Type 0
+WholeOnDisk answer disk =
     answer .kind ≡ 2 → (answer .address + 1) * geometryIn disk .blockSize ≤ length disk
 
-whole-block : (find : Find) (disk : Bytes) → BlockInside find disk → WholeBlock (foundOf find) disk
+pub whole-block : (find : Find) (disk : Bytes) → BlockInside find disk → WholeOnDisk (foundOf find) disk
 whole-block (refusedFind fault) disk inside k = absurd (omega arith)
 whole-block blankFind disk inside k = absurd (omega arith)
 whole-block (blockFind address) disk inside k =
@@ -45,7 +45,7 @@ answered find shown disk blank shows inside answer e =
     record {
       found-is = e;
       shows = ap (λ (r : Found). shownBy r disk blank) e ∙ shownBy-foundOf find disk blank ∙ shows;
-      inside = subst (λ (r : Found). WholeBlock r disk) (sym e) (whole-block find disk inside);
+      inside = subst (λ (r : Found). WholeOnDisk r disk) (sym e) (whole-block find disk inside);
     }
 
 -- ---- the two volumes ----

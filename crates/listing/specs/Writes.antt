@@ -8,8 +8,7 @@ use lib.ListN.{replicate}
 use Rattle.model.specs.Blocks.{Bytes}
 use Rattle.model.specs.Layout.{headIn}
 use Rattle.model.specs.Stores.{addresses}
-use Rattle.model.specs.HiddenHalf.{HiddenWrite}
-use Rattle.model.specs.Calls.{Written, written, writtenDisk, outcomeNumber}
+use Rattle.model.specs.Calls.{Offered, nothing, one, Written, written, writtenDisk, outcomeNumber}
 use Rattle.script.specs.Texts.{Put}
 use Rattle.script.specs.Reports.{reportLine}
 
@@ -28,9 +27,9 @@ abbrev pub listRoom : ℕ
 listRoom = 23
 
 -- the hidden write that a line offers, if any
-abbrev pub offeredWrite : (line : ℕ) → (offer : Option ℕ) → Option HiddenWrite
-offeredWrite line none = none
-offeredWrite line (some number) = some (record { number = number; content = lineData line })
+abbrev pub offeredWrite : (line : ℕ) → (offer : Option ℕ) → Offered
+offeredWrite line none = nothing
+offeredWrite line (some number) = one (record { number = number; content = lineData line })
 
 -- ---- what it does and prints ----
 

@@ -1,13 +1,14 @@
 -- The drive of a row. Assumes nothing.
 use mathlib.Core.Bool.{cond}
-use mathlib.Core.Option.{none}
-use Prim.Native.Nat.{ℕ, zero, suc, _/_, min}
-use lib.Dec.{eqb, ltb}
-use lib.ListN.{length, take, replicate}
+use Prim.Native.Nat.{ℕ, zero, suc, min}
+use lib.Dec.{eqb}
+use lib.ListN.{take, replicate}
 use Rattle.model.specs.Blocks.{Bytes, setEntry}
 use Rattle.model.specs.Calls.{formatted}
 use Rattle.model.specs.Promises.Figures.{small}
-use Rattle.model.specs.Promises.Limits.{lineOf, offerOf, twoBitmaps}
+use Rattle.model.specs.Calls.{nothing}
+use Rattle.model.specs.Promises.Limits.{listedOn, oneOffer, twoBitmaps}
+use Rattle.figure_lines.specs.Counts.{puts}
 use Rattle.figures.specs.declared.drives.Drive.{Drive}
 
 -- ---- how it is made ----
@@ -21,16 +22,16 @@ slotMade disk =
 
 -- lines 0 -, 0 1 and 1 -
 unfoldable pub threeWritten : (disk : Bytes) → Bytes
-threeWritten disk = lineOf (lineOf (lineOf disk 1 0 none) 2 0 (offerOf 1 2)) 3 1 none
+threeWritten disk = listedOn (listedOn (listedOn disk 1 0 nothing) 2 0 (oneOffer 1 2)) 3 1 nothing
 
 -- lines 2 - and 2 0
 unfoldable pub twoWritten : (disk : Bytes) → Bytes
-twoWritten disk = lineOf (lineOf disk 4 2 none) 5 2 (offerOf 0 5)
+twoWritten disk = listedOn (listedOn disk 4 2 nothing) 5 2 (oneOffer 0 5)
 
 -- so many writes of bytes 7, to numbers 0, 1 and so on up to the last, and then to the last
 unfoldable pub writtenOn : (times last : ℕ) → (disk : Bytes) → Bytes
 writtenOn zero last disk = disk
-writtenOn (suc times) last disk = lineOf (writtenOn times last disk) 7 (min times last) none
+writtenOn (suc times) last disk = listedOn (writtenOn times last disk) 7 (min times last) nothing
 
 unfoldable pub madeBy : (made times : ℕ) → (disk : Bytes) → Bytes
 madeBy made times disk =
@@ -41,10 +42,6 @@ madeBy made times disk =
     (cond (eqb made 5) (writtenOn times 0 (formatted disk twoBitmaps)) (formatted disk small)))))
 
 -- ---- what is put and lent ----
-
--- an entry that the disk does not have is not put
-abbrev pub puts : (index value : ℕ) → (disk : Bytes) → Bytes
-puts index value disk = cond (ltb index (length disk / 4)) (setEntry index value disk) disk
 
 unfoldable pub driveOn : Drive → (disk : Bytes) → Bytes
 driveOn drive disk =

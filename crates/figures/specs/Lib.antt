@@ -1,4 +1,3 @@
-pub mod Counts
 pub mod Drives
 pub mod Layouts
 pub mod Questions

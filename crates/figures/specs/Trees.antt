@@ -8,7 +8,7 @@ use Rattle.model.specs.Layout.{geometryIn}
 use Rattle.model.specs.Refusals.{driveRefusal}
 use Rattle.model.specs.TreeCheck.{treeRefusal}
 use Rattle.hidden_map.specs.Nodes.{readAt}
-use Rattle.figures.specs.Counts.{entryOr}
+use Rattle.figure_lines.specs.Counts.{entryOr}
 use Rattle.figures.specs.Drives.{lentOf}
 use Rattle.figures.specs.declared.drives.Drive.{Drive}
 use Rattle.figures.specs.declared.trees.TreeRow.{TreeRow}

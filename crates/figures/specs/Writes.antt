@@ -10,7 +10,7 @@ use Rattle.model.specs.Refusals.{writeRefusal}
 use Rattle.model.specs.Calls.{Written, written, writtenDisk, writtenList, outcomeNumber}
 use Rattle.model.specs.Promises.Figures.{filled}
 use Rattle.mapper.specs.Writes.{callOffer}
-use Rattle.figures.specs.Counts.{isListed}
+use Rattle.figure_lines.specs.Counts.{isListed}
 use Rattle.figures.specs.Drives.{driveOn, rowDrive}
 use Rattle.figures.specs.declared.drives.Drive.{Drive}
 use Rattle.figures.specs.declared.writes.RefusedRow.{RefusedRow}

@@ -1,7 +1,9 @@
 // The drive of a row: how it is made, two entries that are put after that, and the bytes that are lent of it.
 // All are of document 01's geometry, B 32, k 2, P 3, H 2 and M 4, but for those that are moved.
-use crate::lines::print_named;
-use crate::lines::print_text;
+use figure_lines::lines::number_at;
+use figure_lines::lines::print_named;
+use figure_lines::lines::print_text;
+use figure_lines::lines::put_on;
 use layout::entries::put_entry;
 use layout::geometry::Geometry;
 use layout::numbers::HiddenNumber;
@@ -9,14 +11,14 @@ use layout::numbers::PublicNumber;
 use mapper::format_drive;
 use mapper::write_block;
 ghost use mathlib.Core.Path.{_≡_};
-ghost use Prim.Native.Nat.{_≤_, min};
+ghost use Prim.Native.Nat.{_≤_};
 ghost use lib.ListN.{length};
 ghost use Rattle.model.specs.Promises.Figures.{filled, small};
-ghost use Rattle.model.specs.Promises.Limits.{lineOf};
+ghost use Rattle.model.specs.Promises.Limits.{listedOn};
 ghost use Rattle.model.specs.Calls.{formatted};
 ghost use Rattle.mapper.specs.Writes.{callOffer};
 ghost use Rattle.figures.specs.Drives.{slotMade, threeWritten, twoWritten, writtenOn, madeBy};
-ghost use Rattle.figures.specs.Drives.{rowDrive, puts, driveOn, smallDrive};
+ghost use Rattle.figures.specs.Drives.{rowDrive, driveOn, smallDrive};
 
 // How a drive is made, from zeros: formatted;
 pub const FRESH: u8 = 0;
@@ -105,7 +107,7 @@ fn make_slot(disk: &mut [u8])
 // Writes a line: data and offered data are the line's number, the random bytes 165, the list has 23 entries.
 fn write_line(disk: &mut [u8], line: u8, number: u32, offered: bool, hidden: u32)
     ensures { λ _. ⌜ now (disk .exit) ≡
-        lineOf (now (disk .entry)) line number (callOffer offered hidden (filled line)) ⌝ }
+        listedOn (now (disk .entry)) line number (callOffer offered hidden (filled line)) ⌝ }
 {
     let content = [line; 32];
     write_block(
@@ -135,13 +137,6 @@ fn write_two(disk: &mut [u8])
 {
     write_line(disk, 4, 2, false, 0);
     write_line(disk, 5, 2, true, 0);
-}
-
-// The number of a write of those that count up to the last.
-fn number_at(i: u32, last: u32) -> u32
-    ensures { λ r. ⌜ r ≡ min i last ⌝ }
-{
-    if i <= last { i } else { last }
 }
 
 // Writes bytes 7 to numbers 0, 1, 2 and so on up to the last, and then to the last, so many in all.
@@ -185,15 +180,6 @@ fn make_by(disk: &mut [u8], made: u8, times: u32)
         _ => {
             format_small(disk);
         }
-    }
-}
-
-// Puts an entry, where the disk has it.
-fn put_on(disk: &mut [u8], index: usize, value: u32)
-    ensures { λ _. ⌜ now (disk .exit) ≡ puts index value (now (disk .entry)) ⌝ }
-{
-    if index < disk.len() / 4 {
-        put_entry(disk, index, value);
     }
 }
 

@@ -1,13 +1,13 @@
 // Rows of a geometry: how large its drive is, where its data area starts and a slot's bit stands, and what
 // formatting answers and leaves.
-use crate::lines::at_most;
-use crate::lines::byte_or;
-use crate::lines::print_answer;
-use crate::lines::print_count;
-use crate::lines::print_figure;
-use crate::lines::print_named;
-use crate::lines::print_text;
-use crate::lines::tally;
+use figure_lines::lines::at_most;
+use figure_lines::lines::byte_or;
+use figure_lines::lines::print_answer;
+use figure_lines::lines::print_count;
+use figure_lines::lines::print_figure;
+use figure_lines::lines::print_named;
+use figure_lines::lines::print_text;
+use figure_lines::lines::tally;
 use layout::bitmap::bit_place;
 use layout::geometry::Geometry;
 use layout::geometry::area_start;
@@ -17,7 +17,7 @@ use mapper::format_drive;
 ghost use mathlib.Core.Path.{_≡_};
 ghost use Rattle.model.specs.Calls.{formatted};
 ghost use Rattle.layout.specs.Geometries.{geometryOf};
-ghost use Rattle.figures.specs.Counts.{agreeing};
+ghost use Rattle.figure_lines.specs.Counts.{agreeing};
 ghost use Rattle.figures.specs.Layouts.{startOf, placeOf, sizeAgrees, formattedAgrees, formatAgrees};
 
 // B, k, P, H, M and a slot; the answer, the blocks T and the bytes, the start D of the data area, and the

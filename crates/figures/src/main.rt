@@ -1,18 +1,20 @@
 // Holds the code to document 01's figures ("Figures to hold against"), to the examples of its refusal table,
-// and to document 02's figures of K1, K2, K4 and K7. A row of a table says what is done and what the document
-// says, in flat numbers: their order stands above the table, and their meaning with the row's type. Each
-// figure is printed as a line, and at the end how many rows of each table agree.
+// and to document 02's figures of K1, K2, K4 and K7, and of K3 by the tables of `line_figures`. A row of a
+// table says what is done and what the document says, in flat numbers: their order stands above the table,
+// and their meaning with the row's type. Each figure is printed as a line, and at the end how many rows of
+// each table agree.
 use crate::layout_rows::format_rows;
 use crate::layout_rows::size_rows;
-use crate::lines::print_count;
 use crate::question_rows::identity_rows;
 use crate::question_rows::needs_rows;
 use crate::question_rows::read_rows;
 use crate::tree_rows::tree_rows;
 use crate::write_rows::refused_rows;
 use crate::write_rows::write_rows;
+use figure_lines::lines::print_count;
+use line_figures::line_rows::enter_rows;
+use line_figures::line_rows::line_write_rows;
 
-mod lines; // a figure's line, the count of rows that agree, and parts of what is lent
 mod drives; // a row's drive
 mod layouts; // sizes, areas and formatting
 mod questions; // which drive it is, reads, and what a write takes
@@ -32,6 +34,8 @@ fn main() {
     let trees = tree_rows();
     let refusals = refused_rows();
     let writes = write_rows();
+    let enters = enter_rows();
+    let lines = line_write_rows();
     print_count(b"size rows that agree", 7, sizes);
     print_count(b"format rows that agree", 33, formats);
     print_count(b"identity rows that agree", 6, identities);
@@ -40,4 +44,6 @@ fn main() {
     print_count(b"tree rows that agree", 34, trees);
     print_count(b"refused rows that agree", 13, refusals);
     print_count(b"write rows that agree", 16, writes);
+    print_count(b"enter rows that agree", 8, enters);
+    print_count(b"line rows that agree", 12, lines);
 }

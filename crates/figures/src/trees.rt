@@ -3,11 +3,11 @@
 use crate::drives::Drive;
 use crate::drives::print_drive;
 use crate::drives::small_drive;
-use crate::lines::entry_or;
-use crate::lines::part_of;
-use crate::lines::print_named;
-use crate::lines::print_text;
-use crate::lines::tally;
+use figure_lines::lines::entry_or;
+use figure_lines::lines::part_of;
+use figure_lines::lines::print_named;
+use figure_lines::lines::print_text;
+use figure_lines::lines::tally;
 use hidden_map::nodes::Node;
 use hidden_map::nodes::Nodes;
 use hidden_map::nodes::node_at;
@@ -18,7 +18,7 @@ use layout::numbers::HiddenNumber;
 use mapper::check_tree;
 ghost use mathlib.Core.Path.{_≡_};
 ghost use Rattle.hidden_map.specs.Nodes.{nodeOf, addressAt};
-ghost use Rattle.figures.specs.Counts.{agreeing};
+ghost use Rattle.figure_lines.specs.Counts.{agreeing};
 ghost use Rattle.figures.specs.Trees.{addressOr, nodeOn, toldBy, treeAgrees};
 
 // What is asked: an entry, by its index over the whole disk;

@@ -3,13 +3,14 @@ use crate::drives::Drive;
 use crate::drives::drive_with;
 use crate::drives::make_drive;
 use crate::drives::print_drive;
-use crate::lines::at_most;
-use crate::lines::part_of;
-use crate::lines::print_answer;
-use crate::lines::print_count;
-use crate::lines::print_named;
-use crate::lines::print_text;
-use crate::lines::tally;
+use figure_lines::lines::at_most;
+use figure_lines::lines::part_of;
+use figure_lines::lines::print_answer;
+use figure_lines::lines::print_count;
+use figure_lines::lines::print_named;
+use figure_lines::lines::print_text;
+use figure_lines::lines::tally;
+use figure_lines::lists::print_list;
 use layout::numbers::HiddenNumber;
 use layout::numbers::PublicNumber;
 use mapper::Written;
@@ -17,10 +18,9 @@ use mapper::outcome_number;
 use mapper::write_block;
 use mapper::write_fault;
 ghost use mathlib.Core.Path.{_≡_};
-ghost use lib.ListN.{getD};
 ghost use Rattle.model.specs.Calls.{outcomeNumber};
 ghost use Rattle.mapper.specs.Writes.{WriteAnswered, outcomeOf};
-ghost use Rattle.figures.specs.Counts.{agreeing, isListed};
+ghost use Rattle.figure_lines.specs.Counts.{agreeing};
 ghost use Rattle.figures.specs.Writes.{isOffered, faultAgrees, resultOf, saidAgrees, RowWrote};
 ghost use Rattle.figures.specs.Writes.{RowWroteOn, writeAgrees, refusedAgrees, acceptedAgrees};
 
@@ -78,52 +78,6 @@ pub struct Said {
     pub rounds: u32,
     pub stores: u32,
     pub outcome: u8,
-}
-
-// ---- lists ----
-
-// The entry of a list at an index: what was stored, or 99 past that.
-fn entry_said(stored: &[u32], index: usize) -> u32
-    ensures { λ r. ⌜ r ≡ getD (now (stored .entry)) index 99 ⌝ }
-{
-    if index < stored.len() {
-        return stored[index];
-    }
-    99
-}
-
-// Prints the first so many entries of a list, a space before each.
-fn print_entries(stored: &[u32], count: usize) {
-    let mut i = 0;
-    while i < count {
-        print_named(b" ", entry_said(stored, i) as u64);
-        i += 1;
-    }
-}
-
-// Whether a list has what was stored in front, and else 99.
-fn is_listed<'a>(stored: &'a [u32], list: &'a [u32]) -> bool
-    ensures { λ r. ⌜ r ≡ isListed (now (stored .entry)) (now (list .entry)) ⌝ }
-{
-    let mut same = true;
-    let mut i = 0;
-    while i < list.len() {
-        same = same & (entry_said(stored, i) == list[i]);
-        i += 1;
-    }
-    same
-}
-
-// Prints a list beside what the document says; answers whether they are equal.
-fn print_list<'a>(stored: &'a [u32], list: &'a [u32]) -> bool
-    ensures { λ r. ⌜ r ≡ isListed (now (stored .entry)) (now (list .entry)) ⌝ }
-{
-    print_text(b"  list expected");
-    print_entries(stored, list.len());
-    print_text(b" got");
-    print_entries(list, list.len());
-    print_text(b"\n");
-    is_listed(stored, list)
 }
 
 // ---- a write ----

@@ -1,6 +1,5 @@
 -- `write_times` meets its contract. The loop holds that so many writes are done and that the disk keeps its
 -- length; the writes left go down. Assumes nothing.
-use mathlib.Core.Option.{none}
 use mathlib.Core.Path.{_≡_, refl, ap, _∙_}
 use Prim.Native.Nat.{ℕ, _+_, _-_, _≤_, zero-le, min}
 use native.Mathlib.Omega.{arith}
@@ -8,7 +7,8 @@ use native.Mathlib.Numerals.{add-one}
 use lib.ListN.{length}
 use borrow.Author.Needs.{needs}
 use Rattle.model.specs.Blocks.{Bytes}
-use Rattle.model.specs.Promises.Limits.{lineOf}
+use Rattle.model.specs.Calls.{nothing}
+use Rattle.model.specs.Promises.Limits.{listedOn}
 use Rattle.figures.specs.Drives.{writtenOn}
 use Rattle.figures.proofs.drives.write_times.Statement.{statement}
 use Rattle.figures.proofs.drives.write_times.Tie as tie
@@ -28,7 +28,7 @@ abbrev μ-loop : tie.MeasureT-loop
 -- one write more
 written-more :
     {disk after : Bytes} {number : ℕ} (i last : ℕ) (start : Bytes) → disk ≡ writtenOn i last start →
-    number ≡ min i last → after ≡ lineOf disk 7 number none → after ≡ writtenOn (i + 1) last start
+    number ≡ min i last → after ≡ listedOn disk 7 number nothing → after ≡ writtenOn (i + 1) last start
 unfolding writtenOn
 written-more i last start so-far next more = rw add-one (cc)
 

@@ -7,7 +7,7 @@ use borrow.Author.Needs.{needs}
 use Rattle.model.specs.Blocks.{Bytes}
 use Rattle.model.specs.Promises.Figures.{geometry}
 use Rattle.figures.specs.Layouts.{formattedAgrees, formatAgrees}
-use Rattle.figures.proofs.Laws.Counts.{cut-lent}
+use Rattle.figure_lines.proofs.Laws.Counts.{cut-lent}
 use Rattle.figures.proofs.layouts.run_format.Statement.{statement}
 use Rattle.figures.proofs.layouts.run_format.Tie as tie
 

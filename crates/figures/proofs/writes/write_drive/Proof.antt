@@ -8,7 +8,7 @@ use borrow.Author.Needs.{needs}
 use Rattle.laws.proofs.Cases.{cond-true, cond-false}
 use Rattle.figures.specs.Drives.{driveOn}
 use Rattle.figures.specs.Writes.{agreesOn}
-use Rattle.figures.proofs.Laws.Counts.{cut-lent}
+use Rattle.figure_lines.proofs.Laws.Counts.{cut-lent}
 use Rattle.figures.proofs.writes.write_drive.Statement.{statement}
 use Rattle.figures.proofs.writes.write_drive.Tie as tie
 

@@ -10,7 +10,7 @@ use borrow.Author.Needs.{needs}
 use Rattle.model.specs.Blocks.{Bytes, DiskAddress}
 use Rattle.model.specs.Calls.{writtenDisk}
 use Rattle.figures.specs.Writes.{resultAgrees, resultOf, agreesOn}
-use Rattle.figures.proofs.Laws.Counts.{cut-lent}
+use Rattle.figure_lines.proofs.Laws.Counts.{cut-lent}
 use Rattle.figures.proofs.writes.write_on.Statement.{statement}
 use Rattle.figures.proofs.writes.write_on.Tie as tie
 

@@ -4,7 +4,7 @@
  * nothing. Every call ends on every input. A call that is refused changes neither disk nor list.
  *
  * What the caller sees to:
- *  - disk and list overlap no other argument of the same call;
+ *  - disk, list and line overlap no other argument of the same call;
  *  - a pointer may be null only where its length is 0, and points to that many elements otherwise;
  *  - a block shown by a find is copied out before the drive is written;
  *  - nobody else writes the drive during a call.
@@ -14,14 +14,16 @@
  * where a compiler could leave out one that changes no byte, is tested on the archive (bench, program touched).
  *
  * The archive: x86-64, ELF, System V calls, SSE2. It wants memcpy and memset from the linker and nothing else, has no
- * data of its own and makes no system call. list is aligned to 4 bytes, no other pointer needs to be. Stack of a call:
- * under 12 KiB (the tree check, height 4), of a write under 6 KiB. A write can take publics + 1 rounds in one call:
- * docs/MANUAL.md says how a caller keeps writes short, and how blocks get from memory to another medium.
+ * data of its own and makes no system call. list and line are aligned to 4 bytes, no other pointer needs to be. Stack of a
+ * call: under 12 KiB (the tree check, height 4), of a write under 7 KiB, of the calls with a line under 9 KiB. A write can
+ * take publics + 1 rounds in one call: docs/MANUAL.md says how a caller keeps writes short, and how blocks get from memory
+ * to another medium.
  *
  * Refusals: 1 bad geometry or under 24 bytes, 2 wrong length, 3 head outside, 4 public number outside, 5 public data or
  * blank not one block, 6 bad map entry, 7 every slot allocated, 8 too few random bytes, 9 list too short, 10 hidden number
- * outside, 11 hidden data or blank not one block, 12 damaged tree; by the tree check, 13 ill-formed entry, 14 entry past the
- * hidden numbers, 15 slot that is not its owner's. 0: not refused.
+ * outside, 11 hidden data or blank not one block, or the place of an offer not wholly among the lent blocks, 12 damaged
+ * tree; by the tree check, 13 ill-formed entry, 14 entry past the hidden numbers, 15 slot that is not its owner's; by
+ * entering an offer, 16 a seventeenth number or no room in the lent line. 0: not refused.
  */
 #ifndef PDDM_H
 #define PDDM_H
@@ -64,7 +66,7 @@ pddm_drive pddm_identify(const uint8_t *disk, size_t disk_len);
 #define PDDM_BLOCK 2   /* the block at address, counted in blocks from the disk's start */
 
 typedef struct {
-    uint32_t answer, kind, address; /* address is 0 where kind is not PDDM_BLOCK */
+    uint32_t answer, kind, address; /* address is 0 where kind is neither PDDM_BLOCK nor PDDM_LENT */
 } pddm_found;
 
 /* Finds the block of a public number. Refusals 1 to 6. */
@@ -91,6 +93,44 @@ typedef struct {
 pddm_written pddm_write(uint8_t *disk, size_t disk_len, uint32_t number, const uint8_t *data, size_t data_len,
                         bool offered, uint32_t hidden_number, const uint8_t *hidden, size_t hidden_len,
                         const uint8_t *random, size_t random_len, uint32_t *list, size_t list_len);
+
+/* A line of waiting offers is the owner's: up to 16 hidden blocks that the writes to come carry along. The caller lends it
+ * as an array of line_len offers, of which the first `waiting` wait; at most 16 of them, and what is lent, are looked at.
+ * Places speak of the blocks lent with the same call. Nothing is copied when an offer enters: keep its block where it is
+ * until it is placed. On a drive where 10 or 11 meets an offer it is passed over and keeps its turn. */
+typedef struct {
+    uint32_t number, place; /* place: of its block among the lent blocks, counted in blocks */
+} pddm_offer;
+
+typedef struct {
+    uint32_t answer, waiting; /* waiting: how many offers of the line wait now */
+} pddm_entered;
+
+/* Enters an offer: at the end of the line, or in its number's place if that waits already. Refusals 1 to 3, 10, 11, 16;
+ * refused, the line stays. */
+pddm_entered pddm_enter(const uint8_t *disk, size_t disk_len, uint32_t number, uint32_t place, const uint8_t *blocks,
+                        size_t blocks_len, pddm_offer *line, size_t line_len, uint32_t waiting);
+
+typedef struct {
+    uint32_t answer, rounds, stores, outcome, placed, waiting; /* placed: hidden numbers placed by this write */
+} pddm_line_written;
+
+/* Writes one public block and carries offers of the line along, the first first; a call of several rounds may place
+ * several. Those that stay are moved to the front of the line, `waiting` of them; entries behind them keep their values.
+ * Refusals 1 to 9; refused, the line stays. random and list as for pddm_write. The outcome is PDDM_PLACED if any was
+ * placed, 12 if a round met damage, PDDM_WAITING if one that counts on this drive is left, else PDDM_NONE. */
+pddm_line_written pddm_write_line(uint8_t *disk, size_t disk_len, uint32_t number, const uint8_t *data, size_t data_len,
+                                  const uint8_t *blocks, size_t blocks_len, pddm_offer *line, size_t line_len,
+                                  uint32_t waiting, const uint8_t *random, size_t random_len, uint32_t *list,
+                                  size_t list_len);
+
+#define PDDM_LENT 3 /* the block waits: address is its place among the lent blocks */
+
+/* Finds the block of a hidden number where offers wait: the block of its first offer in the line, if that counts on this
+ * drive, else as pddm_hidden_find. Refusals 1 to 3, 10, 11, and 12 where nothing waits under the number. */
+pddm_found pddm_hidden_find_line(const uint8_t *disk, size_t disk_len, uint32_t number, const uint8_t *blank,
+                                 size_t blank_len, const uint8_t *blocks, size_t blocks_len, const pddm_offer *line,
+                                 size_t line_len, uint32_t waiting);
 
 typedef struct {
     uint32_t answer, rounds, stores, random_blocks; /* random_blocks x block_size bytes; all 0 where answer is not 0 */

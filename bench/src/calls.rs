@@ -1,5 +1,31 @@
 //! Calls with all that they lend, what they give, and both in words.
-use crate::engine::{Engine, Geometry, Identified, Needs, Size, Write, Written};
+use crate::engine::{
+    Engine, Entered, Geometry, Identified, LineWrite, LineWritten, Needs, Offer, Size, Write, Written,
+};
+use crate::line::handed_over;
+
+/// A line as it is lent, so many of its first offers waiting, and the blocks that its places speak of.
+#[derive(Clone)]
+pub struct LentLine {
+    pub offers: Vec<Offer>,
+    pub waiting: u32,
+    pub blocks: Vec<u8>,
+}
+
+impl LentLine {
+    /// The offers that are handed over.
+    pub fn held(&self) -> &[Offer] {
+        &self.offers[..handed_over(&self.offers, self.waiting)]
+    }
+
+    /// The line in words, without its blocks' bytes: the offers that are handed over, number at place.
+    fn told(&self) -> String {
+        let (lent, blocks) = (self.offers.len(), self.blocks.len());
+        let held = self.held().iter().map(|offer| format!("{}@{}", offer.number, offer.place));
+        let held = held.collect::<Vec<_>>().join(" ");
+        format!("line [{held}], {} of {lent} waiting, {blocks} bytes of blocks", self.waiting)
+    }
+}
 
 pub enum Call {
     Format(Geometry),
@@ -10,36 +36,55 @@ pub enum Call {
     Needs(u32),
     CheckTree,
     Write { number: u32, data: Vec<u8>, offer: Option<(u32, Vec<u8>)>, random: Vec<u8>, list: Vec<u32> },
+    Enter(Offer, LentLine),
+    WriteLine { number: u32, data: Vec<u8>, line: LentLine, random: Vec<u8>, list: Vec<u32> },
+    HiddenReadLine(u32, Vec<u8>, LentLine),
 }
 
-/// Of a read the offset in the disk, none for the blank, and the length of what is shown; of a write also the
-/// whole list.
+/// What a read shows: a part of the disk or of the lent blocks, by its offset, or the blank.
+#[derive(Clone, Copy, PartialEq, Eq, Debug)]
+pub enum Part {
+    Disk(usize),
+    Lent(usize),
+    Blank,
+}
+
+/// Of a read the part that is shown and its length; of a write also the whole list, and of a call that
+/// changes a line the whole line.
 #[derive(PartialEq, Eq, Debug)]
 pub enum Given {
     Formatted(Result<(), u32>),
     Identified(Identified),
     Sized(Size),
-    Shown(Result<(Option<usize>, usize), u32>),
+    Shown(Result<(Part, usize), u32>),
     Needed(Needs),
     Checked(Result<(), u32>),
     Wrote(Written, Vec<u32>),
+    Entered(Entered, Vec<Offer>),
+    WroteLine(LineWritten, Vec<Offer>, Vec<u32>),
+}
+
+/// Which part of disk or lent blocks is shown, if it is not the blank, and its length.
+fn shown(part: &[u8], disk: &[u8], blocks: &[u8]) -> (Part, usize) {
+    let offset = |of: &[u8]| {
+        let inside = of.as_ptr_range().contains(&part.as_ptr());
+        inside.then(|| part.as_ptr() as usize - of.as_ptr() as usize)
+    };
+    let lent = || offset(blocks).map_or(Part::Blank, Part::Lent);
+    (offset(disk).map_or_else(lent, Part::Disk), part.len())
 }
 
 impl Call {
     pub fn run(&self, engine: &Engine, disk: &mut [u8]) -> Given {
-        let shown = |part: &[u8], blank: &[u8]| {
-            let inside = part.as_ptr() != blank.as_ptr();
-            (inside.then(|| part.as_ptr() as usize - disk.as_ptr() as usize), part.len())
-        };
         match self {
             Call::Format(g) => Given::Formatted((engine.format)(disk, *g)),
             Call::Identify => Given::Identified((engine.identify)(disk)),
             Call::DriveSize(g) => Given::Sized((engine.drive_size)(*g)),
             Call::PublicRead(number, blank) => {
-                Given::Shown((engine.public_read)(disk, *number, blank).map(|part| shown(part, blank)))
+                Given::Shown((engine.public_read)(disk, *number, blank).map(|part| shown(part, disk, &[])))
             }
             Call::HiddenRead(number, blank) => {
-                Given::Shown((engine.hidden_read)(disk, *number, blank).map(|part| shown(part, blank)))
+                Given::Shown((engine.hidden_read)(disk, *number, blank).map(|part| shown(part, disk, &[])))
             }
             Call::Needs(number) => Given::Needed((engine.needs)(disk, *number)),
             Call::CheckTree => Given::Checked((engine.check_tree)(disk)),
@@ -48,6 +93,22 @@ impl Call {
                 let mut list = list.clone();
                 let write = Write { number: *number, data, offer, random };
                 Given::Wrote((engine.write)(disk, &write, &mut list), list)
+            }
+            Call::Enter(offer, line) => {
+                let mut offers = line.offers.clone();
+                let entered = (engine.enter)(disk, *offer, &line.blocks, &mut offers, line.waiting);
+                Given::Entered(entered, offers)
+            }
+            Call::WriteLine { number, data, line, random, list } => {
+                let (mut offers, mut list) = (line.offers.clone(), list.clone());
+                let LentLine { waiting, blocks, .. } = line;
+                let write = LineWrite { number: *number, data, blocks, waiting: *waiting, random };
+                let written = (engine.write_line)(disk, &write, &mut offers, &mut list);
+                Given::WroteLine(written, offers, list)
+            }
+            Call::HiddenReadLine(number, blank, LentLine { offers, waiting, blocks }) => {
+                let part = (engine.hidden_read_line)(disk, *number, blank, blocks, offers, *waiting);
+                Given::Shown(part.map(|part| shown(part, disk, blocks)))
             }
         }
     }
@@ -74,20 +135,51 @@ impl Call {
                 let lent = format!("{} random bytes, {} list entries", random.len(), list.len());
                 format!("write of {number}, data of {} bytes, {offer}, {lent}", data.len())
             }
+            Call::Enter(offer, line) => format!("enter {}@{}, {}", offer.number, offer.place, line.told()),
+            Call::WriteLine { number, data, line, random, list } => {
+                let lent = format!("{} random bytes, {} list entries", random.len(), list.len());
+                format!("write of {number}, data of {} bytes, {}, {lent}", data.len(), line.told())
+            }
+            Call::HiddenReadLine(number, blank, line) => {
+                format!("hidden read of {number}, blank of {} bytes, {}", blank.len(), line.told())
+            }
         }
     }
+}
+
+/// The first entry in which two lists of one length differ.
+fn difference<T: PartialEq + std::fmt::Debug>(what: &str, these: &[T], those: &[T]) -> Option<String> {
+    let (i, (this, that)) = these.iter().zip(those).enumerate().find(|(_, (this, that))| this != that)?;
+    Some(format!("{what} {i} is {this:?}, not {that:?}"))
 }
 
 impl Given {
     /// Where this differs from another.
     pub fn apart_from(&self, other: &Given) -> String {
-        match (self, other) {
+        let difference = match (self, other) {
             (Given::Wrote(report, list), Given::Wrote(same, others)) if report == same => {
-                let entry = (0..list.len()).find(|&i| list[i] != others[i]).unwrap();
-                format!("list entry {entry} is {}, not {}", list[entry], others[entry])
+                difference("list entry", list, others)
             }
-            (Given::Wrote(report, _), Given::Wrote(another, _)) => format!("{report:?}, not {another:?}"),
-            _ => format!("{self:?}, not {other:?}"),
+            (Given::Entered(report, line), Given::Entered(same, others)) if report == same => {
+                difference("line entry", line, others)
+            }
+            (Given::WroteLine(report, line, list), Given::WroteLine(same, others, another))
+                if report == same =>
+            {
+                difference("line entry", line, others).or_else(|| difference("list entry", list, another))
+            }
+            _ => None,
+        };
+        difference.unwrap_or_else(|| format!("{}, not {}", self.told(), other.told()))
+    }
+
+    /// What was given in words, without lists and lines.
+    pub fn told(&self) -> String {
+        match self {
+            Given::Wrote(report, _) => format!("{report:?}"),
+            Given::Entered(report, _) => format!("{report:?}"),
+            Given::WroteLine(report, ..) => format!("{report:?}"),
+            _ => format!("{self:?}"),
         }
     }
 
@@ -97,12 +189,29 @@ impl Given {
             Given::Shown(shown) => *shown == Err(12),
             Given::Checked(answer) => answer.is_err(),
             Given::Wrote(written, _) => written.outcome == 12,
-            Given::Formatted(_) | Given::Identified(_) | Given::Sized(_) | Given::Needed(_) => false,
+            Given::WroteLine(written, ..) => written.outcome == 12,
+            Given::Formatted(_) | Given::Identified(_) | Given::Sized(_) => false,
+            Given::Needed(_) | Given::Entered(..) => false,
         }
     }
 
     /// Whether the call may have changed the disk.
     pub fn changes(&self) -> bool {
-        matches!(self, Given::Formatted(Ok(())) | Given::Wrote(Written { answer: 0, .. }, _))
+        match self {
+            Given::Formatted(answer) => answer.is_ok(),
+            Given::Wrote(written, _) => written.answer == 0,
+            Given::WroteLine(written, ..) => written.answer == 0,
+            _ => false,
+        }
+    }
+
+    /// The line that is handed back, if one was lent to be changed.
+    pub fn hand_back(self, line: &mut LentLine) {
+        let (offers, waiting) = match self {
+            Given::Entered(entered, offers) => (offers, entered.waiting),
+            Given::WroteLine(written, offers, _) => (offers, written.waiting),
+            _ => return,
+        };
+        (line.offers, line.waiting) = (offers, waiting);
     }
 }

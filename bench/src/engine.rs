@@ -30,6 +30,58 @@ pub struct Written {
     pub outcome: u32,
 }
 
+/// One write with a line but for its disk, line and list: the public half, the blocks that the line's places
+/// speak of, how many of its first offers wait, and the random bytes.
+#[derive(Clone, Copy, Debug)]
+pub struct LineWrite<'a> {
+    pub number: u32,
+    pub data: &'a [u8],
+    pub blocks: &'a [u8],
+    pub waiting: u32,
+    pub random: &'a [u8],
+}
+
+/// An offer of a line: a hidden number and the place of its block among the lent blocks, counted in blocks.
+/// Laid out as `pddm_offer`.
+#[repr(C)]
+#[derive(Clone, Copy, Default, PartialEq, Eq, Debug)]
+pub struct Offer {
+    pub number: u32,
+    pub place: u32,
+}
+
+/// The most offers of a line that count.
+pub const MOST_OFFERS: usize = 16;
+
+/// What entering an offer reports: how many of the line's first offers wait then, refused or not. Laid out as
+/// `pddm_entered`.
+#[repr(C)]
+#[derive(Clone, Copy, PartialEq, Eq, Debug)]
+pub struct Entered {
+    pub answer: u32,
+    pub waiting: u32,
+}
+
+/// What a write with a line reports: also how many numbers were placed, and how many of the line's first
+/// offers wait then. Laid out as `pddm_line_written`.
+#[repr(C)]
+#[derive(Clone, Copy, PartialEq, Eq, Debug)]
+pub struct LineWritten {
+    pub answer: u32,
+    pub rounds: u32,
+    pub stores: u32,
+    pub outcome: u32,
+    pub placed: u32,
+    pub waiting: u32,
+}
+
+impl LineWritten {
+    /// Of a line in which so many wait.
+    pub fn refused(answer: u32, waiting: u32) -> Self {
+        LineWritten { answer, rounds: 0, stores: 0, outcome: NOT_TRIED, placed: 0, waiting }
+    }
+}
+
 /// The outcomes that are no refusal numbers.
 pub const NONE: u32 = 0;
 pub const PLACED: u32 = 1;
@@ -86,7 +138,7 @@ impl Size {
     pub const REFUSED: Size = Size { answer: 1, blocks: 0, bytes: 0 };
 }
 
-/// The part of the disk that a read shows, or the caller's blank; or the refusal.
+/// The part of the disk or of the lent blocks that a read shows, or the caller's blank; or the refusal.
 pub type Shown<'a> = Result<&'a [u8], u32>;
 
 #[derive(Clone, Copy)]
@@ -102,6 +154,12 @@ pub struct Engine {
     pub check_tree: fn(&[u8]) -> Result<(), u32>,
     /// Changes the disk and enters the stores in the list.
     pub write: fn(&mut [u8], &Write, &mut [u32]) -> Written,
+    /// Of a disk, an offer, the lent blocks, a line and how many of it wait; changes the line.
+    pub enter: fn(&[u8], Offer, &[u8], &mut [Offer], u32) -> Entered,
+    /// Changes disk and line and enters the stores in the list.
+    pub write_line: fn(&mut [u8], &LineWrite, &mut [Offer], &mut [u32]) -> LineWritten,
+    /// Of a disk, a number, a blank, the lent blocks, a line and how many of it wait.
+    pub hidden_read_line: for<'a> fn(&'a [u8], u32, &'a [u8], &'a [u8], &[Offer], u32) -> Shown<'a>,
 }
 
 /// A formatted drive whose data area is filled with 165.

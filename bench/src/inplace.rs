@@ -1,12 +1,13 @@
 //! A mapper that changes the drive in place, as fast as it can be had: a block that is kept is only listed,
 //! and a block with some bytes changed has just these changed. It leaves what the others leave.
+use crate::allowed::{self, Allowed, Half, Public};
 use crate::drive::{Drive, Nodes, put_entry};
-use crate::engine::{Engine, Write, Written};
-use crate::plain::{Allowed, Half, PLAIN};
+use crate::engine::{Engine, LineWrite, LineWritten, Offer, Write, Written};
+use crate::plain::PLAIN;
 use std::arch::x86_64::{_MM_HINT_T0, _mm_prefetch};
 
-/// Formatting, the questions, reads and the whole-tree check copy no block, and are plain Rust's.
-pub const IN_PLACE: Engine = Engine { name: "in-place Rust", write, ..PLAIN };
+/// Formatting, the questions, reads, entries and the whole-tree check copy no block, and are plain Rust's.
+pub const IN_PLACE: Engine = Engine { name: "in-place Rust", write, write_line, ..PLAIN };
 
 fn block_mut<'a>(v: &Drive, disk: &'a mut [u8], address: usize) -> &'a mut [u8] {
     &mut disk[address * v.b..][..v.b]
@@ -33,11 +34,7 @@ fn plant(v: &Drive, disk: &mut [u8], nodes: &Nodes, number: usize, a: usize) {
     }
 }
 
-fn write(disk: &mut [u8], call: &Write, list: &mut [u32]) -> Written {
-    let mut allowed = match Allowed::of(disk, call, list.len()) {
-        Ok(allowed) => allowed,
-        Err(answer) => return Written::refused(answer),
-    };
+fn make_rounds(disk: &mut [u8], public: &Public, allowed: &mut Allowed, list: &mut [u32]) {
     let (v, rounds, mut slot) = (allowed.v, allowed.needs.rounds as usize, allowed.head);
     let mut listed = list.iter_mut();
     let mut enter = |address: usize| *listed.next().unwrap() = address as u32;
@@ -47,7 +44,9 @@ fn write(disk: &mut [u8], call: &Write, list: &mut [u32]) -> Written {
         prefetch(&disk[a * v.b..][..(v.k + 1) * v.b]);
         match allowed.half(disk, a) {
             Half::Back => {}
-            Half::Fill => disk[(a + 1) * v.b..][..width].copy_from_slice(&call.random[i * width..][..width]),
+            Half::Fill => {
+                disk[(a + 1) * v.b..][..width].copy_from_slice(&public.random[i * width..][..width])
+            }
             Half::Path(number, nodes, data) => {
                 plant(&v, disk, &nodes, number, a);
                 if let Some(data) = data {
@@ -58,8 +57,8 @@ fn write(disk: &mut [u8], call: &Write, list: &mut [u32]) -> Written {
         (a..=a + v.k).for_each(&mut enter);
         enter(v.root);
         if i + 1 == rounds {
-            block_mut(&v, disk, a).copy_from_slice(call.data);
-            let (map, place) = v.map_place(call.number as usize);
+            block_mut(&v, disk, a).copy_from_slice(public.data);
+            let (map, place) = v.map_place(public.number);
             put_entry(block_mut(&v, disk, map), place, a);
             enter(map);
             let (new, byte, weight) = v.bit(slot);
@@ -77,5 +76,12 @@ fn write(disk: &mut [u8], call: &Write, list: &mut [u32]) -> Written {
         slot = if slot + 1 == v.m { 0 } else { slot + 1 };
     }
     put_entry(disk, 5, slot);
-    allowed.written()
+}
+
+fn write(disk: &mut [u8], call: &Write, list: &mut [u32]) -> Written {
+    allowed::write(disk, call, list, make_rounds)
+}
+
+fn write_line(disk: &mut [u8], call: &LineWrite, line: &mut [Offer], list: &mut [u32]) -> LineWritten {
+    allowed::write_line(disk, call, line, list, make_rounds)
 }

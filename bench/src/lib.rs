@@ -1,12 +1,19 @@
 //! The proved mapper beside two written in Rust: what they answer is compared, and how long they take. The
-//! programs are `differential`, `bit_places`, `walks`, `touched`, `benchmark`, `tree_check`, `waiting`,
-//! `longest`, `fill`, `spread` and `stacks`; `tests/` holds all three mappers to the documents' examples.
+//! programs are `differential`, `bit_places`, `walks`, `touched`, `benchmark`, `digest`, `tree_check`,
+//! `waiting`, `longest`, `fill`, `spread` and `stacks`; `tests/` holds all three mappers to the documents'
+//! examples.
+pub mod allowed;
+pub mod any_calls;
 pub mod arguments;
 pub mod calls;
+pub mod carried;
 pub mod drive;
 pub mod drives;
 pub mod engine;
+pub mod held;
 pub mod inplace;
+pub mod line;
+pub mod lines;
 pub mod met;
 pub mod painted;
 pub mod plain;
@@ -19,6 +26,7 @@ pub mod tree_damage;
 pub mod volume;
 pub mod watched;
 pub mod workload;
+pub mod wrong;
 
 /// All three mappers, the proved one first.
 pub const ENGINES: [engine::Engine; 3] = [proved::PROVED, plain::PLAIN, inplace::IN_PLACE];

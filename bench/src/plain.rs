@@ -1,9 +1,11 @@
-//! A mapper written from documents 01 and 02 (K2, K7) in plain Rust: one store function, whole blocks,
-//! document 01's checks and no others. The proved mapper is measured and held against it.
-use crate::drive::{Drive, Nodes, check, entry, put_entry};
+//! A mapper written from documents 01 and 02 (K2, K3, K7) in plain Rust: one store function, whole blocks,
+//! the documents' checks and no others. The proved mapper is measured and held against it.
+use crate::allowed::{self, Allowed, Half, Public};
+use crate::drive::{Drive, put_entry};
 use crate::engine::{
-    Engine, Geometry, Identified, NONE, Needs, PLACED, Shown, Size, WAITING, Write, Written,
+    Engine, Geometry, Identified, LineWrite, LineWritten, Needs, Offer, Shown, Size, Write, Written,
 };
+use crate::line::{enter, handed_over, waiting_for};
 use crate::tree::check_tree;
 
 pub const PLAIN: Engine = Engine {
@@ -16,6 +18,9 @@ pub const PLAIN: Engine = Engine {
     needs,
     check_tree,
     write,
+    enter,
+    write_line,
+    hidden_read_line,
 };
 
 fn format(disk: &mut [u8], g: Geometry) -> Result<(), u32> {
@@ -52,87 +57,24 @@ fn hidden_read<'a>(disk: &'a [u8], number: u32, blank: &'a [u8]) -> Shown<'a> {
     Ok(end.map_or(blank, |address| v.block(disk, address)))
 }
 
+/// The block that waits comes before the disk's, and no walk is made for it.
+fn hidden_read_line<'a>(
+    disk: &'a [u8],
+    number: u32,
+    blank: &'a [u8],
+    blocks: &'a [u8],
+    lent: &[Offer],
+    waiting: u32,
+) -> Shown<'a> {
+    let (v, _) = Drive::open(disk)?;
+    v.check_hidden(number as usize, blank.len())?;
+    let line = &lent[..handed_over(lent, waiting)];
+    waiting_for(&v, blocks, line, number).map_or_else(|| hidden_read(disk, number, blank), Ok)
+}
+
 fn needs(disk: &[u8], number: u32) -> Needs {
     let plan = Drive::open(disk).and_then(|(v, head)| v.plan(disk, head, number as usize, v.b));
     plan.map_or_else(Needs::refused, |(needs, _)| needs)
-}
-
-/// A write that is not refused: its drive and head, what it takes, the number's map entry before it, and what
-/// has become of its offer.
-pub struct Allowed<'a> {
-    pub v: Drive,
-    pub head: usize,
-    pub needs: Needs,
-    pub old: usize,
-    bad_offer: Option<u32>,
-    waiting: Option<(usize, &'a [u8])>,
-    placed: bool,
-    damaged: bool,
-}
-
-/// What the hidden half of a round does with its slot: writes it back, stores a number's path with new data
-/// or the slot's own, or fills it with random bytes.
-pub enum Half<'a> {
-    Back,
-    Path(usize, Nodes, Option<&'a [u8]>),
-    Fill,
-}
-
-impl<'a> Allowed<'a> {
-    /// Refusals 1 to 9 of a write.
-    pub fn of(disk: &[u8], call: &Write<'a>, room: usize) -> Result<Self, u32> {
-        let (v, head) = Drive::open(disk)?;
-        let (needs, old) = v.plan(disk, head, call.number as usize, call.data.len())?;
-        check(call.random.len() < needs.random_blocks as usize * v.b, 8)?;
-        check(room < needs.stores as usize, 9)?;
-        let offer = call.offer.map(|(number, data)| (number as usize, data));
-        let bad_offer = offer.and_then(|(number, data)| v.check_hidden(number, data.len()).err());
-        let waiting = offer.filter(|_| bad_offer.is_none());
-        Ok(Allowed { v, head, needs, old, bad_offer, waiting, placed: false, damaged: false })
-    }
-
-    /// The hidden half at A, or refusal 12 for a damaged walk. A number that owns the slot and is offered has
-    /// one walk.
-    fn choice(&self, disk: &[u8], a: usize) -> Result<Half<'a>, u32> {
-        let owner = entry(self.v.block(disk, a + 1), self.v.f - 1);
-        let mut read = None;
-        if owner < self.v.h {
-            let (end, nodes) = self.v.walk(disk, owner)?;
-            if end == Some(a + self.v.k) {
-                return Ok(Half::Path(owner, nodes, None));
-            }
-            read = Some(nodes);
-        }
-        let Some((number, data)) = self.waiting else { return Ok(Half::Fill) };
-        let nodes = match read {
-            Some(nodes) if number == owner => nodes,
-            _ => self.v.walk(disk, number)?.1,
-        };
-        Ok(Half::Path(number, nodes, Some(data)))
-    }
-
-    /// What the hidden half does at A; with it the offer is placed, or damage is met.
-    pub fn half(&mut self, disk: &[u8], a: usize) -> Half<'a> {
-        let half = self.choice(disk, a).unwrap_or(Half::Back);
-        match half {
-            Half::Back => self.damaged = true,
-            Half::Path(_, _, Some(_)) => (self.waiting, self.placed) = (None, true),
-            _ => {}
-        }
-        half
-    }
-
-    /// The report after the last round.
-    pub fn written(&self) -> Written {
-        let outcome = match self.bad_offer {
-            Some(number) => number,
-            None if self.placed => PLACED,
-            None if self.damaged => 12,
-            None if self.waiting.is_some() => WAITING,
-            None => NONE,
-        };
-        Written { answer: 0, rounds: self.needs.rounds, stores: self.needs.stores, outcome }
-    }
 }
 
 /// The disk and the list of a write; a block that is changed or written back passes through `block`.
@@ -211,11 +153,7 @@ impl Lent<'_> {
     }
 }
 
-fn write(disk: &mut [u8], call: &Write, list: &mut [u32]) -> Written {
-    let mut allowed = match Allowed::of(disk, call, list.len()) {
-        Ok(allowed) => allowed,
-        Err(answer) => return Written::refused(answer),
-    };
+fn make_rounds(disk: &mut [u8], public: &Public, allowed: &mut Allowed, list: &mut [u32]) {
     let (v, last) = (allowed.v, allowed.needs.rounds as usize - 1);
     let mut lent = Lent { v, disk, list: list.iter_mut(), block: [0; 4096] };
     for i in 0..=last {
@@ -223,15 +161,22 @@ fn write(disk: &mut [u8], call: &Write, list: &mut [u32]) -> Written {
         let a = v.start(slot);
         let half = allowed.half(lent.disk, a);
         if i == last {
-            store(lent.disk, &mut lent.list, a, call.data)
+            store(lent.disk, &mut lent.list, a, public.data)
         } else {
             lent.store_again(a)
         }
-        lent.store_half(a, half, &call.random[i * v.k * v.b..]);
+        lent.store_half(a, half, &public.random[i * v.k * v.b..]);
         if i == last {
-            lent.store_place(call.number as usize, slot, allowed.old);
+            lent.store_place(public.number, slot, allowed.old);
         }
         lent.store_changed(Some(0), 0, |v, header| put_entry(header, 5, (slot + 1) % v.m));
     }
-    allowed.written()
+}
+
+fn write(disk: &mut [u8], call: &Write, list: &mut [u32]) -> Written {
+    allowed::write(disk, call, list, make_rounds)
+}
+
+fn write_line(disk: &mut [u8], call: &LineWrite, line: &mut [Offer], list: &mut [u32]) -> LineWritten {
+    allowed::write_line(disk, call, line, list, make_rounds)
 }

@@ -1,10 +1,12 @@
 //! The proved mapper, over its C interface (include/pddm.h), with slices in the place of pointers and
 //! addresses.
 //!
-//! Every call is sound for all arguments: its pointers come from slices that live through the call, and disk
-//! and list are borrowed alone.
+//! Every call is sound for all arguments: its pointers come from slices that live through the call, and disk,
+//! line and list are borrowed alone where they are changed.
 use crate::drive::check;
-use crate::engine::{Engine, Geometry, Identified, Needs, Shown, Size, Write, Written};
+use crate::engine::{
+    Engine, Entered, Geometry, Identified, LineWrite, LineWritten, Needs, Offer, Shown, Size, Write, Written,
+};
 
 pub const PROVED: Engine = Engine {
     name: "proved",
@@ -16,6 +18,9 @@ pub const PROVED: Engine = Engine {
     needs,
     check_tree,
     write,
+    enter,
+    write_line,
+    hidden_read_line,
 };
 
 /// `pddm_found`.
@@ -29,6 +34,7 @@ struct Found {
 const REFUSED: u32 = 0;
 const BLANK: u32 = 1;
 const BLOCK: u32 = 2;
+const LENT: u32 = 3;
 
 #[rustfmt::skip]
 unsafe extern "C" {
@@ -50,12 +56,28 @@ unsafe extern "C" {
     ) -> Written;
     fn pddm_write_needs(disk: *const u8, disk_len: usize, number: u32) -> Needs;
     fn pddm_check_tree(disk: *const u8, disk_len: usize) -> u32;
+    fn pddm_enter(
+        disk: *const u8, disk_len: usize, number: u32, place: u32, blocks: *const u8, blocks_len: usize,
+        line: *mut Offer, line_len: usize, waiting: u32,
+    ) -> Entered;
+    fn pddm_write_line(
+        disk: *mut u8, disk_len: usize, number: u32, data: *const u8, data_len: usize,
+        blocks: *const u8, blocks_len: usize, line: *mut Offer, line_len: usize, waiting: u32,
+        random: *const u8, random_len: usize, list: *mut u32, list_len: usize,
+    ) -> LineWritten;
+    fn pddm_hidden_find_line(
+        disk: *const u8, disk_len: usize, number: u32, blank: *const u8, blank_len: usize,
+        blocks: *const u8, blocks_len: usize, line: *const Offer, line_len: usize, waiting: u32,
+    ) -> Found;
 }
 
-/// What a find says, as a part of the disk or the blank. A good find's blank is one block.
-fn shown<'a>(disk: &'a [u8], blank: &'a [u8], found: Found) -> Shown<'a> {
+/// What a find says, as a part of the disk or of the lent blocks, or the blank. A good find's blank is one
+/// block.
+fn shown<'a>(disk: &'a [u8], blocks: &'a [u8], blank: &'a [u8], found: Found) -> Shown<'a> {
+    let part = |of: &'a [u8]| &of[found.address as usize * blank.len()..][..blank.len()];
     match (found.kind, found.answer) {
-        (BLOCK, 0) => Ok(&disk[found.address as usize * blank.len()..][..blank.len()]),
+        (BLOCK, 0) => Ok(part(disk)),
+        (LENT, 0) => Ok(part(blocks)),
         (BLANK, 0) => Ok(blank),
         (REFUSED, answer) if answer != 0 => Err(answer),
         (kind, answer) => panic!("a find of kind {kind} with answer {answer}"),
@@ -78,12 +100,12 @@ fn drive_size(g: Geometry) -> Size {
 
 fn public_read<'a>(disk: &'a [u8], number: u32, blank: &'a [u8]) -> Shown<'a> {
     let found = unsafe { pddm_public_find(disk.as_ptr(), disk.len(), number, blank.as_ptr(), blank.len()) };
-    shown(disk, blank, found)
+    shown(disk, &[], blank, found)
 }
 
 fn hidden_read<'a>(disk: &'a [u8], number: u32, blank: &'a [u8]) -> Shown<'a> {
     let found = unsafe { pddm_hidden_find(disk.as_ptr(), disk.len(), number, blank.as_ptr(), blank.len()) };
-    shown(disk, blank, found)
+    shown(disk, &[], blank, found)
 }
 
 fn needs(disk: &[u8], number: u32) -> Needs {
@@ -105,4 +127,38 @@ fn write(disk: &mut [u8], call: &Write, list: &mut [u32]) -> Written {
             call.random.as_ptr(), call.random.len(), list.as_mut_ptr(), list.len(),
         )
     }
+}
+
+#[rustfmt::skip]
+fn enter(disk: &[u8], offer: Offer, blocks: &[u8], line: &mut [Offer], waiting: u32) -> Entered {
+    unsafe {
+        pddm_enter(
+            disk.as_ptr(), disk.len(), offer.number, offer.place, blocks.as_ptr(), blocks.len(),
+            line.as_mut_ptr(), line.len(), waiting,
+        )
+    }
+}
+
+#[rustfmt::skip]
+fn write_line(disk: &mut [u8], call: &LineWrite, line: &mut [Offer], list: &mut [u32]) -> LineWritten {
+    unsafe {
+        pddm_write_line(
+            disk.as_mut_ptr(), disk.len(), call.number, call.data.as_ptr(), call.data.len(),
+            call.blocks.as_ptr(), call.blocks.len(), line.as_mut_ptr(), line.len(), call.waiting,
+            call.random.as_ptr(), call.random.len(), list.as_mut_ptr(), list.len(),
+        )
+    }
+}
+
+#[rustfmt::skip]
+fn hidden_read_line<'a>(
+    disk: &'a [u8], number: u32, blank: &'a [u8], blocks: &'a [u8], line: &[Offer], waiting: u32,
+) -> Shown<'a> {
+    let found = unsafe {
+        pddm_hidden_find_line(
+            disk.as_ptr(), disk.len(), number, blank.as_ptr(), blank.len(),
+            blocks.as_ptr(), blocks.len(), line.as_ptr(), line.len(), waiting,
+        )
+    };
+    shown(disk, blocks, blank, found)
 }

@@ -26,6 +26,14 @@ pub const NOBODYS: State = State {
     outcomes: [NONE, PLACED, PLACED],
 };
 
+/// The slot behind it is nobody's too.
+pub const NOBODYS_TWICE: State =
+    State { name: "nobody's, twice", offers: &[None, None, Some(OWNER), Some(OTHER)], ..NOBODYS };
+
+/// The slot behind it is the owner's, and stale.
+pub const NOBODYS_THEN_STALE: State =
+    State { name: "nobody's, then stale", offers: &[None, Some(OWNER), Some(OWNER), Some(OTHER)], ..NOBODYS };
+
 pub const LIVE: State = State {
     name: "live",
     offers: &[Some(OWNER), Some(OTHER)],

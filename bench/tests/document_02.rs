@@ -1,9 +1,12 @@
 //! Document 02's K1 on drives worked by hand: what the tree check answers on every mapper. An entry is given
-//! by its block, its place there and its value.
+//! by its block, its place there and its value. K3 is in `document_02/line.rs`.
 use pddm_bench::ENGINES;
 use pddm_bench::drive::{entry, put_entry};
 use pddm_bench::drives::fill;
 use pddm_bench::engine::{Engine, Geometry, fresh};
+
+#[path = "document_02/line.rs"]
+mod line;
 
 type Entry = (usize, usize, usize);
 

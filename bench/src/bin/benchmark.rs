@@ -1,9 +1,9 @@
 //! `benchmark [PASSES [PLOT]]`: how long the calls of the three mappers take, in one process and in turn.
 //!
-//! A pass is document 02's K11: 100,000 calls from a fresh drive. Then nanoseconds for each kind of call, the
-//! stack of one write, and how a write's cost grows with M, k and B, which is also drawn to the file PLOT as
-//! SVG. Ratios are paired: of turns that follow each other. Ends with status 1 if the proved mapper takes
-//! more than K11 allows.
+//! A pass is document 02's K11: 100,000 calls from a fresh drive. Then nanoseconds for each kind of call,
+//! what a line costs, the stack of one write, and how a write's cost grows with M, k and B, which is also
+//! drawn to the file PLOT as SVG. Ratios are paired: of turns that follow each other. Ends with status 1 if
+//! the proved mapper takes more than K11 allows.
 use pddm_bench::ENGINES;
 use pddm_bench::arguments::Arguments;
 use pddm_bench::drives::capacity;
@@ -51,6 +51,19 @@ impl Stand {
         }
     }
 
+    fn writes_alone(&mut self, numbers: std::ops::Range<u32>) {
+        for n in numbers {
+            assert_eq!(black_box(self.caller.write_alone(&self.engine, &mut self.disk, n)).answer, 0);
+        }
+    }
+
+    fn line_writes(&mut self, numbers: std::ops::Range<u32>, waiting: u32) {
+        for n in numbers {
+            let written = black_box(self.caller.write_line(&self.engine, &mut self.disk, n, waiting));
+            assert_eq!(written.answer, 0);
+        }
+    }
+
     fn writes(&mut self, numbers: std::ops::Range<u32>) {
         for n in numbers {
             assert_eq!(black_box(self.caller.write(&self.engine, &mut self.disk, n)).answer, 0);
@@ -89,8 +102,13 @@ impl Times {
 
     /// The median over the turns of the proved mapper's time in another's.
     fn ratio(&self, who: usize) -> f64 {
-        median(self.0[0].iter().zip(&self.0[who]).map(|(proved, other)| proved / other).collect())
+        paired(&self.0[0], &self.0[who])
     }
+}
+
+/// The median of the ratios of two times each.
+fn paired(these: &[f64], those: &[f64]) -> f64 {
+    median(these.iter().zip(those).map(|(this, that)| this / that).collect())
 }
 
 fn median(mut all: Vec<f64>) -> f64 {
@@ -125,25 +143,50 @@ fn workload(passes: u64) -> f64 {
     times.ratio(1)
 }
 
-/// Nanoseconds of each kind of call in its best turn, turns of one kind each, on drives that K11's calls
-/// left.
+/// Makes calls of one kind, for numbers in a range.
+type Run = fn(&mut Stand, std::ops::Range<u32>);
+
+/// The kinds of calls, in pairs that take turns: a write with a line beside the one without.
+const KINDS: [[(&str, Run); 2]; 3] = [
+    [("public read", Stand::public_reads), ("hidden read", Stand::hidden_reads)],
+    [
+        ("write with none", Stand::writes_alone),
+        ("with an empty line", |s, numbers| s.line_writes(numbers, 0)),
+    ],
+    [("with an offer", Stand::writes), ("with sixteen waiting", |s, numbers| s.line_writes(numbers, 16))],
+];
+
+/// The times of a pair of kinds, each on drives of its own that K11's calls left, made anew some times: how
+/// fast a drive is also depends on where it lies in memory.
+fn pair(runs: [Run; 2], calls: u32) -> [Times; 2] {
+    const DRIVES: u32 = 5;
+    let mut times = runs.map(|_| Times::default());
+    for _ in 0..DRIVES {
+        let mut both = runs.map(|_| stands(GEOMETRY));
+        both.iter_mut().flatten().for_each(|stand| stand.mixed(0..CALLS));
+        for turn in 0..TURNS / DRIVES {
+            for ((run, stands), times) in runs.iter().zip(&mut both).zip(&mut times) {
+                times.turn(stands, |stand| run(stand, turn * calls..(turn + 1) * calls));
+            }
+        }
+    }
+    times
+}
+
+/// Nanoseconds of each kind of call in its best turn, and what a line costs.
 fn kinds() {
     const EACH: u32 = 500;
-    let mut stands = stands(GEOMETRY);
-    stands.iter_mut().for_each(|stand| stand.mixed(0..CALLS));
-    let mut table = Vec::new();
-    for run in [Stand::public_reads, Stand::hidden_reads, Stand::writes] {
-        let mut times = Times::default();
-        for turn in 0..TURNS {
-            times.turn(&mut stands, |stand| run(stand, turn * EACH..(turn + 1) * EACH));
-        }
-        table.push(times.best_ns(EACH));
-    }
-    println!(
-        "\n| ns a call, best turn | public read | hidden read | write with an offer |\n|---|---|---|---|"
-    );
+    let times = KINDS.map(|kinds| pair(kinds.map(|(_, run)| run), EACH));
+    let names = KINDS.as_flattened().iter().map(|(name, _)| *name).collect::<Vec<_>>();
+    println!("\n| ns a call, best turn | {} |\n|---|---|---|---|---|---|---|", names.join(" | "));
     for (who, engine) in ENGINES.iter().enumerate() {
-        println!("| {} | {:.0} | {:.0} | {:.0} |", engine.name, table[0][who], table[1][who], table[2][who]);
+        let each = times.as_flattened().iter().map(|times| format!("{:.0}", times.best_ns(EACH)[who]));
+        println!("| {} | {} |", engine.name, each.collect::<Vec<_>>().join(" | "));
+    }
+    println!("\n| paired median | empty line / none | sixteen waiting / an offer |\n|---|---|---|");
+    for (who, engine) in ENGINES.iter().enumerate() {
+        let [_, empty, sixteen] = times.each_ref().map(|[one, other]| paired(&other.0[who], &one.0[who]));
+        println!("| {} | {empty:.3} | {sixteen:.3} |", engine.name);
     }
 }
 

@@ -3,7 +3,7 @@
 //! are laps of the head, so that slots are kept, taken by an offer and filled with random bytes.
 use pddm_bench::arguments::Arguments;
 use pddm_bench::drives::fill;
-use pddm_bench::engine::{Geometry, Write, ample, fresh};
+use pddm_bench::engine::{Geometry, LineWrite, Offer, Write, ample, fresh};
 use pddm_bench::painted::stack_of;
 use pddm_bench::proved::PROVED;
 
@@ -23,8 +23,38 @@ fn full(g: Geometry) -> Vec<u8> {
     disk
 }
 
-/// The stacks of formatting, both reads, what a write needs, writes without and with an offer, and the check.
-fn stacks(g: Geometry) -> [usize; 9] {
+/// A line of sixteen numbers from one on, all of place 0.
+fn sixteen(first: u32) -> [Offer; 16] {
+    std::array::from_fn(|i| Offer { number: (first + i as u32) % NUMBERS, place: 0 })
+}
+
+/// The stacks of entering an offer, a write with a line and a read through one, sixteen waiting.
+fn line_stacks(g: Geometry, disk: &mut [u8]) -> [usize; 3] {
+    let block = vec![1; g.block_size as usize];
+    let (random, list) = ample(g);
+    let (random, mut list) = (vec![165; random], vec![0; list]);
+    let entered = stack_of(|| {
+        let offer = Offer { number: 15, place: 0 };
+        assert_eq!((PROVED.enter)(disk, offer, &block, &mut sixteen(0), 15).answer, 0);
+    });
+    let shown = stack_of(|| {
+        for n in 0..NUMBERS {
+            assert!((PROVED.hidden_read_line)(disk, n, &block, &block, &sixteen(0), 16).is_ok());
+        }
+    });
+    let written = stack_of(|| {
+        for i in 0..4 * g.slots {
+            let number = i % NUMBERS;
+            let call = LineWrite { number, data: &block, blocks: &block, waiting: 16, random: &random };
+            assert_eq!((PROVED.write_line)(disk, &call, &mut sixteen(i * 7), &mut list).answer, 0);
+        }
+    });
+    [entered, shown, written]
+}
+
+/// The stacks of formatting, both reads, what a write needs, writes without and with an offer, the check, and
+/// the calls with a line.
+fn stacks(g: Geometry) -> [usize; 12] {
     let mut disk = full(g);
     let block = vec![1; g.block_size as usize];
     let (random, list) = ample(g);
@@ -39,6 +69,7 @@ fn stacks(g: Geometry) -> [usize; 9] {
         })
     };
     let written = [false, true].map(&mut writes);
+    let [entered, shown, line_written] = line_stacks(g, &mut disk);
     let numbers = || 0..NUMBERS;
     [
         stack_of(|| numbers().for_each(|n| assert!((PROVED.public_read)(&disk, n, &block).is_ok()))),
@@ -50,12 +81,15 @@ fn stacks(g: Geometry) -> [usize; 9] {
         stack_of(|| assert_eq!((PROVED.identify)(&disk).answer, 0)),
         stack_of(|| assert_eq!((PROVED.drive_size)(g).answer, 0)),
         stack_of(|| assert_eq!((PROVED.format)(&mut disk, g), Ok(()))),
+        entered,
+        shown,
+        line_written,
     ]
 }
 
 fn main() {
     Arguments::new("stacks").end();
-    const CALLS: [&str; 9] = [
+    const CALLS: [&str; 12] = [
         "public read",
         "hidden read",
         "what a write needs",
@@ -65,6 +99,9 @@ fn main() {
         "which drive a disk is",
         "how large a drive is",
         "formatting",
+        "entering an offer",
+        "hidden read through a line",
+        "write with a line",
     ];
     let [two, three, four] = [2, 3, 4].map(|height| stacks(geometry(height)));
     println!("| stack in bytes | k 2 | k 3 | k 4 |\n|---|---|---|---|");

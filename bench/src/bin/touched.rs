@@ -11,14 +11,18 @@
 //! where all its bytes are the same. The disk begins with a page, then at half a page, where a block of 4,096
 //! bytes lies on two.
 //!
-//! A write of one round meets slot 0 in its last round, one of two rounds in the one before. With blocks of
+//! A write of one round meets slot 0 in its last round, one of two rounds in the one before. It carries
+//! nothing along, one offer, an empty line, or a line of two, which two rounds may both place. With blocks of
 //! 32 bytes the drive has two bitmap blocks, one with the number's old bit and one with its new one.
 use pddm_bench::arguments::Arguments;
+use pddm_bench::carried::{Carried, Lent};
 use pddm_bench::drive::Drive;
-use pddm_bench::engine::{Engine, Geometry, Write, Written, ample};
+use pddm_bench::engine::{Engine, Geometry, LineWritten, ample};
 use pddm_bench::inplace::IN_PLACE;
 use pddm_bench::proved::PROVED;
-use pddm_bench::states::{LIVE, NOBODYS, OTHER_DAMAGED, OWNER_DAMAGED, OWNER_UNMAPPED, STALE, State};
+use pddm_bench::states::{
+    LIVE, NOBODYS, NOBODYS_TWICE, OTHER_DAMAGED, OWNER_DAMAGED, OWNER_UNMAPPED, STALE, State,
+};
 use pddm_bench::watched::{Access, PAGE, paged, watched};
 use std::process::ExitCode;
 
@@ -33,14 +37,16 @@ const PLACED: &str = "placed";
 const KEPT: &str = "kept";
 const BACK: &str = "written back";
 
-/// What the hidden half at slot 0 is to do where nothing is offered, and where the other is.
-const DUE: [(State, [&str; 2]); 6] = [
-    (NOBODYS, [FILLED, PLACED]),
-    (LIVE, [KEPT, KEPT]),
-    (STALE, [FILLED, PLACED]),
-    (OWNER_UNMAPPED, [FILLED, PLACED]),
-    (OWNER_DAMAGED, [BACK, BACK]),
-    (OTHER_DAMAGED, [FILLED, BACK]),
+/// What the hidden half at slot 0 is to do where nothing is carried along, and where the other is the first;
+/// and how many of a line of two are placed in two rounds.
+const DUE: [(State, [&str; 2], u32); 7] = [
+    (NOBODYS, [FILLED, PLACED], 1),
+    (NOBODYS_TWICE, [FILLED, PLACED], 2),
+    (LIVE, [KEPT, KEPT], 0),
+    (STALE, [FILLED, PLACED], 1),
+    (OWNER_UNMAPPED, [FILLED, PLACED], 2),
+    (OWNER_DAMAGED, [BACK, BACK], 0),
+    (OTHER_DAMAGED, [FILLED, BACK], 0),
 ];
 
 /// The blocks touched in order, and each as it was left.
@@ -88,17 +94,18 @@ impl Touched {
     }
 }
 
-/// A drive, and what its next write lends.
+/// A drive, and what its next write lends and carries along.
 struct Stand<'a> {
     engine: &'a Engine,
     g: Geometry,
     drive: &'a [u8],
-    call: Write<'a>,
+    lent: Lent,
+    carried: Carried,
 }
 
 /// What a write reports and lists, the disk after it, and the blocks touched.
 struct Run {
-    written: Written,
+    written: LineWritten,
     list: Vec<u32>,
     disk: Vec<u8>,
     touched: Touched,
@@ -117,7 +124,7 @@ impl Stand<'_> {
             touched.note(&mut memory[offset..][..bytes], place - offset, turned);
         };
         let written = watched(memory, 0..pages, Access::Write, note, |memory| {
-            (self.engine.write)(&mut memory[offset..][..bytes], &self.call, &mut list)
+            self.lent.write(self.engine, &mut memory[offset..][..bytes], self.carried, &mut list)
         });
         let disk = memory[offset..][..bytes].to_vec();
         touched.leave(&disk);
@@ -129,9 +136,9 @@ impl Stand<'_> {
     fn half(&self, run: &Run) -> &'static str {
         let v = Drive::of(self.g).expect("a geometry within the limits");
         let [before, after] = [self.drive, &run.disk].map(|disk| v.block(disk, v.start(0) + v.k));
-        match self.call.offer {
-            _ if after == &self.call.random[..v.b] => FILLED,
-            Some((_, offered)) if after == offered => PLACED,
+        match () {
+            _ if after == self.lent.filled() => FILLED,
+            _ if after == self.lent.first() => PLACED,
             _ if after != before => "neither",
             _ if run.written.outcome == 12 => BACK,
             _ => KEPT,
@@ -139,13 +146,14 @@ impl Stand<'_> {
     }
 }
 
-/// A write that meets slot 0 in a state: its rounds, what it offers, and what is to become of it.
+/// A write that meets slot 0 in a state: its rounds, what it carries along, and what is to become of it.
 struct Case<'a> {
     state: &'a State,
     rounds: u32,
-    offered: Option<u32>,
+    carried: Carried,
     outcome: u32,
     half: &'a str,
+    placed: u32,
 }
 
 impl Case<'_> {
@@ -155,33 +163,39 @@ impl Case<'_> {
         let v = Drive::of(g).expect("a geometry within the limits");
         let mut drive = vec![0; v.t * v.b];
         self.state.make(engine, g, [OWNER, OTHER], self.rounds - 1, 0, &mut drive);
-        let (data, hidden, random) = (vec![3; v.b], vec![4; v.b], vec![5; ample(g).0]);
-        let offer = self.offered.map(|number| (number, &hidden[..]));
-        let call = Write { number: 0, data: &data, offer, random: &random };
-        let stand = Stand { engine, g, drive: &drive, call };
+        let stand = Stand { engine, g, drive: &drive, lent: Lent::new(g), carried: self.carried };
         let mut listed = String::new();
         let touched = [0, PAGE / 2].map(|offset| {
             let run = stand.run(offset, false);
-            let Written { answer, rounds, outcome, .. } = run.written;
+            let LineWritten { answer, rounds, outcome, placed, .. } = run.written;
             assert_eq!((answer, rounds, outcome), (0, self.rounds, self.outcome));
-            assert_eq!(stand.half(&run), self.half);
+            assert_eq!((stand.half(&run), placed), (self.half, self.placed));
             listed = run.list.iter().map(u32::to_string).collect::<Vec<_>>().join(" ");
             let told = run.touched.told(&stand.run(offset, true).touched);
             if told == listed { "all".to_string() } else { told }
         });
-        let [last, offer] = [self.rounds == 1, offer.is_some()].map(|yes| if yes { "yes" } else { "no" });
-        print!("| {} | {} | {} | {} | {last} | {offer} |", engine.name, v.b, v.k, self.state.name);
-        println!(" {} | {listed} | {} |", self.half, touched.join(" | "));
+        let (last, carried) = (if self.rounds == 1 { "yes" } else { "no" }, self.carried.told());
+        print!("| {} | {} | {} | {} | {last} | {carried} |", engine.name, v.b, v.k, self.state.name);
+        println!(" {} | {} | {listed} | {} |", self.half, self.placed, touched.join(" | "));
         touched.iter().all(|touched| touched == "all")
     }
 }
 
 /// The writes that meet slot 0 in each state.
 fn cases() -> impl Iterator<Item = Case<'static>> {
-    DUE.iter().flat_map(|(state, halves)| {
-        let offers = [(None, state.outcomes[0], halves[0]), (Some(OTHER), state.outcomes[2], halves[1])];
-        offers.into_iter().flat_map(move |(offered, outcome, half)| {
-            [1, 2].map(|rounds| Case { state, rounds, offered, outcome, half })
+    DUE.iter().flat_map(|(state, halves, both)| {
+        let ([none, _, other], first) = (state.outcomes, u32::from(halves[1] == PLACED));
+        let all = [
+            (Carried::Nothing, none, halves[0], [0, 0]),
+            (Carried::One(OTHER), other, halves[1], [first, first]),
+            (Carried::Line(&[]), none, halves[0], [0, 0]),
+            (Carried::Line(&[OTHER, OWNER]), other, halves[1], [first, *both]),
+        ];
+        all.into_iter().flat_map(move |(carried, outcome, half, placed)| {
+            [1, 2].map(|rounds| {
+                let placed = placed[rounds as usize - 1];
+                Case { state, rounds, carried, outcome, half, placed }
+            })
         })
     })
 }
@@ -193,10 +207,8 @@ fn geometry(block_size: u32, height: u32) -> Geometry {
 
 fn main() -> ExitCode {
     Arguments::new("touched").end();
-    println!(
-        "| mapper | B | k | slot | last round | offer | hidden half | listed | touched | at half a page |"
-    );
-    println!("|---|---|---|---|---|---|---|---|---|---|");
+    print!("| mapper | B | k | slot | last round | carried | hidden half | placed |");
+    println!(" listed | touched | at half a page |\n|---|---|---|---|---|---|---|---|---|---|---|");
     let mut good = true;
     for block_size in [4096, 32] {
         for g in [2, 3, 4].map(|height| geometry(block_size, height)) {

@@ -1,0 +1,78 @@
+//! Random calls on a drive of a geometry: mostly good ones, now and then with a number outside, a buffer of
+//! another length or a bent line.
+use crate::calls::{Call, LentLine};
+use crate::drives::bent_geometry;
+use crate::engine::Geometry;
+use crate::lines::{any_number, any_offer};
+use crate::plain::PLAIN;
+use crate::random::Random;
+
+/// One block of random bytes, or now and then less or more.
+fn any_block(r: &mut Random, b: usize) -> Vec<u8> {
+    let size = if r.one_in(20) { r.pick(&[0, b - 1, b + 1, 2 * b]) } else { b };
+    r.bytes(size)
+}
+
+/// As much as is needed, or more, or now and then too little.
+fn any_room(r: &mut Random, needed: usize) -> usize {
+    match r.below(16) {
+        0 => needed.saturating_sub(1),
+        1 => 0,
+        2..=5 => needed + 1 + r.below(40) as usize,
+        _ => needed,
+    }
+}
+
+/// A write, with a line or with an offer, if there is one.
+fn any_write(r: &mut Random, g: Geometry, disk: &[u8], line: Option<&LentLine>) -> Call {
+    let b = g.block_size as usize;
+    let number = any_number(r, g.publics);
+    let needs = (PLAIN.needs)(disk, number);
+    let random = any_room(r, needs.random_blocks as usize * b);
+    let room = any_room(r, needs.stores as usize);
+    let (data, random) = (any_block(r, b), r.bytes(random));
+    let list = (0..room).map(|_| r.word() as u32).collect();
+    if let Some(line) = line {
+        return Call::WriteLine { number, data, line: line.clone(), random, list };
+    }
+    let hidden = any_block(r, b);
+    let offer = (!r.one_in(4)).then(|| (any_number(r, g.hidden), hidden));
+    Call::Write { number, data, offer, random, list }
+}
+
+/// A call that lends a line.
+pub fn any_line_call(r: &mut Random, g: Geometry, disk: &[u8], line: &LentLine) -> Call {
+    match r.below(8) {
+        0..=2 => Call::Enter(any_offer(r, g, line), line.clone()),
+        3..=5 => any_write(r, g, disk, Some(line)),
+        _ => {
+            let blank = any_block(r, g.block_size as usize);
+            let number = if r.one_in(2) { any_number(r, g.hidden) } else { any_waiting(r, g, line) };
+            Call::HiddenReadLine(number, blank, line.clone())
+        }
+    }
+}
+
+/// The number of an offer that waits, or any.
+fn any_waiting(r: &mut Random, g: Geometry, line: &LentLine) -> u32 {
+    match line.held() {
+        [] => any_number(r, g.hidden),
+        held => r.pick(held).number,
+    }
+}
+
+pub fn any_call(r: &mut Random, g: Geometry, disk: &[u8], line: &LentLine) -> Call {
+    let b = g.block_size as usize;
+    match r.below(96) {
+        0 if r.one_in(6) => Call::Format(g),
+        0 | 1 => Call::Format(bent_geometry(r, g)),
+        2..=9 => Call::PublicRead(any_number(r, g.publics), any_block(r, b)),
+        10..=17 => Call::HiddenRead(any_number(r, g.hidden), any_block(r, b)),
+        18..=21 => Call::Needs(any_number(r, g.publics)),
+        22..=25 => Call::CheckTree,
+        26 => Call::Identify,
+        27 => Call::DriveSize(bent_geometry(r, g)),
+        28..=55 => any_write(r, g, disk, None),
+        _ => any_line_call(r, g, disk, line),
+    }
+}

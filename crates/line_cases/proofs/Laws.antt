@@ -1,2 +1,4 @@
 pub mod Offers
 pub mod Cases
+pub mod Locals
+pub mod Lents

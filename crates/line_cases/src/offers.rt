@@ -85,12 +85,20 @@ fn is_line(said: Line, got: Line) -> bool
     same
 }
 
-// Ends a line of figures with the line that is said and the one that is left; answers whether they agree.
-pub fn print_left(said: Line, got: Line) -> bool
+// Ends a line of figures with a text, the line that is said and the one that there is; answers whether they
+// agree.
+pub fn print_lines(text: &[u8], said: Line, got: Line) -> bool
     ensures { λ r. ⌜ r ≡ sameLine (lineOf said) (lineOf got) ⌝ }
 {
-    print_line(b"  line expected ", said);
+    print_line(text, said);
     print_line(b" got ", got);
     print_text(b"\n");
     is_line(said, got)
+}
+
+// The same of the line that a call leaves.
+pub fn print_left(said: Line, got: Line) -> bool
+    ensures { λ r. ⌜ r ≡ sameLine (lineOf said) (lineOf got) ⌝ }
+{
+    print_lines(b"  line expected ", said, got)
 }

@@ -13,6 +13,7 @@ use Rattle.line.specs.Offers.{lineOf}
 use Rattle.figure_lines.specs.Counts.{entryOr, isListed}
 use Rattle.line_cases.specs.Offers.{lineSaid, sameLine}
 use Rattle.line_cases.specs.Cases.{Case, caseFrom, writtenCase}
+use Rattle.line_cases.specs.Lents.{lentAfter}
 use Rattle.line_cases.specs.declared.cases.Start.{Start}
 use Rattle.line_figures.specs.declared.writes.WriteRow.{WriteRow}
 
@@ -39,6 +40,12 @@ madeAgrees row answer rounds stores outcome placed =
 abbrev pub storedAgrees : WriteRow → (disk : Bytes) → (list : List DiskAddress) → Bool
 storedAgrees row disk list = eqb (row .16) (entryOr 5 disk) && isListed (row .17) list
 
+-- the line left, and what lies in the line that was handed over
+abbrev pub keptAgrees : WriteRow → (handed left : List Offer) → Bool
+keptAgrees row handed left =
+    sameLine (lineOf (lineSaid (row .15))) left &&
+    sameLine (lineOf (lineSaid (row .22))) (lentAfter handed left)
+
 -- the number that a row's write goes to
 abbrev pub rowNumber : WriteRow → ℕ
 rowNumber row = min (row .7) (row .8)
@@ -50,7 +57,7 @@ resultTold row before after result =
     madeAgrees row (result .answer) (result .rounds) (length (result .trace))
     (outcomeNumber (result .outcome)) (result .placed) &&
     storedAgrees row (after .disk) (writtenList result (replicate 23 99)) &&
-    sameLine (lineOf (lineSaid (row .15))) (after .line) &&
+    keptAgrees row (before .line) (after .line) &&
     readsAgree row (after .disk) (after .line)
 
 abbrev pub writeTold : WriteRow → Case → Bool

@@ -17,11 +17,17 @@ const ONE: u64 = 0x1_1100_0000;
 
 const ONE_LAST: u64 = 0x1_1200_0000;
 
+const ZERO_TWICE: u64 = 0x2_0000_0000;
+
+const ONE_TWICE: u64 = 0x2_1111_0000;
+
 const TWO: u64 = 0x2_0011_0000;
 
 const REPLACED: u64 = 0x2_0211_0000;
 
 const TWICE: u64 = 0x3_0001_1200;
+
+const LAST_IN_FRONT: u64 = 0x3_1201_1200;
 
 const PASSED: u64 = 0x2_2015_0000;
 
@@ -67,7 +73,7 @@ const S5: [u32; 17] = [4, 5, 6, 3, 0, 7, 8, 9, 3, 0, 10, 11, 12, 3, 1, 2, 0];
 
 // byte before formatting, bytes, P, H, M, root entry, writes with an empty line, all writes before, last
 // number, line; answer, rounds, stores, outcome, placed, line left, head, addresses stored, answer and byte
-// shown of reads of hidden 0 and of hidden 1
+// shown of reads of hidden 0 and of hidden 1, lent line after it
 const WRITES: [WriteRow; 12] = [
     // two wait, one round: the first is placed, the other keeps its turn, and the next write places it
     WriteRow(
@@ -93,6 +99,7 @@ const WRITES: [WriteRow; 12] = [
         9,
         0,
         10,
+        ONE_TWICE,
     ),
     WriteRow(
         0,
@@ -117,6 +124,7 @@ const WRITES: [WriteRow; 12] = [
         9,
         0,
         10,
+        ONE,
     ),
     // after writes 0, 1, 2 and 2 three rounds place both
     WriteRow(
@@ -142,8 +150,9 @@ const WRITES: [WriteRow; 12] = [
         9,
         0,
         10,
+        TWO,
     ),
-    // a number twice: the first counts, the other leaves with it
+    // a number twice: the first counts, the other leaves with it; past those left the lent line stays
     WriteRow(
         0,
         512,
@@ -167,6 +176,7 @@ const WRITES: [WriteRow; 12] = [
         9,
         0,
         11,
+        LAST_IN_FRONT,
     ),
     // passed over: 2 is not below H, place 5 lies outside; they stay, and alone they are none to wait for
     WriteRow(
@@ -192,6 +202,7 @@ const WRITES: [WriteRow; 12] = [
         10,
         0,
         5,
+        BEHIND,
     ),
     WriteRow(
         0,
@@ -216,6 +227,7 @@ const WRITES: [WriteRow; 12] = [
         10,
         0,
         5,
+        PASSED,
     ),
     // where the first of a number is passed over, the number is
     WriteRow(
@@ -241,6 +253,7 @@ const WRITES: [WriteRow; 12] = [
         5,
         0,
         5,
+        OUTSIDE,
     ),
     // a read shows the waiting block and gives no 12; of a number that does not wait it gives 12
     WriteRow(
@@ -266,6 +279,7 @@ const WRITES: [WriteRow; 12] = [
         9,
         12,
         256,
+        ZERO,
     ),
     // a damaged first one is not passed over; behind another it waits for the round after
     WriteRow(
@@ -291,6 +305,7 @@ const WRITES: [WriteRow; 12] = [
         9,
         12,
         256,
+        ZERO_SEVEN,
     ),
     WriteRow(
         165,
@@ -315,6 +330,7 @@ const WRITES: [WriteRow; 12] = [
         9,
         12,
         256,
+        ZERO_TWICE,
     ),
     WriteRow(
         165,
@@ -339,6 +355,7 @@ const WRITES: [WriteRow; 12] = [
         9,
         12,
         256,
+        ZERO,
     ),
     // the line that entering left
     WriteRow(
@@ -364,6 +381,7 @@ const WRITES: [WriteRow; 12] = [
         11,
         0,
         10,
+        ONE_TWICE,
     ),
 ];
 

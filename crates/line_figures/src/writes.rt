@@ -16,6 +16,7 @@ use line_cases::cases::Start;
 use line_cases::cases::prepare;
 use line_cases::cases::print_start;
 use line_cases::cases::write_with;
+use line_cases::lents::print_lent;
 use line_cases::offers::line_by;
 use line_cases::offers::print_left;
 use mapper::LineWritten;
@@ -29,13 +30,14 @@ ghost use Rattle.line.specs.Offers.{lineOf};
 ghost use Rattle.mapper.specs.Writes.{outcomeOf};
 ghost use Rattle.figure_lines.specs.Counts.{agreeing};
 ghost use Rattle.line_figures.specs.Writes.{lineReadAgrees, readsAgree, madeAgrees, storedAgrees};
-ghost use Rattle.line_figures.specs.Writes.{WrittenOn, lineAgrees};
+ghost use Rattle.line_figures.specs.Writes.{keptAgrees, WrittenOn, lineAgrees};
 
 // The byte that the disk is filled with, its bytes, P, H, M and the root's first entry; how many writes go
 // before with an empty line, how many in all, and the last number that they go to; the line. The answer, the
 // rounds, the stores, the outcome's number and how many are placed; the line left, the head, and the
 // addresses stored, with 99 after them; of hidden numbers 0 and 1 what a read through the line answers and
-// the first byte shown, or 256 for none, before the write and after it.
+// the first byte shown, or 256 for none, before the write and after it; and what lies after it in the line
+// that was handed over.
 pub struct WriteRow(
     pub u8,
     pub usize,
@@ -59,6 +61,7 @@ pub struct WriteRow(
     pub u32,
     pub u32,
     pub u32,
+    pub u64,
 );
 
 // ---- reads ----
@@ -125,6 +128,16 @@ fn print_stored<'a>(disk: &'a [u8], list: &'a [u32], row: WriteRow) -> bool
     headed & listed
 }
 
+// Prints the line that a write leaves, and what then lies in the one that it was handed; answers whether they
+// agree.
+fn print_kept(row: WriteRow, handed: Line, left: Line) -> bool
+    ensures { λ r. ⌜ r ≡ keptAgrees row (lineOf handed) (lineOf left) ⌝ }
+{
+    let stay = print_left(line_by(row.15), left);
+    let lie = print_lent(line_by(row.22), handed, left);
+    stay & lie
+}
+
 // Makes the row's case, reads through the line, writes with it, reads again, and prints what comes of it;
 // answers whether it agrees.
 fn write_on(disk: &mut [u8], row: WriteRow) -> bool
@@ -149,7 +162,7 @@ fn write_on(disk: &mut [u8], row: WriteRow) -> bool
     let left = made.line;
     let told = print_made(row, number, made);
     let stored = print_stored(disk, &list, row);
-    let kept = print_left(line_by(row.15), left);
+    let kept = print_kept(row, line, left);
     let shown = print_reads(disk, left, row);
     seen & told & stored & kept & shown
 }

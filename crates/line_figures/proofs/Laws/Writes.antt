@@ -14,10 +14,9 @@ use Rattle.line.specs.declared.offers.Line.{Line}
 use Rattle.line.specs.Offers.{lineOf}
 use Rattle.mapper.specs.declared.write.LineWritten.{LineWritten}
 use Rattle.mapper.specs.Writes.{LineAnswered, outcomeOf}
-use Rattle.line_cases.specs.Offers.{lineSaid, sameLine}
 use Rattle.line_cases.specs.Cases.{Case, caseOn, writtenCase, CaseLeft}
 use Rattle.line_figures.specs.Writes.{readsAgree, madeAgrees, storedAgrees, rowNumber, resultTold}
-use Rattle.line_figures.specs.Writes.{lineReadAgrees, rowCase, WrittenOn}
+use Rattle.line_figures.specs.Writes.{lineReadAgrees, keptAgrees, rowCase, WrittenOn}
 use Rattle.line_figures.specs.declared.writes.WriteRow.{WriteRow}
 use Rattle.line_cases.proofs.Laws.Cases.{case-is, case-written}
 
@@ -37,7 +36,7 @@ abbrev numberTold : WriteRow → (number : ℕ) → Case → Bool
 numberTold row number case =
     resultTold row case (writtenCase number case) (lineWritten (case .disk) number (case .line))
 
-module _ (row : WriteRow) (number : ℕ) {disk after : Bytes} {line said : Line} {list : List DiskAddress}
+module _ (row : WriteRow) (number : ℕ) {disk after : Bytes} {line : Line} {list : List DiskAddress}
     {made : LineWritten}
     (wrote :
     LineAnswered (lineWritten disk number (lineOf line)) disk (replicate 23 99) threeBlocks line after list
@@ -47,8 +46,8 @@ module _ (row : WriteRow) (number : ℕ) {disk after : Bytes} {line said : Line}
     told ≡
     madeAgrees row (made .answer) (made .rounds) (made .stores) (outcomeNumber (outcomeOf (made .outcome)))
     (made .placed))
-    (stored-is : stored ≡ storedAgrees row after list) (said-is : said ≡ lineSaid (row .15))
-    (kept-is : kept ≡ sameLine (lineOf said) (lineOf (made .line)))
+    (stored-is : stored ≡ storedAgrees row after list)
+    (kept-is : kept ≡ keptAgrees row (lineOf line) (lineOf (made .line)))
     (shown-is : shown ≡ readsAgree row after (lineOf (made .line))) where
   told-of-made :
       (seen && told && stored && kept && shown) ≡ numberTold row number (caseOn disk (lineOf line))
@@ -59,7 +58,6 @@ module _ (row : WriteRow) (number : ℕ) {disk after : Bytes} {line said : Line}
         told-is,
         stored-is,
         kept-is,
-        said-is,
         shown-is,
         wrote .answered,
         wrote .rounds-are,

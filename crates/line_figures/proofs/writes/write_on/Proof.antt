@@ -7,7 +7,7 @@ use Rattle.line_figures.proofs.writes.write_on.Tie as tie
 
 -- what is stored is compared
 abbrev after-stored : tie.After-print-reads2 → tie.After-print-stored
-after-stored c = c .before .before .before .before
+after-stored c = c .before .before .before
 
 -- the write is made, and nothing of it is compared yet
 abbrev after-write : tie.After-print-stored → tie.After-write-with
@@ -40,11 +40,8 @@ slice-aggregate-print-stored c = search needs
 print-stored-requires : tie.Need-print-stored-requires
 print-stored-requires c κs = tt
 
-line-by-requires : tie.Need-line-by-requires
-line-by-requires c κs = tt
-
-print-left-requires : tie.Need-print-left-requires
-print-left-requires c κs = tt
+print-kept-requires : tie.Need-print-kept-requires
+print-kept-requires c κs = tt
 
 print-reads-requires-2 : tie.Need-print-reads-requires-2
 print-reads-requires-2 c κs = tt
@@ -60,11 +57,10 @@ returns c =
     let case = seen .before .before .before .before in
     let numbered = case .before .before .before in
     let a = numbered .before .before .args in
-    let kept = c .before .before in
     written-on (a .row) (numbered .number-at .result) (wrote .write-with .ensures)
     (seen .print-reads .ensures) (stored .before .before .before .print-made .ensures)
-    (stored .print-stored .ensures) (kept .before .line-by .ensures) (kept .print-left .ensures)
-    (c .print-reads2 .ensures) (a .disk .now) (case .prepare .ensures) (numbered .number-at .ensures)
+    (stored .print-stored .ensures) (c .before .before .print-kept .ensures) (c .print-reads2 .ensures)
+    (a .disk .now) (case .prepare .ensures) (numbered .number-at .ensures)
 
 pub write-on-spec : {M : Type 1} → statement M
 write-on-spec =
@@ -79,8 +75,7 @@ write-on-spec =
     print-made-requires
     slice-aggregate-print-stored
     print-stored-requires
-    line-by-requires
-    print-left-requires
+    print-kept-requires
     print-reads-requires-2
     same-length
     returns)

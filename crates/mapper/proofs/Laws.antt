@@ -1,6 +1,5 @@
 -- The laws that the proofs of the functions cite, a file for each idea.
 pub mod Questions
-pub mod Carried
+pub mod Offers
 pub mod Outcomes
 pub mod Writes
-pub mod Told

@@ -1,5 +1,4 @@
 pub mod Headers
 pub mod Questions
 pub mod Needs
-pub mod Carried
 pub mod Writes

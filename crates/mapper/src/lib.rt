@@ -5,7 +5,7 @@
 mod formatting; // header, map, bitmap and root of a fresh drive
 mod questions; // which drive a disk is, and how large a drive is
 mod needs; // the rounds, stores and random bytes that a write takes, and its refusals
-mod carried; // what a write carries along, and the turns that it brings to the rounds
+mod offers; // the hidden write that is offered: its refusal, and its turn
 mod write; // the write: with an offer or without one, or with a line of offers
 
 pub use formatting::format_drive;

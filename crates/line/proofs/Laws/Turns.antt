@@ -17,6 +17,17 @@ use Rattle.line.specs.Offers.{offerOf}
 use Rattle.line.specs.Changes.{LeftBehind}
 use Rattle.line.specs.Turns.{offersBy, turnsIn, noTurns, firstAt, turnPushed}
 
+pub offersBy-nil : (places : List ℕ) → offersBy [] places ≡ []
+unfolding offersBy
+offersBy-nil places = refl
+
+pub offersBy-cons :
+    (number place : ℕ) (numbers places : List ℕ) →
+    offersBy (number ∷ numbers) (place ∷ places) ≡
+    record { number = number; place = place } ∷ offersBy numbers places
+unfolding offersBy
+offersBy-cons number place numbers places = refl
+
 pub firstAt-offersBy :
     (numbers places : List ℕ) (placed : ℕ) → placed < length numbers → placed < length places →
     firstAt (offersBy numbers places) placed ≡

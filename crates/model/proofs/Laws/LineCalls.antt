@@ -19,12 +19,14 @@ use Rattle.model.specs.Layout.{geometryIn}
 use Rattle.model.specs.HiddenTree.{walk}
 use Rattle.model.specs.Refusals.{driveChecks, driveRefusal, hiddenChecks, hiddenReadRefusal}
 use Rattle.model.specs.Refusals.{hiddenWriteRefusal}
-use Rattle.model.specs.Line.{Offer, mostOffers, lineOfferRefusal, turns, leftAfter, isWaitingIn}
-use Rattle.model.specs.Line.{roomChecks, enterRefusal, withOffer, entered, waitingFor}
-use Rattle.model.specs.Calls.{shownAt, hiddenRead, Written, lineLeft, orElse, diskChecks}
-use Rattle.model.specs.Calls.{lineReadRefusal, lineRead}
+use Rattle.model.specs.Line.{Offer, mostOffers, lineOfferRefusal, firstOffers, goodOffers, turns}
+use Rattle.model.specs.Line.{hiddenWritesOf, leftAfter, isWaitingIn, roomChecks, enterRefusal}
+use Rattle.model.specs.Line.{withOffer, entered, waitingFor}
+use Rattle.model.specs.Calls.{shownAt, hiddenRead, nothing, inLine, offerRefusal, offeredWrites}
+use Rattle.model.specs.Calls.{Written, written, lineLeft, orElse, diskChecks, lineReadRefusal, lineRead}
 use Rattle.model.proofs.Laws.Refusals.{after-drive-pass, driveRefusal-of-chain, passed-after-drive}
 use Rattle.model.proofs.Laws.Accepted.{AcceptedHidden, numbered-hidden, passed-of-hiddenChecks}
+use Rattle.model.proofs.Laws.Calls.{written-alike}
 
 -- ---- the read ----
 
@@ -201,6 +203,15 @@ pub lineLeft-is :
     leftAfter (take (result .placed) (turns (geometryIn disk) blocks line)) line
 unfolding lineLeft
 lineLeft-is result disk blocks line = refl
+
+-- a write with an empty line is the write with nothing
+pub written-empty-line :
+    (disk : Bytes) (number : ℕ) (content random : Bytes) (room : ℕ) (blocks : Bytes) →
+    written disk number content random room (inLine blocks []) ≡
+    written disk number content random room nothing
+unfolding offerRefusal offeredWrites firstOffers goodOffers hiddenWritesOf
+written-empty-line disk number content random room blocks =
+    written-alike disk number content random room (inLine blocks []) nothing refl refl
 
 -- a write that placed none leaves the line
 pub lineLeft-none :

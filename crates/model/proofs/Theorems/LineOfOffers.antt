@@ -16,7 +16,7 @@ use Rattle.model.specs.Layout.{geometryIn}
 use Rattle.model.specs.HiddenHalf.{HiddenWrite}
 use Rattle.model.specs.Line.{Offer, firstOffers, goodOffers, hiddenWriteOf, lineOfferRefusal, turns}
 use Rattle.model.specs.Line.{hiddenWritesOf, enterRefusal, entered, waitingFor, without}
-use Rattle.model.specs.Calls.{one, inLine, nothing, offerRefusal, offeredWrites, Written, written}
+use Rattle.model.specs.Calls.{one, inLine, offerRefusal, offeredWrites, Written, written}
 use Rattle.model.specs.Calls.{lineLeft, lineReadRefusal}
 use Rattle.model.specs.Promises.LineOfOffers.{LineReads, LineKept, Entering, LineOfOffers}
 use Rattle.model.proofs.Laws.Accepted.{AcceptedHidden, accepted-of-hiddenWrite}
@@ -28,7 +28,8 @@ use Rattle.model.proofs.Laws.LineWaits.{waitingFor-withOffer-other}
 use Rattle.model.proofs.Laws.LineCalls.{lineReadRefusal-disk, lineRead-disk, lineReadRefusal-waiting}
 use Rattle.model.proofs.Laws.LineCalls.{lineRead-waiting, lineReadRefusal-same, lineRead-same}
 use Rattle.model.proofs.Laws.LineCalls.{entered-done, entered-refused, entered-fits}
-use Rattle.model.proofs.Laws.LineCalls.{driveRefusal-of-enter, offerRefusal-of-enter, lineLeft-is}
+use Rattle.model.proofs.Laws.LineCalls.{driveRefusal-of-enter, offerRefusal-of-enter}
+use Rattle.model.proofs.Laws.LineCalls.{written-empty-line, lineLeft-is}
 use Rattle.model.proofs.Refusals.Lines.{some-of-waits, none-of-unwaited}
 use Rattle.model.proofs.Volumes.Placed.{placed-le}
 use Rattle.model.proofs.Volumes.LineReads.{write-keeps-shown}
@@ -154,7 +155,7 @@ module _ (disk : Bytes) (offer : Offer) (blocks : Bytes) (line : List Offer) (ro
           lineReadRefusal-waiting disk (offer .number) blank blocks left _ (entered-waits e)
           (driveRefusal-of-enter disk offer blocks line room e) (entered-accepted e blank sized)
 
--- ---- a line of one and of none ----
+-- ---- a line of one ----
 
 module _ (disk : Bytes) (number : ℕ) (content random : Bytes) (room : ℕ) (blocks : Bytes) where
   one-offer :
@@ -176,12 +177,6 @@ module _ (disk : Bytes) (number : ℕ) (content random : Bytes) (room : ℕ) (bl
       by true = refl
       by false = refl
 
-  no-offer :
-      written disk number content random room (inLine blocks []) ≡
-      written disk number content random room nothing
-  unfolding offerRefusal offeredWrites firstOffers goodOffers hiddenWritesOf
-  no-offer = written-alike disk number content random room (inLine blocks []) nothing refl refl
-
 pub line-of-offers : LineOfOffers
 line-of-offers =
     record {
@@ -192,5 +187,5 @@ line-of-offers =
       kept = line-kept;
       entering = entering;
       one-offer = one-offer;
-      no-offer = no-offer;
+      no-offer = written-empty-line;
     }

@@ -1,18 +1,15 @@
--- `write_line` meets its contract: it carries the line. Assumes nothing.
+-- `write_line` meets its contract: with an empty line it is the write with nothing offered. Assumes nothing.
+use mathlib.Core.Path.{sym, _∙_}
 use borrow.Author.Needs.{needs}
-use Rattle.mapper.proofs.Laws.Told.{answered-line}
+use Rattle.mapper.proofs.Laws.Writes.{line-empty}
 use Rattle.mapper.proofs.write.write_line.Statement.{statement}
 use Rattle.mapper.proofs.write.write_line.Tie as tie
 
--- the write is called, and ended
-abbrev startOf : tie.After-write-carried → tie.Start
-startOf c = c .before .before .before .before .before .before .before .before
+held-requires : tie.Need-held-requires
+held-requires c κs = search needs
 
-abbrev writtenOf : tie.After-slice-known4 → tie.After-write-carried
-writtenOf c = c .before .before .before .before
-
-write-carried-requires : tie.Need-write-carried-requires
-write-carried-requires c κs = search needs
+write-turns-requires : tie.Need-write-turns-requires
+write-turns-requires c κs = search needs
 
 same-length : tie.Need-same-length
 same-length c = search needs
@@ -21,12 +18,37 @@ same-length-2 : tie.Need-same-length-2
 same-length-2 c = search needs
 
 returns : tie.Need-returns
-returns c =
-    let done = writtenOf c in
-    let a = startOf done .args in
-    answered-line (a .disk .now) (a .number .0) (a .content .now) (a .random .now) (a .list .now) (a .line)
-    (a .blocks .now) (done .write-carried .last .0) (done .write-carried .last .1 .1 .1 .1 .1 .1 .1 .0)
-    (done .write-carried .result) (done .write-carried .ensures)
+returns c = search needs
+
+write-block-requires : tie.Need-write-block-requires
+write-block-requires c κs = search needs
+
+same-length-3 : tie.Need-same-length-3
+same-length-3 c = search needs
+
+same-length-4 : tie.Need-same-length-4
+same-length-4 c = search needs
+
+returns-2 : tie.Need-returns-2
+returns-2 c =
+    let done = c .before .before .before .before in
+    let empty = done .before .before .before in
+    let held = empty .before in
+    let a = held .before .before .before .before .before .before .args in
+    line-empty (a .disk .now) (a .number .0) (a .content .now) (a .random .now) (a .list .now) (a .line)
+    (a .blocks .now) (sym (held .held .ensures) ∙ empty .if1 .left) (done .write-block .last .0)
+    (done .write-block .last .1 .1 .1 .1 .1 .1 .1 .0) (done .write-block .result) (done .write-block .ensures)
 
 pub write-line-spec : {M : Type 1} → statement M
-write-line-spec = tie.close (tie.spec write-carried-requires same-length same-length-2 returns)
+write-line-spec =
+    tie.close
+    (tie.spec
+    held-requires
+    write-turns-requires
+    same-length
+    same-length-2
+    returns
+    write-block-requires
+    same-length-3
+    same-length-4
+    returns-2)

@@ -1,4 +1,4 @@
--- `answer_done` meets its contract: no more are placed than had a turn, and these leave the line. Assumes
+-- `answer_line` meets its contract: no more are placed than had a turn, and these leave the line. Assumes
 -- nothing.
 use mathlib.Core.Path.{_≡_, refl, sym}
 use native.Mathlib.Omega.{arith}
@@ -7,8 +7,8 @@ use lib.Seq.{length-take-le}
 use borrow.Author.Needs.{needs}
 use Rattle.line.specs.Offers.{lineOf}
 use Rattle.line.proofs.Laws.Turns.{left-of-turns}
-use Rattle.mapper.proofs.write.answer_done.Statement.{statement}
-use Rattle.mapper.proofs.write.answer_done.Tie as tie
+use Rattle.mapper.proofs.write.answer_line.Statement.{statement}
+use Rattle.mapper.proofs.write.answer_line.Tie as tie
 
 -- turns are two runs of 16 numbers
 numbers-whole : (s : tie.Start) → length (s .args .turns .numbers) ≡ 16
@@ -17,14 +17,11 @@ numbers-whole s = search needs
 places-whole : (s : tie.Start) → length (s .args .turns .places) ≡ 16
 places-whole s = search needs
 
+answer-done-requires : tie.Need-answer-done-requires
+answer-done-requires c κs = c .pre .stores-few
+
 cast-told : tie.Need-cast-told
 cast-told c = search needs
-
-cast-t11 : tie.Need-cast-t11
-cast-t11 c = search needs
-
-outcome-of-requires : tie.Need-outcome-of-requires
-outcome-of-requires c κs = search needs
 
 array-share-prefix-gone : tie.Need-array-share-prefix-gone
 array-share-prefix-gone c =
@@ -43,27 +40,23 @@ left-of-requires c κs = search needs
 
 returns : tie.Need-returns
 returns c =
-    let ended = c .before .before in
-    let s = ended .before .before .before in
+    let done = c .before .before .before .before in
+    let s = done .before in
     let a = s .args in
     record {
-      answered = refl;
-      rounds-are = refl;
-      stores-are = refl;
-      outcome-is = ended .outcome-of .ensures;
+      told = done .answer-done .ensures;
       placed-are = refl;
       line-left =
           left-of-turns (a .turns) (numbers-whole s) (places-whole s) (lineOf (a .line))
           (lineOf (c .left-of .result)) (a .ran .state .placed) (s .pre .placed-most) (c .left-of .ensures);
     }
 
-pub answer-done-spec : {M : Type 1} → statement M
-answer-done-spec =
+pub answer-line-spec : {M : Type 1} → statement M
+answer-line-spec =
     tie.close
     (tie.spec
+    answer-done-requires
     cast-told
-    cast-t11
-    outcome-of-requires
     array-share-prefix-gone
     slice-aggregate-left-of
     left-of-requires

@@ -1,6 +1,6 @@
--- `write_carried` meets its contract: a refused write leaves disk, list and line, another one is run with the
--- turns of what it carries. Assumes nothing.
-use mathlib.Core.Path.{_≡_, refl, sym}
+-- `write_turns` meets its contract: a refused write leaves disk, list and line, another one is run with the
+-- turns of the line. Assumes nothing.
+use mathlib.Core.Path.{_≡_, sym}
 use Prim.Native.Nat.{ℕ, _≤_}
 use native.Mathlib.Omega.{arith}
 use lib.ListN.{length}
@@ -8,6 +8,7 @@ use lib.Seq.{length-take-le}
 use borrow.Author.Needs.{needs}
 use Rattle.model.specs.Geometry.{Geometry}
 use Rattle.model.specs.Refusals.{writeRefusal}
+use Rattle.model.specs.Calls.{inLine}
 use Rattle.model.proofs.Laws.Accepted.{driveRefusal-of-write}
 use Rattle.model.proofs.Laws.Refusals.{long-enough}
 use Rattle.layout.specs.Drives.{OpenedWith}
@@ -15,9 +16,10 @@ use Rattle.layout.specs.Geometries.{geometryOf}
 use Rattle.layout.proofs.Laws.Opened.{opened-refused, opened-good}
 use Rattle.line.specs.declared.turns.Turns.{Turns}
 use Rattle.line.specs.Offers.{lineOf}
-use Rattle.mapper.proofs.Laws.Writes.{answered-refused, runnable, done-fits, answered-done}
-use Rattle.mapper.proofs.write.write_carried.Statement.{statement}
-use Rattle.mapper.proofs.write.write_carried.Tie as tie
+use Rattle.line.specs.Turns.{turnsIn}
+use Rattle.mapper.proofs.Laws.Writes.{line-refused, runnable, brought-in-line, line-fits, line-done}
+use Rattle.mapper.proofs.write.write_turns.Statement.{statement}
+use Rattle.mapper.proofs.write.write_turns.Tie as tie
 
 -- ---- the places on the way, each named from a later one ----
 
@@ -41,28 +43,25 @@ openingOf c = c .before .before
 abbrev shapeOf : tie.After-g → Geometry
 shapeOf c = geometryOf (c .g .given .0 .0)
 
--- its head is read, and what is carried is judged
-abbrev headOf : tie.After-carried-fault → tie.After-head-in
+-- its head is read, and the turns are found
+abbrev readOf : tie.After-head-in → tie.After-g
+readOf c = c .before .before .before
+
+abbrev headOf : tie.After-turns-of → tie.After-head-in
 headOf c = c .before
 
-abbrev readOf : tie.After-carried-fault → tie.After-g
-readOf c = headOf c .before .before .before
+abbrev startOfFound : tie.After-turns-of → tie.Start
+startOfFound c = startOf (openingOf (readOf (headOf c)))
 
-abbrev startOfJudged : tie.After-carried-fault → tie.Start
-startOfJudged c = startOf (openingOf (readOf c))
+abbrev turnsOf : tie.After-turns-of → Turns
+turnsOf c = c .turns-of .result
 
--- the turns are found, and lent to the rounds
-abbrev judgedOf : tie.After-carried-turns → tie.After-carried-fault
-judgedOf c = c .before
-
-abbrev turnsOf : tie.After-carried-turns → Turns
-turnsOf c = c .carried-turns .result
-
-abbrev foundOf : tie.After-numbers2 → tie.After-carried-turns
+-- they are lent to the rounds
+abbrev foundOf : tie.After-numbers2 → tie.After-turns-of
 foundOf c = c .before .before .before .before .before
 
 -- the rounds are run
-abbrev lentOf : tie.After-run-write → tie.After-carried-turns
+abbrev lentOf : tie.After-run-write → tie.After-turns-of
 lentOf c = foundOf (c .before .before)
 
 abbrev ranOf : tie.After-slice-known4 → tie.After-run-write
@@ -81,17 +80,17 @@ opened c =
     opened-good (refusalOf s) (s .args .disk .now) (opening .result) (opening .ensures) (c .g .given .1)
 
 -- turns are two runs of 16 numbers, of which so many are lent
-numbers-whole : (c : tie.After-carried-turns) → length (turnsOf c .numbers) ≡ 16
+numbers-whole : (c : tie.After-turns-of) → length (turnsOf c .numbers) ≡ 16
 numbers-whole c = search needs
 
-places-whole : (c : tie.After-carried-turns) → length (turnsOf c .places) ≡ 16
+places-whole : (c : tie.After-turns-of) → length (turnsOf c .places) ≡ 16
 places-whole c = search needs
 
-numbers-lent : (c : tie.After-carried-turns) → turnsOf c .count ≤ length (turnsOf c .numbers)
-numbers-lent c = omega (arith, numbers-whole c, c .carried-turns .ensures .count-most)
+numbers-lent : (c : tie.After-turns-of) → turnsOf c .count ≤ length (turnsOf c .numbers)
+numbers-lent c = omega (arith, numbers-whole c, c .turns-of .ensures .count-most)
 
-places-lent : (c : tie.After-carried-turns) → turnsOf c .count ≤ length (turnsOf c .places)
-places-lent c = omega (arith, places-whole c, c .carried-turns .ensures .count-most)
+places-lent : (c : tie.After-turns-of) → turnsOf c .count ≤ length (turnsOf c .places)
+places-lent c = omega (arith, places-whole c, c .turns-of .ensures .count-most)
 
 -- ---- what the calls need, and what is answered ----
 
@@ -112,12 +111,8 @@ head-in-requires c κs =
     (driveRefusal-of-write (a .disk .now) (a .number .0) (a .content .now) (length (a .random .now))
     (length (a .list .now)) (opened read .accepted))
 
-carried-fault-requires : tie.Need-carried-fault-requires
-carried-fault-requires c κs = search needs
-
-carried-turns-requires : tie.Need-carried-turns-requires
-carried-turns-requires c κs =
-    (opened (readOf c) .drive .fits, c .carried-fault .ensures (lineOf (startOfJudged c .args .line)))
+turns-of-requires : tie.Need-turns-of-requires
+turns-of-requires c κs = opened (readOf c) .drive .fits
 
 array-share-prefix-numbers : tie.Need-array-share-prefix-numbers
 array-share-prefix-numbers c = numbers-lent (c .before .before .before .before)
@@ -138,30 +133,28 @@ slice-aggregate-run-write-2 c =
 run-write-requires : tie.Need-run-write-requires
 run-write-requires c κs =
     let found = foundOf (c .before) in
-    let judged = judgedOf found in
-    let o = opened (readOf judged) in
-    let a = startOfJudged judged .args in
-    let head = headOf judged .head-in in
-    runnable (a .disk .now) (a .number .0) (a .content .now) (a .random .now) (a .list .now) (a .carried)
-    (a .line) (a .blocks .now) (o .accepted) (shapeOf (readOf judged)) (o .same) (head .result)
-    (head .ensures) (judged .carried-fault .result)
-    (judged .carried-fault .ensures (lineOf (a .line)) (a .blocks .now) refl) (turnsOf found)
-    (found .carried-turns .ensures)
+    let o = opened (readOf (headOf found)) in
+    let a = startOfFound found .args in
+    let head = headOf found .head-in in
+    let g = shapeOf (readOf (headOf found)) in
+    runnable (a .disk .now) (a .number .0) (a .content .now) (a .random .now) (a .list .now)
+    (inLine (a .blocks .now) (lineOf (a .line))) (a .blocks .now) (o .accepted) g (o .same) (head .result)
+    (head .ensures) (turnsIn (turnsOf found))
+    (brought-in-line (a .disk .now) (a .number .0) (a .content .now) (a .random .now) (a .list .now)
+    (a .line) (a .blocks .now) (o .accepted) g (o .same) (head .result) (head .ensures) (turnsOf found)
+    (found .turns-of .ensures))
 
-answer-done-requires : tie.Need-answer-done-requires
-answer-done-requires c κs =
+answer-line-requires : tie.Need-answer-line-requires
+answer-line-requires c κs =
     let run = ranOf c in
     let found = lentOf run in
-    let judged = judgedOf found in
-    let o = opened (readOf judged) in
-    let a = startOfJudged judged .args in
-    let head = headOf judged .head-in in
+    let o = opened (readOf (headOf found)) in
+    let a = startOfFound found .args in
+    let head = headOf found .head-in in
     let ran = run .run-write in
-    done-fits (a .disk .now) (a .number .0) (a .content .now) (a .random .now) (a .list .now) (a .carried)
-    (a .line) (a .blocks .now) (o .accepted) (shapeOf (readOf judged)) (o .same) (head .result)
-    (head .ensures) (judged .carried-fault .result)
-    (judged .carried-fault .ensures (lineOf (a .line)) (a .blocks .now) refl) (turnsOf found)
-    (found .carried-turns .ensures) (numbers-whole found) (places-whole found) (ran .last .0)
+    line-fits (a .disk .now) (a .number .0) (a .content .now) (a .random .now) (a .list .now) (a .line)
+    (a .blocks .now) (o .accepted) (shapeOf (readOf (headOf found))) (o .same) (head .result) (head .ensures)
+    (turnsOf found) (found .turns-of .ensures) (numbers-whole found) (places-whole found) (ran .last .0)
     (ran .last .1 .0) (ran .result) (ran .ensures)
 
 same-length : tie.Need-same-length
@@ -177,8 +170,8 @@ returns c =
     let a = s .args in
     let told = opened-refused (refusalOf s) (a .disk .now) (opening .open-write .result)
     (opening .open-write .ensures) (c .before .fault .given .1) in
-    answered-refused (a .disk .now) (a .number .0) (a .content .now) (a .random .now) (a .list .now)
-    (a .carried) (a .line) (a .blocks .now) _ (told .fault-is) (told .fault-some)
+    line-refused (a .disk .now) (a .number .0) (a .content .now) (a .random .now) (a .list .now) _
+    (told .fault-is) (told .fault-some) (a .line) (a .blocks .now)
 
 same-length-3 : tie.Need-same-length-3
 same-length-3 c = search needs
@@ -190,34 +183,30 @@ returns-2 : tie.Need-returns-2
 returns-2 c =
     let run = ranOf (c .before) in
     let found = lentOf run in
-    let judged = judgedOf found in
-    let o = opened (readOf judged) in
-    let a = startOfJudged judged .args in
-    let head = headOf judged .head-in in
+    let o = opened (readOf (headOf found)) in
+    let a = startOfFound found .args in
+    let head = headOf found .head-in in
     let ran = run .run-write in
-    answered-done (a .disk .now) (a .number .0) (a .content .now) (a .random .now) (a .list .now) (a .carried)
-    (a .line) (a .blocks .now) (o .accepted) (shapeOf (readOf judged)) (o .same) (head .result)
-    (head .ensures) (judged .carried-fault .result)
-    (judged .carried-fault .ensures (lineOf (a .line)) (a .blocks .now) refl) (turnsOf found)
-    (found .carried-turns .ensures) (numbers-whole found) (places-whole found) (ran .last .0)
-    (ran .last .1 .0) (ran .result) (ran .ensures) (c .answer-done .result) (c .answer-done .ensures)
+    line-done (a .disk .now) (a .number .0) (a .content .now) (a .random .now) (a .list .now) (a .line)
+    (a .blocks .now) (o .accepted) (shapeOf (readOf (headOf found))) (o .same) (head .result) (head .ensures)
+    (turnsOf found) (found .turns-of .ensures) (numbers-whole found) (places-whole found) (ran .last .0)
+    (ran .last .1 .0) (ran .result) (ran .ensures) (c .answer-line .result) (c .answer-line .ensures)
 
-pub write-carried-spec : {M : Type 1} → statement M
-write-carried-spec =
+pub write-turns-spec : {M : Type 1} → statement M
+write-turns-spec =
     tie.close
     (tie.spec
     open-write-requires
     enum-known-fault
     enum-known-g
     head-in-requires
-    carried-fault-requires
-    carried-turns-requires
+    turns-of-requires
     array-share-prefix-numbers
     slice-aggregate-run-write
     array-share-prefix-places
     slice-aggregate-run-write-2
     run-write-requires
-    answer-done-requires
+    answer-line-requires
     same-length
     same-length-2
     returns

@@ -1,10 +1,12 @@
 //! The proved mapper beside two written in Rust: what they answer is compared, and how long they take. The
-//! programs are `differential`, `bit_places`, `walks`, `touched`, `benchmark`, `digest`, `tree_check`,
+//! programs are `differential`, `bit_places`, `walks`, `touched`, `benchmark`, `pair`, `digest`, `tree_check`,
 //! `waiting`, `longest`, `fill`, `spread` and `stacks`; `tests/` holds all three mappers to the documents'
 //! examples.
 pub mod allowed;
 pub mod any_calls;
 pub mod arguments;
+#[cfg(before)]
+pub mod before;
 pub mod calls;
 pub mod carried;
 pub mod drive;

@@ -25,7 +25,7 @@ pub const PROVED: Engine = Engine {
 
 /// `pddm_found`.
 #[repr(C)]
-struct Found {
+pub struct Found {
     answer: u32,
     kind: u32,
     address: u32,
@@ -73,7 +73,7 @@ unsafe extern "C" {
 
 /// What a find says, as a part of the disk or of the lent blocks, or the blank. A good find's blank is one
 /// block.
-fn shown<'a>(disk: &'a [u8], blocks: &'a [u8], blank: &'a [u8], found: Found) -> Shown<'a> {
+pub fn shown<'a>(disk: &'a [u8], blocks: &'a [u8], blank: &'a [u8], found: Found) -> Shown<'a> {
     let part = |of: &'a [u8]| &of[found.address as usize * blank.len()..][..blank.len()];
     match (found.kind, found.answer) {
         (BLOCK, 0) => Ok(part(disk)),

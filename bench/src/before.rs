@@ -1,5 +1,5 @@
-//! The archive of before a change, linked beside this tree's: its calls of document 01's days, for `pair`.
-//! Sound for all arguments, as those of `proved` are.
+//! The archive of before a change, linked beside this tree's: both finds and the write, for `pair`. Sound for
+//! all arguments, as the calls of `proved` are.
 use crate::engine::{Engine, Shown, Write, Written};
 use crate::proved::{Found, PROVED, shown};
 

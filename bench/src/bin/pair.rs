@@ -1,9 +1,9 @@
 //! `pair [PLACES]`: this tree's archive beside one of before a change, in one process and in turn.
 //!
-//! How long a write takes also depends on where its buffers lie in memory, by a quarter and more. So both
-//! archives work on the same drive with the same buffers, turn by turn, and a run goes through many places of
-//! drive, buffers and stack. Of each kind of call it prints the median over the places of this archive's time
-//! in that of before, and how the places lie around it.
+//! How long a write takes also depends on where its buffers lie in memory. So both archives work on the same
+//! drive with the same buffers, turn by turn, and a run goes through many places of drive, buffers and stack.
+//! Of each kind of call it prints the median over the places of this archive's time in that of before, and how
+//! the places lie around it.
 //! Built with the other archive where the variable PDDM_BEFORE names its folder (`build.rs`).
 #[cfg(before)]
 mod places {

@@ -1,12 +1,12 @@
 -- Laws of a write: a refused one leaves all as it was; one that is not refused can be run with the turns of
--- what it brings, and its run is the model's write; with a line what is left of it follows. Assumes nothing.
-use mathlib.Core.Path.{_≡_, refl, sym, ap, ap₂, subst, _∙_}
+-- what it brings, and its run is the model's write. Assumes nothing.
+use mathlib.Core.Path.{_≡_, refl, sym, ap, subst, _∙_}
 use mathlib.Core.Logic.{_≢_}
 use mathlib.Core.List.{List, [], _∷_}
 use Prim.Native.Nat.{ℕ, _+_, _*_, _^_, _≤_, _<_}
 use native.Mathlib.Nat.{mul-assoc}
 use native.Mathlib.Omega.{arith}
-use lib.ListN.{length, take}
+use lib.ListN.{length}
 use Rattle.laws.specs.Lists.{over}
 use Rattle.laws.proofs.Cases.{cond-cases}
 use Rattle.laws.proofs.Lists.{over-nil}
@@ -17,8 +17,7 @@ use Rattle.model.specs.Layout.{geometryIn, headIn, roundSlot, isOneBlock, mapEn
 use Rattle.model.specs.HiddenHalf.{HiddenWrite, HiddenState}
 use Rattle.model.specs.Rounds.{Run, runFrom}
 use Rattle.model.specs.Refusals.{roundCount, writeStoreCount, writeRefusal}
-use Rattle.model.specs.Line.{Offer, hiddenWritesOf, leftAfter}
-use Rattle.model.specs.Line as lines
+use Rattle.model.specs.Line.{Offer, hiddenWritesOf}
 use Rattle.model.specs.Calls as model
 use Rattle.model.proofs.Laws.Runs.{rounds-ran, length-ran}
 use Rattle.model.proofs.Laws.Stores.{apply-nil, addresses-take}
@@ -28,27 +27,18 @@ use Rattle.model.proofs.Laws.Accepted.{offeredWrites-good}
 use Rattle.model.proofs.Laws.Calls.{written-refused, written-done}
 use Rattle.model.proofs.Laws.HiddenWrites.{hiddenWritesOf-cons}
 use Rattle.model.proofs.Laws.LentBlocks.{lent-inside}
-use Rattle.model.proofs.Laws.LineCalls.{lineLeft-is, lineLeft-none, written-empty-line}
 use Rattle.model.proofs.Laws.LineTurns.{length-hiddenWritesOf}
-use Rattle.model.proofs.Laws.Offers.{writeRun-is, offerRefusal-inLine, offeredWrites-inLine}
-use Rattle.model.proofs.Laws.Offers.{offeredWrites-nothing}
+use Rattle.model.proofs.Laws.Offers.{writeRun-is}
 use Rattle.model.proofs.Laws.RoundSearch.{stores-small}
 use Rattle.model.proofs.Laws.WriteRuns.{writeRun-ran}
 use Rattle.model.proofs.Refusals.Circle.{roundCount-le}
 use Rattle.model.proofs.Volumes.Placed.{placed-le}
 use Rattle.stores.proofs.Laws.Made.{disk-after, list-after, next-after}
-use Rattle.line.specs.declared.offers.Line.{Line}
-use Rattle.line.specs.declared.turns.Turns.{Turns}
-use Rattle.line.specs.Offers.{lineOf}
-use Rattle.line.specs.Turns.{turnsIn, TurnsFound}
-use Rattle.line.proofs.Laws.Turns.{length-turnsIn}
 use Rattle.rounds.specs.declared.runs.Ran.{Ran}
 use Rattle.rounds.specs.Runs.{turnsRun, TurnsLent, Runnable, RunMade}
 use Rattle.mapper.specs.declared.write.Written.{Written}
-use Rattle.mapper.specs.declared.write.LineWritten.{LineWritten}
 use Rattle.mapper.specs.declared.write.Outcome.the-variants.{NotTried}
-use Rattle.mapper.specs.Writes.{DoneAnswered, WriteAnswered, LineFits, withoutLine, LineDone}
-use Rattle.mapper.specs.Writes.{LineAnswered}
+use Rattle.mapper.specs.Writes.{DoneAnswered, WriteAnswered}
 
 -- ---- refused ----
 
@@ -75,26 +65,6 @@ module _ (disk : Bytes) (number : ℕ) (content random : Bytes) (list : List Dis
         rounds-are = refl;
         stores-are = refl;
         outcome-is = refl;
-        stored = sym (apply-nil (blockWidth (geometryIn disk)) disk);
-        listed = sym list-kept;
-      })
-
-  pub line-refused :
-      (line : Line) (blocks : Bytes) →
-      LineAnswered
-      (model.written disk number content random (length list) (model.inLine blocks (lineOf line))) disk list
-      blocks line disk list
-      (record { answer = fault; rounds = 0; stores = 0; outcome = NotTried; placed = 0; line = line })
-  line-refused line blocks =
-      rw (refused (model.inLine blocks (lineOf line)))
-      (record {
-        answered = is;
-        rounds-are = refl;
-        stores-are = refl;
-        outcome-is = refl;
-        placed-are = refl;
-        line-left = sym (lineLeft-none _ disk blocks (lineOf line) refl);
-        line-kept = λ z. refl;
         stored = sym (apply-nil (blockWidth (geometryIn disk)) disk);
         listed = sym list-kept;
       })
@@ -243,124 +213,3 @@ module _ (disk : Bytes) (number : ℕ) (content random : Bytes) (list : List Dis
           stored = disk-after (m .made);
           listed = list-after (m .made);
         })
-
--- ---- with a line ----
-
-nil-of-length : (offers : List Offer) → length offers ≡ 0 → offers ≡ []
-nil-of-length [] none = refl
-nil-of-length (offer ∷ later) none = absurd (omega arith)
-
--- what a write told that placed none, and the line
-abbrev pub keepingLine : Written → Line → LineWritten
-keepingLine answer line =
-    record {
-      answer = answer .answer;
-      rounds = answer .rounds;
-      stores = answer .stores;
-      outcome = answer .outcome;
-      placed = 0;
-      line = line;
-    }
-
-module _ (disk : Bytes) (number : ℕ) (content random : Bytes) (list : List DiskAddress) (line : Line)
-    (blocks : Bytes) where
-  abbrev withLine : model.Written
-  withLine = model.written disk number content random (length list) (model.inLine blocks (lineOf line))
-
-  module _ (accepted : writeRefusal disk number content (length random) (length list) ≡ 0) (g : Geometry)
-      (same : g ≡ geometryIn disk) (head : ℕ) (first : head ≡ headIn disk) (turns : Turns)
-      (found : TurnsFound g (length blocks) (lineOf line) turns) where
-    pub brought-in-line :
-        hiddenWritesOf g blocks (turnsIn turns) ≡
-        model.offeredWrites g (model.inLine blocks (lineOf line))
-    brought-in-line =
-        ap (hiddenWritesOf g blocks) (found .turns-are blocks refl)
-        ∙ sym (offeredWrites-inLine g blocks (lineOf line))
-
-    module _ (numbers-whole : length (turns .numbers) ≡ 16) (places-whole : length (turns .places) ≡ 16)
-        (diskAfter : Bytes) (listAfter : List DiskAddress) (ran : Ran)
-        (done : RunMade g disk list 0 (turnsRun g disk number head content random (turnsIn turns) blocks)
-        (turnsIn turns) blocks diskAfter listAfter ran) where
-      counted : length (turnsIn turns) ≡ turns .count
-      counted = length-turnsIn turns numbers-whole places-whole (found .count-most)
-
-      pub line-fits : LineFits ran turns
-      line-fits =
-          let offered = model.inLine blocks (lineOf line) in
-          let most =
-          placed-most disk number content random list offered blocks accepted g same head first (turnsIn turns)
-          brought-in-line diskAfter listAfter ran done in
-          record {
-            placed-most = omega (arith, most, counted);
-            count-most = found .count-most;
-            stores-few =
-                next-fits disk number content random list offered blocks accepted g same head first
-                (turnsIn turns) brought-in-line diskAfter listAfter ran done;
-          }
-
-      pub line-done :
-          (answer : LineWritten) → LineDone ran turns line answer →
-          LineAnswered withLine disk list blocks line diskAfter listAfter answer
-      line-done answer said =
-          let offered = model.inLine blocks (lineOf line) in
-          let told =
-          block-done disk number content random list offered blocks accepted g same head first (turnsIn turns)
-          brought-in-line diskAfter listAfter ran done 0 (turns .count)
-          (sym (offerRefusal-inLine g blocks (lineOf line))) counted (withoutLine answer) (said .told) in
-          let placed =
-          placed-is disk number content random list offered blocks accepted g same head first (turnsIn turns)
-          brought-in-line diskAfter listAfter ran done in
-          record {
-            answered = told .answered;
-            rounds-are = told .rounds-are;
-            stores-are = told .stores-are;
-            outcome-is = told .outcome-is;
-            placed-are = said .placed-are ∙ placed;
-            line-left =
-                said .line-left
-                ∙ ap₂ (λ (count : ℕ) (offers : List Offer). leftAfter (take count offers) (lineOf line))
-                placed
-                (found .turns-are blocks refl
-                ∙ ap (λ (h : Geometry). lines.turns h blocks (lineOf line)) same)
-                ∙ sym (lineLeft-is withLine disk blocks (lineOf line));
-            line-kept = λ refused. absurd (refused (said .told .answered));
-            stored = told .stored;
-            listed = told .listed;
-          }
-
-  -- a write that placed none keeps the line
-  kept-line :
-      (result : model.Written) → result .placed ≡ 0 → (diskAfter : Bytes) (listAfter : List DiskAddress)
-      (answer : Written) → WriteAnswered result disk list diskAfter listAfter answer →
-      LineAnswered result disk list blocks line diskAfter listAfter (keepingLine answer line)
-  kept-line result none diskAfter listAfter answer said =
-      record {
-        answered = said .answered;
-        rounds-are = said .rounds-are;
-        stores-are = said .stores-are;
-        outcome-is = said .outcome-is;
-        placed-are = sym none;
-        line-left = sym (lineLeft-none result disk blocks (lineOf line) none);
-        line-kept = λ z. refl;
-        stored = said .stored;
-        listed = said .listed;
-      }
-
-  -- where nothing waits it is the write with nothing offered
-  pub line-empty :
-      length (lineOf line) ≡ 0 → (diskAfter : Bytes) (listAfter : List DiskAddress) (answer : Written) →
-      WriteAnswered (model.written disk number content random (length list) model.nothing) disk list diskAfter
-      listAfter answer →
-      LineAnswered withLine disk list blocks line diskAfter listAfter (keepingLine answer line)
-  line-empty none diskAfter listAfter answer said =
-      let result = model.written disk number content random (length list) model.nothing in
-      let most = placed-le disk number content random (length list) model.nothing in
-      let is-nothing : withLine ≡ result =
-      ap (λ (offers : List Offer).
-      model.written disk number content random (length list) (model.inLine blocks offers))
-      (nil-of-length (lineOf line) none)
-      ∙ written-empty-line disk number content random (length list) blocks in
-      subst (λ (made : model.Written).
-      LineAnswered made disk list blocks line diskAfter listAfter (keepingLine answer line)) (sym is-nothing)
-      (kept-line result (omega (arith, most, ap length (offeredWrites-nothing (geometryIn disk)))) diskAfter
-      listAfter answer said)

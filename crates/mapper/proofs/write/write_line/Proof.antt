@@ -1,7 +1,7 @@
 -- `write_line` meets its contract: with an empty line it is the write with nothing offered. Assumes nothing.
 use mathlib.Core.Path.{sym, _∙_}
 use borrow.Author.Needs.{needs}
-use Rattle.mapper.proofs.Laws.Writes.{line-empty}
+use Rattle.mapper.proofs.Laws.LineWrites.{line-empty}
 use Rattle.mapper.proofs.write.write_line.Statement.{statement}
 use Rattle.mapper.proofs.write.write_line.Tie as tie
 

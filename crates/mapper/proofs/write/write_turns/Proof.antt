@@ -17,7 +17,8 @@ use Rattle.layout.proofs.Laws.Opened.{opened-refused, opened-good}
 use Rattle.line.specs.declared.turns.Turns.{Turns}
 use Rattle.line.specs.Offers.{lineOf}
 use Rattle.line.specs.Turns.{turnsIn}
-use Rattle.mapper.proofs.Laws.Writes.{line-refused, runnable, brought-in-line, line-fits, line-done}
+use Rattle.mapper.proofs.Laws.Writes.{runnable}
+use Rattle.mapper.proofs.Laws.LineWrites.{line-refused, brought-in-line, line-fits, line-done}
 use Rattle.mapper.proofs.write.write_turns.Statement.{statement}
 use Rattle.mapper.proofs.write.write_turns.Tie as tie
 
@@ -170,8 +171,8 @@ returns c =
     let a = s .args in
     let told = opened-refused (refusalOf s) (a .disk .now) (opening .open-write .result)
     (opening .open-write .ensures) (c .before .fault .given .1) in
-    line-refused (a .disk .now) (a .number .0) (a .content .now) (a .random .now) (a .list .now) _
-    (told .fault-is) (told .fault-some) (a .line) (a .blocks .now)
+    line-refused (a .disk .now) (a .number .0) (a .content .now) (a .random .now) (a .list .now) (a .line)
+    (a .blocks .now) _ (told .fault-is) (told .fault-some)
 
 same-length-3 : tie.Need-same-length-3
 same-length-3 c = search needs

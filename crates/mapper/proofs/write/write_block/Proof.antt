@@ -144,7 +144,7 @@ array-share-prefix-places c = few (countedOf c)
 slice-aggregate-run-write-2 : tie.Need-slice-aggregate-run-write-2
 slice-aggregate-run-write-2 c =
     let counted = countedOf (c .before) in
-    sym (length-take-le (counted .offer-count .result) (0 ∷ []) (few counted))
+    sym (length-take-le (counted .offer-count .result) _ (few counted))
 
 run-write-requires : tie.Need-run-write-requires
 run-write-requires c κs =

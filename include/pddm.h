@@ -15,7 +15,7 @@
  *
  * The archive: x86-64, ELF, System V calls, SSE2. It wants memcpy and memset from the linker and nothing else, has no
  * data of its own and makes no system call. list and line are aligned to 4 bytes, no other pointer needs to be. Stack of a
- * call: under 12 KiB (the tree check, height 4), of a write under 7 KiB, of the calls with a line under 9 KiB. A write can
+ * call: under 12 KiB (the tree check, height 4), of a write under 6 KiB, of the calls with a line under 10 KiB. A write can
  * take publics + 1 rounds in one call: docs/MANUAL.md says how a caller keeps writes short, and how blocks get from memory
  * to another medium.
  *

@@ -58,7 +58,7 @@ module _ (g : Geometry) (blocks : Bytes) where
       by e true q = e
       by e false q = cond-false _ _ q ∙ e
 
-  waitingFor-without-other :
+  pub waitingFor-without-other :
       (number other : ℕ) (xs : List Offer) → other ≢ number →
       waitingFor g blocks (without other xs) number ≡ waitingFor g blocks xs number
   unfolding waitingFor without

@@ -1,5 +1,5 @@
-// Document 01, with K1 to K3 of document 02, as definitions, their laws, and what is promised of them. There
-// is no code here but `promises`.
+// Document 01, with K1 to K3 and K12 of document 02, as definitions, their laws, and what is promised of
+// them. There is no code here but `promises`.
 ghost use Rattle.model.specs.Promises.Figures.{Figures};
 ghost use Rattle.model.specs.Promises.Limits.{Limits};
 ghost use Rattle.model.specs.Promises.RoundFigures.{RoundFigures};
@@ -12,6 +12,7 @@ ghost use Rattle.model.specs.Promises.BufferBounds.{BufferBounds};
 ghost use Rattle.model.specs.Promises.Questions.{Questions};
 ghost use Rattle.model.specs.Promises.TreeCheck.{TreeCheck};
 ghost use Rattle.model.specs.Promises.LineOfOffers.{LineOfOffers};
+ghost use Rattle.model.specs.Promises.Waiting.{Waiting};
 
 // Holds the promises in its contract, so that none can be dropped unseen; what each says is its own file's.
 pub fn promises()
@@ -27,4 +28,5 @@ pub fn promises()
     ensures questions { λ _. ⌜ Questions ⌝ }
     ensures tree_check { λ _. ⌜ TreeCheck ⌝ }
     ensures line { λ _. ⌜ LineOfOffers ⌝ }
+    ensures waiting { λ _. ⌜ Waiting ⌝ }
 {}

@@ -27,11 +27,11 @@ use Rattle.model.proofs.Theorems.TreeFigures.{tree-figures}
 
 -- ---- passing is being sound ----
 
-accepted-of-pass : (disk : Bytes) → treeRefusal disk ≡ 0 → driveRefusal disk ≡ 0
+pub accepted-of-pass : (disk : Bytes) → treeRefusal disk ≡ 0 → driveRefusal disk ≡ 0
 unfolding treeRefusal
 accepted-of-pass disk e = driveRefusal-of-chain disk (treeChecks (geometryIn disk) disk) e
 
-sound-of-pass : (disk : Bytes) → treeRefusal disk ≡ 0 → HiddenInvariant (geometryIn disk) disk
+pub sound-of-pass : (disk : Bytes) → treeRefusal disk ≡ 0 → HiddenInvariant (geometryIn disk) disk
 unfolding treeRefusal
 sound-of-pass disk e =
     let g = geometryIn disk in

@@ -1,13 +1,12 @@
--- Who stands in front of whom in a line and in its turns: an offer that counts has its turn, those in front of
--- it there stand in front of it in the line, and each one placed from there leaves fewer. Assumes nothing.
+-- Who stands in front of whom in a line and in its turns: an offer that counts has its turn, those in front
+-- of it there stand in front of it in the line, and each one placed from there leaves fewer. Assumes nothing.
 use mathlib.Core.Path.{_≡_, refl, sym, ap, _∙_}
 use mathlib.Core.Logic.{_≢_, ⊎-elim}
-use mathlib.Core.Bool.{Bool, true, false, cond, _||_}
+use mathlib.Core.Bool.{Bool, true, false, _||_}
 use mathlib.Core.List.{List, [], _∷_, _++_}
 use mathlib.Core.Option.{none}
 use Prim.Native.Nat.{ℕ, zero, suc, _+_, _≤_, _<_}
 use native.Mathlib.Omega.{arith}
-use lib.Dec.{eqb}
 use lib.ListN.{length, take}
 use borrow.Author.Tests.{eq-eqb, ne-eqb}
 use Rattle.laws.proofs.Cases.{cond-true, cond-false, eq-cases, or-neither, true-is-not-false}
@@ -22,7 +21,6 @@ use Rattle.model.proofs.Laws.LineWaits.{goodBlock-bad, waitingFor-same,
 use Rattle.model.proofs.Laws.LineWaits.{waitingFor-without-other, waitingFor-turns}
 use Rattle.model.proofs.Laws.LineChains.{waitingFor-nil}
 use Rattle.model.proofs.Laws.LineSteps.{isWaitingIn-nil, isWaitingIn-cons, head-other, rest-none}
-use Rattle.model.proofs.Laws.LineSteps.{turns-nil, leftAfter-none}
 use Rattle.model.proofs.Laws.LineCalls.{entered-done, entered-refused}
 
 -- ---- by the first offer ----
@@ -122,8 +120,12 @@ before-order asked number out (offer ∷ later) apart away l =
     let q = ap (offersBefore asked) (without-out out offer later same) in
     let less : offersBefore number later < offersBefore asked later =
     before-order asked number out later apart away (omega (arith, p, q, l)) in
-    omega (arith, before-other number offer later (λ z. apart (sym same ∙ z)),
-    before-other asked offer later (λ z. away (sym same ∙ z)), less))
+    omega (
+      arith,
+      before-other number offer later (λ z. apart (sym same ∙ z)),
+      before-other asked offer later (λ z. away (sym same ∙ z)),
+      less,
+    ))
     (λ stays.
     let p = ap (offersBefore number) (without-in out offer later stays) in
     let q = ap (offersBefore asked) (without-in out offer later stays) in
@@ -154,8 +156,11 @@ module _ (g : Geometry) (blocks : Bytes) (asked : ℕ) where
   has-place (offer ∷ later) counts =
       ⊎-elim (λ same. omega (arith, before-same asked offer later same))
       (λ other.
-      omega (arith, before-other asked offer later other,
-      has-place later (λ e. counts (waitingFor-other g blocks offer later asked other ∙ e))))
+      omega (
+        arith,
+        before-other asked offer later other,
+        has-place later (λ e. counts (waitingFor-other g blocks offer later asked other ∙ e)),
+      ))
       (eq-cases (offer .number) asked)
 
   -- one that counts has its turn

@@ -11,6 +11,7 @@ use Rattle.model.proofs.Theorems.BufferBounds.{buffer-bounds}
 use Rattle.model.proofs.Theorems.Questions.{questions}
 use Rattle.model.proofs.Theorems.TreeCheck.{tree-check}
 use Rattle.model.proofs.Theorems.LineOfOffers.{line-of-offers}
+use Rattle.model.proofs.Theorems.Waiting.{waiting}
 use Rattle.model.proofs.promises.Statement.{statement}
 use Rattle.model.proofs.promises.Tie as tie
 
@@ -27,7 +28,10 @@ returns c = (
           order-figures,
           (
             refusals,
-            (noninterference, (read-after-write, (buffer-bounds, (questions, (tree-check, line-of-offers))))),
+            (
+              noninterference,
+              (read-after-write, (buffer-bounds, (questions, (tree-check, (line-of-offers, waiting))))),
+            ),
           ),
         ),
       ),

@@ -1,0 +1,103 @@
+-- How long an offer waits: the exact round, and the bounds for one offer and for a place in the line. Assumes
+-- nothing.
+use mathlib.Core.Path.{_≡_, refl}
+use mathlib.Core.Logic.{_≢_, inl, inr}
+use mathlib.Core.List.{List, [], _∷_}
+use Prim.Native.Nat.{ℕ, suc, _*_, _≤_, _<_}
+use native.Mathlib.Nat.{suc-mul, mul-suc}
+use native.Mathlib.Omega.{arith}
+use lib.ListN.{length}
+use Rattle.model.specs.Geometry.{blockWidth}
+use Rattle.model.specs.Blocks.{Bytes}
+use Rattle.model.specs.Layout.{geometryIn, headIn}
+use Rattle.model.specs.Stores.{apply}
+use Rattle.model.specs.Refusals.{roundCount}
+use Rattle.model.specs.Line.{Offer}
+use Rattle.model.specs.Calls.{Offered, offeredWrites, startState}
+use Rattle.model.specs.Waits.{waitRounds, offersBefore}
+use Rattle.model.specs.TreeCheck.{treeRefusal}
+use Rattle.model.specs.Promises.Waiting.{PublicHalf, halfRefusal, firstRounds, StillWaiting}
+use Rattle.model.specs.Promises.Waiting.{ExactRound, Waiting}
+use Rattle.model.proofs.Laws.Refusals.{accepted-of-refusal}
+use Rattle.model.proofs.Tree.FromInvariant.{treeOf, ghost-of-hiddenInvariant}
+use Rattle.model.proofs.Waiting.Live.{Nearest, nearest}
+use Rattle.model.proofs.Waiting.Runs.{Waits}
+use Rattle.model.proofs.Waiting.Writes.{Ahead, first-rounds-wait}
+use Rattle.model.proofs.Waiting.Calls.{still-offered, still-waiting}
+use Rattle.model.proofs.Theorems.TreeCheck.{accepted-of-pass, sound-of-pass}
+use Rattle.model.proofs.Theorems.WaitFigures.{wait-figures}
+
+module _ (disk : Bytes) (pass : treeRefusal disk ≡ 0) where
+  found : Nearest (geometryIn disk) disk (headIn disk)
+  found =
+      let g = geometryIn disk in
+      let drive = accepted-of-refusal disk (accepted-of-pass disk pass) in
+      nearest g (drive .sized .fits) disk (treeOf g disk)
+      (ghost-of-hiddenInvariant g (drive .sized .fits) disk (sound-of-pass disk pass)) (headIn disk)
+      (drive .head-inside)
+
+  ahead : Ahead disk (found .index)
+  ahead =
+      record { accepted = accepted-of-pass disk pass; sound = sound-of-pass disk pass; near = found .near }
+
+  within-hidden :
+      (1 ≤ waitRounds (geometryIn disk) disk) ×
+      (waitRounds (geometryIn disk) disk ≤ suc (geometryIn disk .hidden))
+  within-hidden = (omega (arith, found .rounds-are), omega (arith, found .rounds-are, found .near .few))
+
+  exact-round :
+      (half : PublicHalf) (offer : Offered) (most : ℕ) → halfRefusal half disk ≡ 0 →
+      most ≤ roundCount (geometryIn disk) disk → offeredWrites (geometryIn disk) offer ≢ [] →
+      ExactRound (firstRounds most half disk offer) (waitRounds (geometryIn disk) disk)
+  exact-round half offer most free some counts =
+      by (first-rounds-wait half disk offer free (found .index) ahead most some 0
+      (positive (offeredWrites (geometryIn disk) offer) counts))
+    where
+      positive : {A : Type 0} (xs : List A) → xs ≢ [] → 0 < length xs
+      positive [] ne = absurd (ne refl)
+      positive (x ∷ xs) ne = omega arith
+
+      by : Waits (geometryIn disk)
+          (apply (blockWidth (geometryIn disk)) (firstRounds most half disk offer .trace) disk) (headIn disk)
+          (startState (offeredWrites (geometryIn disk) offer)) (firstRounds most half disk offer)
+          (found .index) 0 →
+          ExactRound (firstRounds most half disk offer) (waitRounds (geometryIn disk) disk)
+      by (inl d) =
+          record {
+            waits-before = λ l. absurd (omega (arith, l, found .rounds-are, d .late));
+            placed-from = λ l. omega (arith, d .placed);
+          }
+      by (inr m) =
+          record {
+            waits-before = λ l. omega (arith, m .front-is);
+            placed-from = λ l. absurd (omega (arith, l, found .rounds-are, m .spent));
+          }
+
+  module _ (asked : ℕ) (line : List Offer) (rounds : ℕ) (row : StillWaiting asked disk line rounds) where
+    abbrev hidden : ℕ
+    hidden = geometryIn disk .hidden
+
+    line-most : rounds < suc (suc (offersBefore asked line) * hidden)
+    line-most =
+        omega (
+          arith,
+          still-waiting asked disk line rounds (found .index) ahead row,
+          found .near .few,
+          suc-mul (offersBefore asked line) hidden,
+        )
+
+    line-bound : rounds < suc (offersBefore asked line) * suc hidden
+    line-bound = omega (arith, line-most, mul-suc (suc (offersBefore asked line)) hidden)
+
+pub waiting : Waiting
+waiting =
+    record {
+      figures = wait-figures;
+      near = within-hidden;
+      exact = λ half disk offer most pass. exact-round disk pass half offer most;
+      one-offer = λ write disk rounds pass good row.
+          let l = still-offered write disk rounds (found disk pass .index) (ahead disk pass) good row in
+          omega (arith, l, found disk pass .near .few);
+      in-line = λ asked disk line rounds pass. line-bound disk pass asked line rounds;
+      in-line-most = λ asked disk line rounds pass. line-most disk pass asked line rounds;
+    }

@@ -40,11 +40,6 @@ module _ (disk : Bytes) (pass : treeRefusal disk ≡ 0) where
   ahead =
       record { accepted = accepted-of-pass disk pass; sound = sound-of-pass disk pass; near = found .near }
 
-  within-hidden :
-      (1 ≤ waitRounds (geometryIn disk) disk) ×
-      (waitRounds (geometryIn disk) disk ≤ suc (geometryIn disk .hidden))
-  within-hidden = (omega (arith, found .rounds-are), omega (arith, found .rounds-are, found .near .few))
-
   exact-round :
       (half : PublicHalf) (offer : Offered) (most : ℕ) → halfRefusal half disk ≡ 0 →
       most ≤ roundCount (geometryIn disk) disk → offeredWrites (geometryIn disk) offer ≢ [] →
@@ -73,31 +68,34 @@ module _ (disk : Bytes) (pass : treeRefusal disk ≡ 0) where
             placed-from = λ l. absurd (omega (arith, l, found .rounds-are, m .spent));
           }
 
-  module _ (asked : ℕ) (line : List Offer) (rounds : ℕ) (row : StillWaiting asked disk line rounds) where
-    abbrev hidden : ℕ
-    hidden = geometryIn disk .hidden
-
-    line-most : rounds < suc (suc (offersBefore asked line) * hidden)
-    line-most =
-        omega (
-          arith,
-          still-waiting asked disk line rounds (found .index) ahead row,
-          found .near .few,
-          suc-mul (offersBefore asked line) hidden,
-        )
-
-    line-bound : rounds < suc (offersBefore asked line) * suc hidden
-    line-bound = omega (arith, line-most, mul-suc (suc (offersBefore asked line)) hidden)
+  line-left :
+      (asked : ℕ) (line : List Offer) (rounds : ℕ) → StillWaiting asked disk line rounds →
+      rounds ≤ suc (offersBefore asked line) * geometryIn disk .hidden
+  line-left asked line rounds row =
+      omega (
+        arith,
+        still-waiting asked disk line rounds (found .index) ahead row,
+        found .near .few,
+        suc-mul (offersBefore asked line) (geometryIn disk .hidden),
+      )
 
 pub waiting : Waiting
 waiting =
     record {
       figures = wait-figures;
-      near = within-hidden;
+      near = λ disk pass.
+          let n = found disk pass in
+          (omega (arith, n .rounds-are), omega (arith, n .rounds-are, n .near .few));
       exact = λ half disk offer most pass. exact-round disk pass half offer most;
       one-offer = λ write disk rounds pass good row.
           let l = still-offered write disk rounds (found disk pass .index) (ahead disk pass) good row in
           omega (arith, l, found disk pass .near .few);
-      in-line = λ asked disk line rounds pass. line-bound disk pass asked line rounds;
-      in-line-most = λ asked disk line rounds pass. line-most disk pass asked line rounds;
+      in-line = λ asked disk line rounds pass row.
+          omega (
+            arith,
+            line-left disk pass asked line rounds row,
+            mul-suc (suc (offersBefore asked line)) (geometryIn disk .hidden),
+          );
+      in-line-most = λ asked disk line rounds pass row.
+          omega (arith, line-left disk pass asked line rounds row);
     }

@@ -11,7 +11,7 @@ use Rattle.model.specs.Refusals.{roundsTo}
 use Rattle.model.specs.Line.{Offer}
 
 -- the round, counted from the head, that comes to the first slot that is not live: there the first one
--- waiting is placed; 0 where every slot is live
+-- waiting is placed
 abbrev pub waitRounds : Geometry → (disk : Bytes) → ℕ
 waitRounds g disk = roundsTo (g .slots) (isLive g disk) g (headIn disk)
 

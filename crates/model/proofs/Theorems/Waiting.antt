@@ -11,7 +11,7 @@ use Rattle.model.specs.Geometry.{blockWidth}
 use Rattle.model.specs.Blocks.{Bytes}
 use Rattle.model.specs.Layout.{geometryIn, headIn}
 use Rattle.model.specs.Stores.{apply}
-use Rattle.model.specs.Refusals.{roundCount}
+use Rattle.model.specs.Refusals.{driveRefusal, roundCount}
 use Rattle.model.specs.Line.{Offer}
 use Rattle.model.specs.Calls.{Offered, offeredWrites, startState}
 use Rattle.model.specs.Waits.{waitRounds, offersBefore}
@@ -19,7 +19,6 @@ use Rattle.model.specs.TreeCheck.{treeRefusal}
 use Rattle.model.specs.Promises.Waiting.{PublicHalf, halfRefusal, firstRounds, StillWaiting}
 use Rattle.model.specs.Promises.Waiting.{ExactRound, Waiting}
 use Rattle.model.proofs.Laws.Refusals.{accepted-of-refusal}
-use Rattle.model.proofs.Tree.FromInvariant.{treeOf, ghost-of-hiddenInvariant}
 use Rattle.model.proofs.Waiting.Live.{Nearest, nearest}
 use Rattle.model.proofs.Waiting.Runs.{Waits}
 use Rattle.model.proofs.Waiting.Writes.{Ahead, first-rounds-wait}
@@ -27,14 +26,16 @@ use Rattle.model.proofs.Waiting.Calls.{still-offered, still-waiting}
 use Rattle.model.proofs.Theorems.TreeCheck.{accepted-of-pass, sound-of-pass}
 use Rattle.model.proofs.Theorems.WaitFigures.{wait-figures}
 
+-- on every drive
+first-not-live : (disk : Bytes) → driveRefusal disk ≡ 0 → Nearest (geometryIn disk) disk (headIn disk)
+first-not-live disk e =
+    let drive = accepted-of-refusal disk e in
+    nearest (geometryIn disk) (drive .sized .fits) disk (headIn disk) (drive .head-inside)
+
+-- on one that passes the check
 module _ (disk : Bytes) (pass : treeRefusal disk ≡ 0) where
   found : Nearest (geometryIn disk) disk (headIn disk)
-  found =
-      let g = geometryIn disk in
-      let drive = accepted-of-refusal disk (accepted-of-pass disk pass) in
-      nearest g (drive .sized .fits) disk (treeOf g disk)
-      (ghost-of-hiddenInvariant g (drive .sized .fits) disk (sound-of-pass disk pass)) (headIn disk)
-      (drive .head-inside)
+  found = first-not-live disk (accepted-of-pass disk pass)
 
   ahead : Ahead disk (found .index)
   ahead =
@@ -83,8 +84,8 @@ pub waiting : Waiting
 waiting =
     record {
       figures = wait-figures;
-      near = λ disk pass.
-          let n = found disk pass in
+      near = λ disk e.
+          let n = first-not-live disk e in
           (omega (arith, n .rounds-are), omega (arith, n .rounds-are, n .near .few));
       exact = λ half disk offer most pass. exact-round disk pass half offer most;
       one-offer = λ write disk rounds pass good row.

@@ -1,23 +1,26 @@
--- Live slots under the ghost tree: there are no more of them than hidden numbers, so one of the first H + 1
--- slots from any slot on is not live; a round at a live slot leaves which slots are live, and one that places
+-- Live slots: there are no more of them than hidden numbers, so one of the first H + 1 slots from any slot on
+-- is not live; under the ghost tree a round at a live slot leaves which slots are live, and one that places
 -- makes its slot live. Assumes nothing.
 use mathlib.Core.Path.{_≡_, refl, sym, ap, _∙_}
 use mathlib.Core.Logic.{_⊎_, inl, inr, ⊎-elim}
 use mathlib.Core.Bool.{true, false}
-use mathlib.Core.Option.{Option, none, some}
 use Prim.Native.Nat.{ℕ, zero, suc, _*_, _-_, _≤_, _<_}
 use native.Mathlib.Omega.{arith}
+use lib.Dec.{ltb}
 use lib.ListN.{length}
-use Rattle.laws.proofs.Cases.{bool-cases, true-is-not-false, eq-cases}
+use borrow.Author.Tests.{ltb-true}
+use Rattle.laws.proofs.Cases.{bool-cases, true-is-not-false, eq-cases, and-left, and-right}
 use Rattle.laws.proofs.Pigeonhole.{Reached, reached-le}
 use Rattle.model.specs.Geometry.{Geometry, Fits, blockCount, blockWidth}
 use Rattle.model.specs.Blocks.{Bytes, blockAt}
-use Rattle.model.specs.Layout.{nextSlot, levelAddress}
-use Rattle.model.specs.HiddenTree.{ownerOf}
+use Rattle.model.specs.Layout.{nextSlot, slotOf, levelAddress}
+use Rattle.model.specs.HiddenTree.{End, found, unmapped, damaged, walk, ownerOf}
 use Rattle.model.specs.Paths.{currentPath}
 use Rattle.model.specs.HiddenHalf.{HiddenWrite, isLive}
 use Rattle.model.specs.Refusals.{roundsTo}
-use Rattle.model.proofs.Laws.Slots.{slotAfter, slotAfter-zero, slotAfter-next}
+use Rattle.model.proofs.Laws.Slots.{slotAfter, slotAfter-zero, slotAfter-next, slotOf-levelAddress}
+use Rattle.model.proofs.Laws.Owners.{isLive-is}
+use Rattle.model.proofs.Laws.TreeCheck.{decides-found}
 use Rattle.model.proofs.Refusals.Circle.{indexFrom, indexFrom-slotAfter, RoundsTo, noneFree, firstFree}
 use Rattle.model.proofs.Refusals.Circle.{roundsTo-is}
 use Rattle.model.proofs.Tree.Keys.{keyOf, keyOf-zero, lt-treeCapacity}
@@ -64,26 +67,33 @@ near-next g disk after slot index same n =
     live-is other =
         same (slotAfter g (nextSlot g slot) other) ∙ ap (isLive g disk) (slotAfter-next g slot other)
 
-abbrev slotOr : Option ℕ → ℕ
-slotOr none = 0
-slotOr (some slot) = slot
+-- the slot that a walk ends at
+abbrev endSlot : Geometry → End → ℕ
+endSlot g (found address) = slotOf g address
+endSlot g unmapped = 0
+endSlot g damaged = 0
 
-module _ (g : Geometry) (f : Fits g) (disk : Bytes) (tree : Tree) (ghost : Ghost g disk tree) where
-  -- how many slots on a number's slot is
-  abbrev heldIndex : (slot number : ℕ) → ℕ
-  heldIndex slot number = indexFrom g slot (slotOr (slotAt g tree 0 number))
+module _ (g : Geometry) (f : Fits g) (disk : Bytes) where
+  -- how many slots on a number's walk ends
+  abbrev walkIndex : (slot number : ℕ) → ℕ
+  walkIndex slot number = indexFrom g slot (endSlot g (walk g disk number .end))
 
+  -- a live slot's owner is below H, and its walk ends there
   reached-of-live :
       (slot index : ℕ) → slot < g .slots → index < g .slots →
-      isLive g disk (slotAfter g slot index) ≡ true → Reached (heldIndex slot) (g .hidden) index
+      isLive g disk (slotAfter g slot index) ≡ true → Reached (walkIndex slot) (g .hidden) index
   reached-of-live slot index here h e =
       let other = slotAfter g slot index in
+      let owner = ownerOf g disk other in
+      let live = sym (isLive-is g disk other) ∙ e in
+      let ends = decides-found (levelAddress g other 0) (walk g disk owner .end) .holds
+      (and-right (ltb owner (g .hidden)) _ live) in
       record {
-        at = ownerOf g disk other;
-        below = owner-lt-of-isLive g f disk tree ghost other e;
+        at = owner;
+        below = ltb-true owner (g .hidden) (and-left _ _ live);
         value-is =
-            ap (λ (held : Option ℕ). indexFrom g slot (slotOr held))
-            (holds-of-isLive g f disk tree ghost other e)
+            ap (indexFrom g slot)
+            (ap (endSlot g) ends ∙ slotOf-levelAddress g other 0 (omega (arith, f .height-low)))
             ∙ indexFrom-slotAfter g slot here index h;
       }
 
@@ -93,7 +103,7 @@ module _ (g : Geometry) (f : Fits g) (disk : Bytes) (tree : Tree) (ghost : Ghost
       by : {rounds : ℕ} → roundsTo (g .slots) (isLive g disk) g slot ≡ rounds →
           RoundsTo (g .slots) (isLive g disk) g slot rounds → Nearest g disk slot
       by e (noneFree all) =
-          let l = reached-le (g .slots) (g .hidden) (heldIndex slot)
+          let l = reached-le (g .slots) (g .hidden) (walkIndex slot)
           (λ value k. reached-of-live slot value here k (all value k)) in
           absurd (omega (arith, l, f .hidden-high))
       by e (firstFree {index = index} l free before) =
@@ -103,7 +113,7 @@ module _ (g : Geometry) (f : Fits g) (disk : Bytes) (tree : Tree) (ghost : Ghost
             near =
                 record {
                   few =
-                      reached-le index (g .hidden) (heldIndex slot)
+                      reached-le index (g .hidden) (walkIndex slot)
                       (λ value k. reached-of-live slot value here (omega arith) (before value k));
                   not-live = free;
                   live-before = before;

@@ -129,7 +129,7 @@ module _ (g : Geometry) (f : Fits g) (disk after : Bytes) (tree : Tree)
       by (suc front) l =
           let made = round-free g f disk after tree whole ghost slot here free first low
           (subst (λ (part : HiddenHalf). StoredBy g slot disk after (part .trace)) half-is stored) in
-          let found = nearest-after g f after (made .grown) (made .ghost) slot here (made .live-now) in
+          let found = nearest-after g f after slot here (made .live-now) in
           let longer : length (state .waiting) ≡ suc (length later) = ap length e in
           let rest : length (next .waiting) ≡ length later =
           ap (λ (s : HiddenState). length (s .waiting)) state-is in

@@ -12,7 +12,7 @@ use Rattle.model.specs.Blocks.{Bytes}
 use Rattle.model.specs.Layout.{geometryIn, headIn}
 use Rattle.model.specs.HiddenHalf.{HiddenWrite}
 use Rattle.model.specs.Rounds.{Run, runFrom}
-use Rattle.model.specs.Refusals.{roundCount, writeRefusal, hiddenWriteRefusal}
+use Rattle.model.specs.Refusals.{driveRefusal, roundCount, writeRefusal, hiddenWriteRefusal}
 use Rattle.model.specs.Line.{Offer, turns, leftAfter, isWaitingIn, entered, waitingFor}
 use Rattle.model.specs.Calls.{Offered, one, inLine, offeredWrites, startState, Written, written}
 use Rattle.model.specs.Calls.{writtenDisk, lineLeft}
@@ -96,12 +96,12 @@ pub record ExactRound (run : Run) (round : ℕ) : Type 0 where
 pub record Waiting : Type 0 where
   -- a drive worked out by hand
   pub figures : WaitFigures
-  -- the round is one of the next H + 1
+  -- the round is one of the next H + 1, on every drive
   pub near :
-      (disk : Bytes) → treeRefusal disk ≡ 0 →
+      (disk : Bytes) → driveRefusal disk ≡ 0 →
       (1 ≤ waitRounds (geometryIn disk) disk) ×
       (waitRounds (geometryIn disk) disk ≤ suc (geometryIn disk .hidden))
-  -- it is the one in which the first one waiting is placed
+  -- on one that passes the check the first one waiting is placed in it
   pub exact :
       (half : PublicHalf) (disk : Bytes) (offer : Offered) (most : ℕ) → treeRefusal disk ≡ 0 →
       halfRefusal half disk ≡ 0 → most ≤ roundCount (geometryIn disk) disk →

@@ -9,7 +9,7 @@ use Rattle.model.specs.Layout.{bitPlace}
 use Rattle.model.specs.Refusals.{formatRefusal}
 use Rattle.model.specs.Calls.{formatted}
 use Rattle.model.specs.Promises.Figures.{geometry}
-use Rattle.mapper.specs.Questions.{Size, sizeFor}
+use Rattle.questions.specs.Drives.{Size, sizeFor}
 use Rattle.figures.specs.declared.layouts.SizeRow.{SizeRow}
 use Rattle.figures.specs.declared.layouts.FormatRow.{FormatRow}
 

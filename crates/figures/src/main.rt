@@ -3,11 +3,11 @@
 // table says what is done and what the document says, in flat numbers: their order stands above the table,
 // and their meaning with the row's type. Each figure is printed as a line, and at the end how many rows of
 // each table agree.
+use crate::ask_rows::identity_rows;
+use crate::ask_rows::needs_rows;
+use crate::ask_rows::read_rows;
 use crate::layout_rows::format_rows;
 use crate::layout_rows::size_rows;
-use crate::question_rows::identity_rows;
-use crate::question_rows::needs_rows;
-use crate::question_rows::read_rows;
 use crate::tree_rows::tree_rows;
 use crate::write_rows::refused_rows;
 use crate::write_rows::write_rows;
@@ -17,11 +17,11 @@ use line_figures::line_rows::line_write_rows;
 
 mod drives; // a row's drive
 mod layouts; // sizes, areas and formatting
-mod questions; // which drive it is, reads, and what a write takes
+mod asks; // which drive it is, reads, and what a write takes
 mod trees; // entries, the whole-tree check, the walk's nodes
 mod writes; // writes
 mod layout_rows;
-mod question_rows;
+mod ask_rows;
 mod tree_rows;
 mod write_rows;
 

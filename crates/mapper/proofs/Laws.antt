@@ -1,5 +1,4 @@
 -- The laws that the proofs of the functions cite, a file for each idea.
-pub mod Questions
 pub mod Offers
 pub mod Outcomes
 pub mod Writes

@@ -1,4 +1,1 @@
-pub mod Headers
-pub mod Questions
-pub mod Needs
 pub mod Writes

@@ -1,6 +1,5 @@
 // The write: a public number's data, and what is carried along for the hidden volume: one offer or none, or
 // a line of offers.
-use crate::needs::open_write;
 use crate::offers::offer_count;
 use crate::offers::offer_fault;
 use layout::drives::Opened;
@@ -13,6 +12,7 @@ use line::offers::held;
 use line::turns::Turns;
 use line::turns::turns_of;
 use plans::states::State;
+use questions::needs::open_write;
 use rounds::runs::Ran;
 use rounds::runs::run_write;
 ghost use mathlib.Core.Path.{_≡_};

@@ -1,5 +1,5 @@
 pub mod Geometries
-pub mod Questions
+pub mod Drives
 pub mod Finds
 pub mod LineFinds
 pub mod LineEnters

@@ -1,7 +1,7 @@
 // The calls of the mapper for C (include/pddm.h): each takes numbers and lent bytes and answers numbers. None
 // has a `requires`: each contract fixes the answer and the bytes that the call leaves, for every input.
 mod formatting; // an empty drive
-mod questions; // which drive a disk is, and how large a drive is
+mod drives; // which drive a disk is, and how large a drive is
 mod finds; // where the block of a number stands, in either volume
 mod line_finds; // where a hidden number's block stands where offers wait
 mod line_enters; // an offer that enters a lent line

@@ -20,8 +20,8 @@ mod layouts; // sizes, areas and formatting
 mod asks; // which drive it is, reads, and what a write takes
 mod trees; // entries, the whole-tree check, the walk's nodes
 mod writes; // writes
-mod layout_rows;
 mod ask_rows;
+mod layout_rows;
 mod tree_rows;
 mod write_rows;
 

@@ -18,6 +18,8 @@ pub use questions::drives::identify;
 pub use questions::needs::Needs;
 pub use questions::needs::write_fault;
 pub use questions::needs::write_needs;
+pub use questions::waits::Waited;
+pub use questions::waits::wait_rounds;
 pub use reads::hidden::hidden_fault;
 pub use reads::hidden::hidden_read;
 pub use reads::public::public_fault;

@@ -1,2 +1,3 @@
 -- The laws that the proofs of the functions cite, a file for each idea.
 pub mod Drives
+pub mod Waits

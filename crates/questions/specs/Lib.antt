@@ -1,2 +1,3 @@
 pub mod Drives
 pub mod Needs
+pub mod Waits

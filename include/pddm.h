@@ -139,6 +139,15 @@ typedef struct {
 /* What a good write of this number takes now: refusal 1 to 4, 6 or 7, or 0 and the buffers to lend. */
 pddm_needs pddm_write_needs(const uint8_t *disk, size_t disk_len, uint32_t number);
 
+typedef struct {
+    uint32_t answer, rounds; /* rounds is 0 where answer is not 0 */
+} pddm_wait;
+
+/* In which round from now the first waiting offer is placed on a drive that passes the check, counted through the writes
+ * to come: 0 and that round, from 1 to hidden + 1, or refusal 1 to 3. Where every slot is live, and so no check passes, it
+ * is 0 and 0. The answer is the owner's, as outcomes are: it tells of the hidden volume, and is shown to nobody else. */
+pddm_wait pddm_wait_rounds(const uint8_t *disk, size_t disk_len);
+
 /* Checks the whole hidden tree, from the first root entry on; changes nothing. Answers 0 if it passes: then no later call
  * gives 12, and it still passes after each. Else refusal 1 to 3, or that of the first bad entry: 13 if it is no address of
  * its level, 14 if all hidden numbers below it are outside, 15 if its slot's owner is not below it or not found there. */

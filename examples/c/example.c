@@ -1,5 +1,5 @@
-/* Formats a drive, writes both volumes, reads back, lets two offers wait in a line, checks the tree and asks which
- * drive it is. Built by .ci/run against the proved archive. */
+/* Formats a drive, writes both volumes, reads back, lets two offers wait in a line, checks the tree, asks how long the
+ * one that is left waits and which drive it is. Built by .ci/run against the proved archive. */
 #include <inttypes.h>
 #include <stdio.h>
 #include <string.h>
@@ -110,6 +110,8 @@ int main(void)
     write_text_with_line(2, "agenda");
     show_through_line();
     printf("check: %u\n", pddm_check_tree(disk, sizeof disk));
+    pddm_wait wait = pddm_wait_rounds(disk, sizeof disk);
+    printf("wait: answer %u, rounds %u\n", wait.answer, wait.rounds);
     pddm_drive drive = pddm_identify(disk, sizeof disk);
     printf("drive: answer %u, block size %u, height %u, publics %u, hidden %u, slots %u, head %u\n", drive.answer,
            drive.block_size, drive.height, drive.publics, drive.hidden, drive.slots, drive.head);

@@ -9,16 +9,11 @@ use lib.ListN.{length}
 use Rattle.model.specs.Geometry.{blockWidth}
 use Rattle.model.specs.Blocks.{Bytes, blockAt}
 use Rattle.model.specs.Layout.{geometryIn}
-use Rattle.reads.specs.Finds.{Find, refusedFind, blankFind, blockFind, publicFind, hiddenFind}
-use Rattle.mapper_c.specs.declared.finds.Found.{Found}
+use Rattle.reads.specs.Finds.{publicFind, hiddenFind}
+use Rattle.answers_c.specs.declared.finds.Found.{Found}
+use Rattle.answers_c.specs.Finds.{foundOf}
 
 -- ---- the answers ----
-
--- kind 0: refused; kind 1: never placed, so the caller's blank; kind 2: the block at an address
-abbrev pub foundOf : Find → Found
-foundOf (refusedFind fault) = record { answer = fault; kind = 0; address = 0 }
-foundOf blankFind = record { answer = 0; kind = 1; address = 0 }
-foundOf (blockFind address) = record { answer = 0; kind = 2; address = address }
 
 -- what the find of a public number answers
 abbrev pub foundPublic : (disk : Bytes) → (number : ℕ) → (blank : Bytes) → Found

@@ -1,5 +1,4 @@
 pub mod Geometries
-pub mod Drives
 pub mod Finds
 pub mod LineFinds
 pub mod LineEnters

@@ -10,7 +10,7 @@ use Rattle.model.specs.Line as model
 use Rattle.line.specs.declared.offers.Offer.{Offer}
 use Rattle.line.specs.declared.offers.Line.{Line}
 use Rattle.line.specs.Offers.{offersOf, lineOf}
-use Rattle.mapper_c.specs.declared.line_enters.Entered.{Entered}
+use Rattle.answers_c.specs.declared.enters.Entered.{Entered}
 use Rattle.mapper_c.specs.declared.line_enters.EnteredLine.{EnteredLine}
 
 -- a call's offer

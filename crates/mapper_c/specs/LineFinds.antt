@@ -10,14 +10,10 @@ use Rattle.model.specs.Geometry.{blockWidth}
 use Rattle.model.specs.Blocks.{Bytes, blockAt}
 use Rattle.model.specs.Layout.{geometryIn}
 use Rattle.model.specs.Line.{Offer}
-use Rattle.line_calls.specs.Finds.{LineFind, driveFind, lentFind, lineFind}
-use Rattle.mapper_c.specs.declared.finds.Found.{Found}
-use Rattle.mapper_c.specs.Finds.{foundOf, shownBy}
-
--- kind 3: the block at a place among the lent blocks
-abbrev pub foundLineOf : LineFind → Found
-foundLineOf (driveFind find) = foundOf find
-foundLineOf (lentFind place) = record { answer = 0; kind = 3; address = place }
+use Rattle.line_calls.specs.Finds.{lineFind}
+use Rattle.answers_c.specs.declared.finds.Found.{Found}
+use Rattle.answers_c.specs.Finds.{foundLineOf}
+use Rattle.mapper_c.specs.Finds.{shownBy}
 
 -- what the find of a hidden number answers where these offers wait
 abbrev pub foundInLine :

@@ -11,7 +11,7 @@ use Rattle.model.specs.Calls.{Written, outcomeNumber, writtenDisk, writtenList,
 use Rattle.line.specs.declared.offers.Offer.{Offer}
 use Rattle.line.specs.declared.offers.Line.{Line}
 use Rattle.line.specs.Offers.{offersOf, lineOf}
-use Rattle.mapper_c.specs.declared.line_writes.LineWritten.{LineWritten}
+use Rattle.answers_c.specs.declared.line_writes.LineWritten.{LineWritten}
 use Rattle.mapper_c.specs.declared.line_writes.WrittenLine.{WrittenLine}
 
 -- the numbers of a write: its refusal or 0, rounds, stores, document 01's number for the outcome, how many

@@ -4,7 +4,7 @@ use mathlib.Core.List.{List}
 use lib.ListN.{length}
 use Rattle.model.specs.Blocks.{Bytes, DiskAddress}
 use Rattle.model.specs.Calls as model
-use Rattle.mapper_c.specs.declared.writes.Written.{Written}
+use Rattle.answers_c.specs.declared.writes.Written.{Written}
 
 -- the numbers of a write: its refusal or 0, rounds, stores, and document 01's number for the outcome
 abbrev pub writtenNumbers : model.Written → Written

@@ -1,21 +1,15 @@
 // An offer that enters a lent line (document 02, K3), for C.
+use answers_c::enters::Entered;
+use answers_c::enters::entered_as;
 use layout::numbers::HiddenNumber;
 use lent_line::load_lent;
 use lent_line::save_lent;
 use line::offers::Line;
 use line::offers::Offer;
-use line::offers::held;
 use line_calls::enters::enter_line;
 ghost use Rattle.model.specs.Line.{handedOver};
 ghost use Rattle.line.specs.Offers.{offersOf};
 ghost use Rattle.mapper_c.specs.LineEnters.{enteringOffer, HeldEntered, LentEntered};
-
-// 0 or the refusal, and how many offers of the line wait now.
-#[repr(C)]
-pub struct Entered {
-    pub answer: u32,
-    pub waiting: u32,
-}
 
 // What entering tells, and the line that it leaves.
 struct EnteredLine {
@@ -41,12 +35,8 @@ fn enter_held(
     };
     let entered = enter_line(disk, offer, blocks, line, room);
     let left = entered.line;
-    let waiting = held(left);
     EnteredLine {
-        told: Entered {
-            answer: entered.answer as u32,
-            waiting: waiting as u32,
-        },
+        told: entered_as(entered),
         line: left,
     }
 }

@@ -1,32 +1,15 @@
 // Where the block of a hidden number stands where offers wait in a lent line (document 02, K3), for C.
-use crate::finds::Found;
-use crate::finds::found_as;
+use answers_c::finds::Found;
+use answers_c::finds::found_in;
 use layout::numbers::HiddenNumber;
 use lent_line::load_lent;
 use line::offers::Line;
 use line::offers::Offer;
-use line_calls::finds::LineFind;
 use line_calls::finds::find_hidden_line;
-ghost use mathlib.Core.Path.{_≡_};
 ghost use Rattle.model.specs.Line.{handedOver};
 ghost use Rattle.model.specs.Calls.{lineRead};
 ghost use Rattle.line.specs.Offers.{offersOf, lineOf};
-ghost use Rattle.line_calls.specs.Finds.{lineFindOf};
-ghost use Rattle.mapper_c.specs.LineFinds.{foundLineOf, foundInLine, LineFound};
-
-// What is found, in the fields of the struct: kind 3 is a block among the lent ones, its place the address.
-fn found_in(find: LineFind) -> Found
-    ensures { λ r. ⌜ r ≡ foundLineOf (lineFindOf find) ⌝ }
-{
-    match find {
-        LineFind::Drive(found) => found_as(found),
-        LineFind::Lent(place) => Found {
-            answer: 0,
-            kind: 3,
-            address: place,
-        },
-    }
-}
+ghost use Rattle.mapper_c.specs.LineFinds.{foundInLine, LineFound};
 
 // Finds the block of a hidden number where the offers of a line by value wait.
 fn find_held(disk: &[u8], number: u32, blank: &[u8], blocks: &[u8], line: Line) -> Found

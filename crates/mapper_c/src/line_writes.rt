@@ -1,29 +1,17 @@
 // The write with a lent line of waiting offers (document 02, K3), for C.
+use answers_c::line_writes::LineWritten;
+use answers_c::line_writes::line_written_as;
 use layout::numbers::PublicNumber;
 use lent_line::load_lent;
 use lent_line::save_lent;
 use line::offers::Line;
 use line::offers::Offer;
-use line::offers::held;
-use mapper::outcome_number;
 use mapper::write_line;
 ghost use lib.ListN.{length};
 ghost use Rattle.model.specs.Line.{handedOver};
 ghost use Rattle.model.specs.Calls.{inLine, written};
 ghost use Rattle.line.specs.Offers.{offersOf, lineOf};
 ghost use Rattle.mapper_c.specs.LineWrites.{HeldWritten, LentWritten};
-
-// 0 or the refusal, the rounds, the stores, what has become of the line's offers (0 none counts, 1 placed,
-// 2 waiting, 3 not tried, 12), how many were placed, and how many wait now.
-#[repr(C)]
-pub struct LineWritten {
-    pub answer: u32,
-    pub rounds: u32,
-    pub stores: u32,
-    pub outcome: u32,
-    pub placed: u32,
-    pub waiting: u32,
-}
 
 // What a write tells, and the line that it leaves.
 struct WrittenLine {
@@ -56,18 +44,9 @@ fn write_held(
         random,
         list,
     );
-    let outcome = written.outcome;
     let left = written.line;
-    let waiting = held(left);
     WrittenLine {
-        told: LineWritten {
-            answer: written.answer as u32,
-            rounds: written.rounds,
-            stores: written.stores,
-            outcome: outcome_number(outcome) as u32,
-            placed: written.placed,
-            waiting: waiting as u32,
-        },
+        told: line_written_as(written),
         line: left,
     }
 }

@@ -1,22 +1,13 @@
 // The write, for C.
+use answers_c::writes::Written;
+use answers_c::writes::written_as;
 use layout::numbers::HiddenNumber;
 use layout::numbers::PublicNumber;
-use mapper::outcome_number;
 use mapper::write_block;
 ghost use lib.ListN.{length};
 ghost use Rattle.model.specs.Calls.{written};
 ghost use Rattle.mapper.specs.Writes.{callOffer};
 ghost use Rattle.mapper_c.specs.Writes.{Answered};
-
-// 0 or the refusal, the rounds, the stores, and what has become of the offer: 0 none was made, 1 placed,
-// 2 waiting, 3 not tried, 10, 11 or 12.
-#[repr(C)]
-pub struct Written {
-    pub answer: u32,
-    pub rounds: u32,
-    pub stores: u32,
-    pub outcome: u32,
-}
 
 // Writes a public number's data, and the hidden write that is offered where a slot takes it. A refused write
 // changes neither disk nor list.
@@ -46,11 +37,5 @@ pub extern "C" fn pddm_write(
         random,
         list,
     );
-    let outcome = written.outcome;
-    Written {
-        answer: written.answer as u32,
-        rounds: written.rounds,
-        stores: written.stores,
-        outcome: outcome_number(outcome) as u32,
-    }
+    written_as(written)
 }

@@ -14,8 +14,9 @@ use Rattle.reads.specs.Finds.{Find, refusedFind, blankFind, blockFind, publicFi
 use Rattle.reads.specs.Finds.{BlockInside}
 use Rattle.reads.proofs.Laws.Finds.{shownFind-publicFind, inside-publicFind, shownFind-hiddenFind}
 use Rattle.reads.proofs.Laws.Finds.{inside-hiddenFind}
-use Rattle.mapper_c.specs.declared.finds.Found.{Found}
-use Rattle.mapper_c.specs.Finds.{foundOf, foundPublic, foundHidden, shownBy, FindAnswered}
+use Rattle.answers_c.specs.declared.finds.Found.{Found}
+use Rattle.answers_c.specs.Finds.{foundOf}
+use Rattle.mapper_c.specs.Finds.{foundPublic, foundHidden, shownBy, FindAnswered}
 
 -- ---- any find ----
 

@@ -14,6 +14,8 @@ use Rattle.lent_line.specs.Lent.{loadedLine, savedOffers}
 use Rattle.lent_line.proofs.Laws.Lent.{loadedLine-is, handed-fits, saved-left, saved-kept}
 use Rattle.line_calls.specs.declared.enters.Entered as declared
 use Rattle.line_calls.specs.Enters.{EnterAnswered}
+use Rattle.answers_c.specs.declared.enters.Entered.{Entered}
+use Rattle.answers_c.specs.Enters.{enteredSaid}
 use Rattle.mapper_c.specs.declared.line_enters.EnteredLine.{EnteredLine}
 use Rattle.mapper_c.specs.LineEnters.{enteredNumbers, HeldEntered, LentEntered}
 
@@ -21,17 +23,15 @@ use Rattle.mapper_c.specs.LineEnters.{enteredNumbers, HeldEntered, LentE
 
 pub held-entered :
     {disk : Bytes} {offer : model.Offer} {blocks : Bytes} {line : Line} {room : ℕ} {result : declared.Entered}
-    {waiting : ℕ} → EnterAnswered disk offer blocks line room result →
-    waiting ≡ length (lineOf (result .line)) →
-    HeldEntered disk offer blocks line room
-    (record { told = record { answer = result .answer; waiting = waiting }; line = result .line })
-held-entered {disk} {offer} {blocks} {line} {room} {result} {waiting} good count =
-    let told : waiting ≡ length (model.entered disk offer blocks (lineOf line) room) =
-    count ∙ ap (length {A = model.Offer}) (good .line-left) in
+    {told : Entered} → EnterAnswered disk offer blocks line room result → told ≡ enteredSaid result →
+    HeldEntered disk offer blocks line room (record { told = told; line = result .line })
+held-entered {disk} {offer} {blocks} {line} {room} {result} good said =
+    let numbers : enteredSaid result ≡ enteredNumbers disk offer blocks (lineOf line) room =
+    λ i. record { answer = good .answered i; waiting = length (good .line-left i) } in
     record {
-      told-is = λ i. record { answer = good .answered i; waiting = told i };
+      told-is = said ∙ numbers;
       line-left = good .line-left;
-      line-kept = good .refused-kept;
+      line-kept = λ some. good .refused-kept (λ z. some (ap (λ (answer : Entered). answer .answer) said ∙ z));
     }
 
 -- ---- a lent one ----

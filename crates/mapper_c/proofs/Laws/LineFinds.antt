@@ -17,8 +17,9 @@ use Rattle.lent_line.proofs.Laws.Lent.{loadedLine-is}
 use Rattle.reads.specs.Finds.{refusedFind, blankFind, blockFind}
 use Rattle.line_calls.specs.Finds.{LineFind, driveFind, lentFind, lineFind, shownLineFind, FoundInside}
 use Rattle.line_calls.proofs.Laws.Finds.{shownLineFind-lineFind, inside-lineFind}
-use Rattle.mapper_c.specs.declared.finds.Found.{Found}
-use Rattle.mapper_c.specs.LineFinds.{foundLineOf, foundInLine, shownInLine, LineFound}
+use Rattle.answers_c.specs.declared.finds.Found.{Found}
+use Rattle.answers_c.specs.Finds.{foundLineOf}
+use Rattle.mapper_c.specs.LineFinds.{foundInLine, shownInLine, LineFound}
 use Rattle.mapper_c.proofs.Laws.Finds.{shownBy-foundOf, WholeOnDisk, whole-block}
 
 -- ---- any find ----

@@ -15,7 +15,9 @@ use Rattle.line.specs.Offers.{offersOf, lineOf}
 use Rattle.lent_line.specs.Lent.{loadedLine, savedOffers}
 use Rattle.lent_line.proofs.Laws.Lent.{loadedLine-is, handed-fits, saved-left, saved-kept}
 use Rattle.mapper.specs.declared.write.LineWritten as declared
-use Rattle.mapper.specs.Writes.{outcomeOf, LineAnswered}
+use Rattle.mapper.specs.Writes.{LineAnswered}
+use Rattle.answers_c.specs.declared.line_writes.LineWritten.{LineWritten}
+use Rattle.answers_c.specs.LineWrites.{lineWrittenSaid}
 use Rattle.mapper_c.specs.declared.line_writes.WrittenLine.{WrittenLine}
 use Rattle.mapper_c.specs.LineWrites.{lineNumbers, HeldWritten, LentWritten}
 
@@ -23,36 +25,25 @@ use Rattle.mapper_c.specs.LineWrites.{lineNumbers, HeldWritten, LentWrit
 
 pub held-written :
     {result : Written} {disk : Bytes} {list : List DiskAddress} {blocks : Bytes} {line : Line}
-    {diskAfter : Bytes} {listAfter : List DiskAddress} {answer : declared.LineWritten} {outcome waiting : ℕ} →
-    LineAnswered result disk list blocks line diskAfter listAfter answer →
-    outcome ≡ outcomeNumber (outcomeOf (answer .outcome)) → waiting ≡ length (lineOf (answer .line)) →
-    HeldWritten result disk list blocks line diskAfter listAfter (record {
-      told = record {
-        answer = answer .answer;
-        rounds = answer .rounds;
-        stores = answer .stores;
-        outcome = outcome;
-        placed = answer .placed;
-        waiting = waiting;
-      };
-      line = answer .line;
-    })
-held-written {result} {disk} {blocks = blocks} {line = line} {outcome = outcome} {waiting = waiting} good said
-    count =
-    let told : outcome ≡ outcomeNumber (result .outcome) = said ∙ ap outcomeNumber (good .outcome-is) in
-    let left : waiting ≡ length (lineLeft result disk blocks (lineOf line)) =
-    count ∙ ap (length {A = model.Offer}) (good .line-left) in
+    {diskAfter : Bytes} {listAfter : List DiskAddress} {answer : declared.LineWritten} {told : LineWritten} →
+    LineAnswered result disk list blocks line diskAfter listAfter answer → told ≡ lineWrittenSaid answer →
+    HeldWritten result disk list blocks line diskAfter listAfter
+    (record { told = told; line = answer .line })
+held-written {result} {disk} {blocks = blocks} {line = line} {answer = answer} good said =
+    let numbers : lineWrittenSaid answer ≡ lineNumbers result (lineLeft result disk blocks (lineOf line)) =
+    λ i. record {
+      answer = good .answered i;
+      rounds = good .rounds-are i;
+      stores = good .stores-are i;
+      outcome = outcomeNumber (good .outcome-is i);
+      placed = good .placed-are i;
+      waiting = length (good .line-left i);
+    } in
     record {
-      told-is = λ i. record {
-        answer = good .answered i;
-        rounds = good .rounds-are i;
-        stores = good .stores-are i;
-        outcome = told i;
-        placed = good .placed-are i;
-        waiting = left i;
-      };
+      told-is = said ∙ numbers;
       line-left = good .line-left;
-      line-kept = good .line-kept;
+      line-kept = λ some.
+          good .line-kept (λ z. some (ap (λ (told : LineWritten). told .answer) said ∙ z));
       stored = good .stored;
       listed = good .listed;
     }

@@ -1,7 +1,7 @@
 -- `mapper_c::finds::pddm_public_find` meets its contract: what is found, as C is told it. Assumes nothing.
 use mathlib.Core.Path.{ap, _∙_}
 use borrow.Author.Needs.{needs}
-use Rattle.mapper_c.specs.Finds.{foundOf}
+use Rattle.answers_c.specs.Finds.{foundOf}
 use Rattle.mapper_c.proofs.Laws.Finds.{public-answers}
 use Rattle.mapper_c.proofs.finds.pddm_public_find.Statement.{statement}
 use Rattle.mapper_c.proofs.finds.pddm_public_find.Tie as tie

@@ -64,12 +64,12 @@ use Rattle.lent_line.proofs.save_lent as save
 use Rattle.lent_line.proofs.save_lent.Symbol as save-def
 use Rattle.lent_line.proofs.save_lent.Symbol.{name as #save-lent}
 use Rattle.lent_line.proofs.save_lent.Met as save-thm
-use Rattle.mapper_c.specs.declared.line_enters.Entered.{Entered}
+use Rattle.answers_c.specs.declared.enters.Entered.{Entered}
 use Rattle.mapper_c.specs.declared.line_enters.EnteredLine.{EnteredLine}
 use Rattle.mapper_c.specs.LineEnters.{enteringOffer, HeldEntered, LentEntered}
 use Rattle.mapper_c.proofs.Laws.LineEnters.{entered-of-held}
-use Rattle.mapper_c.proofs.line_enters.Entered as result-type
-use Rattle.mapper_c.proofs.line_enters.Entered.Laws as result-laws
+use Rattle.answers_c.proofs.enters.Entered as result-type
+use Rattle.answers_c.proofs.enters.Entered.Laws as result-laws
 use Rattle.mapper_c.proofs.line_enters.EnteredLine as pair-type
 use Rattle.mapper_c.proofs.line_enters.EnteredLine.Laws as pair-laws
 use Rattle.mapper_c.proofs.line_enters.enter_held as half

@@ -3,7 +3,7 @@
 use mathlib.Core.Path.{ap, _∙_}
 use borrow.Author.Needs.{needs}
 use Rattle.line.specs.Offers.{lineOf}
-use Rattle.mapper_c.specs.LineFinds.{foundLineOf}
+use Rattle.answers_c.specs.Finds.{foundLineOf}
 use Rattle.mapper_c.proofs.Laws.LineFinds.{held-found}
 use Rattle.mapper_c.proofs.line_finds.find_held.Statement.{statement}
 use Rattle.mapper_c.proofs.line_finds.find_held.Tie as tie

@@ -52,11 +52,11 @@ use Rattle.lent_line.proofs.load_lent as load
 use Rattle.lent_line.proofs.load_lent.Symbol as load-def
 use Rattle.lent_line.proofs.load_lent.Symbol.{name as #load-lent}
 use Rattle.lent_line.proofs.load_lent.Met as load-thm
-use Rattle.mapper_c.specs.declared.finds.Found.{Found}
+use Rattle.answers_c.specs.declared.finds.Found.{Found}
 use Rattle.mapper_c.specs.LineFinds.{foundInLine, LineFound}
 use Rattle.mapper_c.proofs.Laws.LineFinds.{found-of-held}
-use Rattle.mapper_c.proofs.finds.Found as result-type
-use Rattle.mapper_c.proofs.finds.Found.Laws as result-laws
+use Rattle.answers_c.proofs.finds.Found as result-type
+use Rattle.answers_c.proofs.finds.Found.Laws as result-laws
 use Rattle.mapper_c.proofs.line_finds.find_held as half
 use Rattle.mapper_c.proofs.line_finds.find_held.Symbol as half-def
 use Rattle.mapper_c.proofs.line_finds.find_held.Symbol.{name as #half}

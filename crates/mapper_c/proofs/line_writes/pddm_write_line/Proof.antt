@@ -65,12 +65,12 @@ use Rattle.lent_line.proofs.save_lent as save
 use Rattle.lent_line.proofs.save_lent.Symbol as save-def
 use Rattle.lent_line.proofs.save_lent.Symbol.{name as #save-lent}
 use Rattle.lent_line.proofs.save_lent.Met as save-thm
-use Rattle.mapper_c.specs.declared.line_writes.LineWritten.{LineWritten}
+use Rattle.answers_c.specs.declared.line_writes.LineWritten.{LineWritten}
 use Rattle.mapper_c.specs.declared.line_writes.WrittenLine.{WrittenLine}
 use Rattle.mapper_c.specs.LineWrites.{HeldWritten, LentWritten}
 use Rattle.mapper_c.proofs.Laws.LineWrites.{written-of-held}
-use Rattle.mapper_c.proofs.line_writes.LineWritten as result-type
-use Rattle.mapper_c.proofs.line_writes.LineWritten.Laws as result-laws
+use Rattle.answers_c.proofs.line_writes.LineWritten as result-type
+use Rattle.answers_c.proofs.line_writes.LineWritten.Laws as result-laws
 use Rattle.mapper_c.proofs.line_writes.WrittenLine as pair-type
 use Rattle.mapper_c.proofs.line_writes.WrittenLine.Laws as pair-laws
 use Rattle.mapper_c.proofs.line_writes.write_held as half

@@ -1,11 +1,11 @@
--- `mapper_c::finds::found_as` meets its contract: an answer for each kind of find. Assumes nothing.
+-- `answers_c::finds::found_as` meets its contract: an answer for each kind of find. Assumes nothing.
 use mathlib.Core.Path.{_≡_, sym, ap}
 use borrow.Author.Needs.{needs}
 use Rattle.reads.specs.declared.finds.Find.{Find}
 use Rattle.reads.specs.Finds.{findOf}
-use Rattle.mapper_c.specs.Finds.{foundOf}
-use Rattle.mapper_c.proofs.finds.found_as.Statement.{statement}
-use Rattle.mapper_c.proofs.finds.found_as.Tie as tie
+use Rattle.answers_c.specs.Finds.{foundOf}
+use Rattle.answers_c.proofs.finds.found_as.Statement.{statement}
+use Rattle.answers_c.proofs.finds.found_as.Tie as tie
 
 -- the answer for one find is the answer for another that is the same
 same-find : {find arm : Find} → find ≡ arm → foundOf (findOf arm) ≡ foundOf (findOf find)

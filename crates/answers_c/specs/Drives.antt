@@ -1,7 +1,7 @@
--- Which drive a disk is, and how large a drive is, as the mapper says. Assumes nothing.
+-- Which drive a disk is, and how large a drive is, as C is told. Assumes nothing.
 use Rattle.questions.specs.Drives.{Identity, Size}
-use Rattle.mapper_c.specs.declared.drives.Identified.{Identified}
-use Rattle.mapper_c.specs.declared.drives.Size as declared
+use Rattle.answers_c.specs.declared.drives.Identified.{Identified}
+use Rattle.answers_c.specs.declared.drives.Size as declared
 
 -- the mapper's numbers in the fields of the C structs
 abbrev pub identitySaid : Identity → Identified

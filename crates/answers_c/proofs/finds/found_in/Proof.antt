@@ -1,12 +1,12 @@
--- `mapper_c::line_finds::found_in` meets its contract: a find of the drive as without a line, and a place.
+-- `answers_c::finds::found_in` meets its contract: a find of the drive as without a line, and a place.
 -- Assumes nothing.
 use mathlib.Core.Path.{sym, ap}
 use borrow.Author.Needs.{needs}
 use Rattle.line_calls.specs.declared.finds.LineFind.{LineFind}
 use Rattle.line_calls.specs.Finds.{lineFindOf}
-use Rattle.mapper_c.specs.LineFinds.{foundLineOf}
-use Rattle.mapper_c.proofs.line_finds.found_in.Statement.{statement}
-use Rattle.mapper_c.proofs.line_finds.found_in.Tie as tie
+use Rattle.answers_c.specs.Finds.{foundLineOf}
+use Rattle.answers_c.proofs.finds.found_in.Statement.{statement}
+use Rattle.answers_c.proofs.finds.found_in.Tie as tie
 
 enum-known-find : tie.Need-enum-known-find
 enum-known-find c = search needs

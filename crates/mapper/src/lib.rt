@@ -1,8 +1,8 @@
 // The calls of the mapper (document 01, "Public numbers and hidden outcomes"; document 02, K3). None has a
 // `requires`: each contract fixes the answer and the bytes that the call leaves, for every input. Formatting
-// stands in `formatting`, what is asked of a drive in `questions`, the reads in `reads`, the check of the hidden
-// tree (document 02, K1) in `tree_check`, an offer that enters a line and the hidden read through it in
-// `line_calls`; the writes are here.
+// stands in `formatting`, what is asked of a drive in `questions`, the reads in `reads`, the check of the
+// hidden tree (document 02, K1) in `tree_check`, an offer that enters a line and the hidden read through it
+// in `line_calls`; the writes are here.
 mod offers; // the hidden write that is offered: its refusal, and its turn
 mod write; // the write: with an offer or without one, or with a line of offers
 

@@ -12,7 +12,7 @@ use lib.Seq.{take-suc, take-all}
 use Rattle.model.specs.Table.{digit}
 use Rattle.figure_lines.specs.Counts.{agreeing, isListed}
 
-digit-most : (b : Bool) → digit b ≤ 1
+pub digit-most : (b : Bool) → digit b ≤ 1
 digit-most true = omega arith
 digit-most false = omega arith
 

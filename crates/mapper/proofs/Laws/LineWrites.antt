@@ -1,5 +1,5 @@
--- Laws of a write with a line: what it tells is what the same write tells without one, with what it placed and
--- left; a refused one, and one with an empty line, keeps the line. Assumes nothing.
+-- Laws of a write with a line: what it tells is what the same write tells without one, with what it placed
+-- and left; a refused one, and one with an empty line, keeps the line. Assumes nothing.
 use mathlib.Core.Path.{_≡_, refl, sym, ap, ap₂, subst, _∙_}
 use mathlib.Core.Logic.{_≢_}
 use mathlib.Core.List.{List, [], _∷_}
@@ -115,8 +115,8 @@ module _ (disk : Bytes) (number : ℕ) (content random : Bytes) (list : List Dis
       line-fits =
           let offered = model.inLine blocks (lineOf line) in
           let most =
-          placed-most disk number content random list offered blocks accepted g same head first (turnsIn taken)
-          brought-in-line diskAfter listAfter ran done in
+          placed-most disk number content random list offered blocks accepted g same head first
+          (turnsIn taken) brought-in-line diskAfter listAfter ran done in
           record {
             placed-most = omega (arith, most, counted);
             count-most = found .count-most;
@@ -135,8 +135,8 @@ module _ (disk : Bytes) (number : ℕ) (content random : Bytes) (list : List Dis
           brought-in-line diskAfter listAfter ran done 0 (taken .count)
           (sym (offerRefusal-inLine g blocks (lineOf line))) counted (withoutLine answer) (said .told) in
           let placed =
-          placed-is disk number content random list offered blocks accepted g same head first (turnsIn taken)
-          brought-in-line diskAfter listAfter ran done in
+          placed-is disk number content random list offered blocks accepted g same head first
+          (turnsIn taken) brought-in-line diskAfter listAfter ran done in
           line-answered withLine diskAfter listAfter answer told (said .placed-are ∙ placed)
           (said .line-left
           ∙ ap₂ (λ (count : ℕ) (offers : List Offer). leftAfter (take count offers) (lineOf line)) placed

@@ -1,4 +1,5 @@
--- `answers_c::drives::identified_as` meets its contract: the mapper's numbers, field by field. Assumes nothing.
+-- `answers_c::drives::identified_as` meets its contract: the mapper's numbers, field by field. Assumes
+-- nothing.
 use mathlib.Core.Path.{refl}
 use borrow.Author.Needs.{needs}
 use Rattle.answers_c.proofs.drives.identified_as.Statement.{statement}

@@ -1,5 +1,5 @@
--- `answers_c::line_writes::line_written_as` meets its contract: the mapper's numbers, that of the outcome, and the
--- count of the line that is left. Assumes nothing.
+-- `answers_c::line_writes::line_written_as` meets its contract: the mapper's numbers, that of the outcome,
+-- and the count of the line that is left. Assumes nothing.
 use Prim.Native.Nat.{_<_, _^_}
 use native.Mathlib.Omega.{arith}
 use borrow.Author.Needs.{needs}

@@ -1,4 +1,5 @@
--- `mapper_c::line_enters::enter_held` meets its contract: what entering answers, as C is told. Assumes nothing.
+-- `mapper_c::line_enters::enter_held` meets its contract: what entering answers, as C is told. Assumes
+-- nothing.
 use borrow.Author.Needs.{needs}
 use Rattle.mapper_c.proofs.Laws.LineEnters.{held-entered}
 use Rattle.mapper_c.proofs.line_enters.enter_held.Statement.{statement}

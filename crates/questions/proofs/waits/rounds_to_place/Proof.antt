@@ -1,5 +1,6 @@
--- `questions::waits::rounds_to_place` meets its contract. Invariant: the slots passed are live, and the rounds
--- of the whole search are those passed and those of the rest. The measure is the slots left. Assumes nothing.
+-- `questions::waits::rounds_to_place` meets its contract. Invariant: the slots passed are live, and the
+-- rounds of the whole search are those passed and those of the rest. The measure is the slots left. Assumes
+-- nothing.
 use mathlib.Core.Path.{sym, _∙_}
 use Prim.Native.Nat.{_-_}
 use native.Mathlib.Omega.{arith}

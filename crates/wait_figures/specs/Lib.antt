@@ -1,0 +1,4 @@
+pub mod Drives
+pub mod Tells
+pub mod Offers
+pub mod Carries

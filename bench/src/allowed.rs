@@ -1,6 +1,6 @@
 //! What the mappers in Rust share of a write: refusals 1 to 9, what the hidden half of each round does, and
 //! the reports. Each of them makes the rounds in its own way.
-use crate::drive::{Drive, Nodes, check, entry};
+use crate::drive::{Drive, Nodes, check};
 use crate::engine::{LineWrite, LineWritten, NONE, Needs, Offer, PLACED, WAITING, Write, Written};
 use crate::line::{Turn, handed_over, leave, turns};
 
@@ -44,7 +44,7 @@ impl<'a> Allowed<'a> {
     /// The hidden half at A, or refusal 12 for a damaged walk. A number that owns the slot and is the first
     /// that waits has one walk.
     fn choice(&self, disk: &[u8], a: usize) -> Result<Half<'a>, u32> {
-        let owner = entry(self.v.block(disk, a + 1), self.v.f - 1);
+        let owner = self.v.owner(disk, a);
         let mut read = None;
         if owner < self.v.h {
             let (end, nodes) = self.v.walk(disk, owner)?;

@@ -23,28 +23,42 @@ fn any_room(r: &mut Random, needed: usize) -> usize {
     }
 }
 
-/// A write, with a line or with an offer, if there is one.
-fn any_write(r: &mut Random, g: Geometry, disk: &[u8], line: Option<&LentLine>) -> Call {
+/// An offered number and its block.
+type Offered = (u32, Vec<u8>);
+
+pub fn any_offered(r: &mut Random, g: Geometry) -> Offered {
+    let hidden = any_block(r, g.block_size as usize);
+    (any_number(r, g.hidden), hidden)
+}
+
+/// A write without a line, with an offer, if there is one.
+pub fn any_write(r: &mut Random, g: Geometry, disk: &[u8], offer: Option<Offered>) -> Call {
+    let (number, data, random, list) = any_lent(r, g, disk);
+    Call::Write { number, data, offer, random, list }
+}
+
+/// A write with a line.
+pub fn any_line_write(r: &mut Random, g: Geometry, disk: &[u8], line: &LentLine) -> Call {
+    let (number, data, random, list) = any_lent(r, g, disk);
+    Call::WriteLine { number, data, line: line.clone(), random, list }
+}
+
+/// What a write lends but for what it carries: its number, its data, random bytes and a list.
+fn any_lent(r: &mut Random, g: Geometry, disk: &[u8]) -> (u32, Vec<u8>, Vec<u8>, Vec<u32>) {
     let b = g.block_size as usize;
     let number = any_number(r, g.publics);
     let needs = (PLAIN.needs)(disk, number);
     let random = any_room(r, needs.random_blocks as usize * b);
     let room = any_room(r, needs.stores as usize);
     let (data, random) = (any_block(r, b), r.bytes(random));
-    let list = (0..room).map(|_| r.word() as u32).collect();
-    if let Some(line) = line {
-        return Call::WriteLine { number, data, line: line.clone(), random, list };
-    }
-    let hidden = any_block(r, b);
-    let offer = (!r.one_in(4)).then(|| (any_number(r, g.hidden), hidden));
-    Call::Write { number, data, offer, random, list }
+    (number, data, random, (0..room).map(|_| r.word() as u32).collect())
 }
 
 /// A call that lends a line.
 pub fn any_line_call(r: &mut Random, g: Geometry, disk: &[u8], line: &LentLine) -> Call {
     match r.below(8) {
         0..=2 => Call::Enter(any_offer(r, g, line), line.clone()),
-        3..=5 => any_write(r, g, disk, Some(line)),
+        3..=5 => any_line_write(r, g, disk, line),
         _ => {
             let blank = any_block(r, g.block_size as usize);
             let number = if r.one_in(2) { any_number(r, g.hidden) } else { any_waiting(r, g, line) };
@@ -72,7 +86,11 @@ pub fn any_call(r: &mut Random, g: Geometry, disk: &[u8], line: &LentLine) -> Ca
         22..=25 => Call::CheckTree,
         26 => Call::Identify,
         27 => Call::DriveSize(bent_geometry(r, g)),
-        28..=55 => any_write(r, g, disk, None),
+        28 => Call::WaitRounds,
+        29..=55 => {
+            let offer = (!r.one_in(4)).then(|| any_offered(r, g));
+            any_write(r, g, disk, offer)
+        }
         _ => any_line_call(r, g, disk, line),
     }
 }

@@ -1,6 +1,6 @@
 //! Calls with all that they lend, what they give, and both in words.
 use crate::engine::{
-    Engine, Entered, Geometry, Identified, LineWrite, LineWritten, Needs, Offer, Size, Write, Written,
+    Engine, Entered, Geometry, Identified, LineWrite, LineWritten, Needs, Offer, Size, Wait, Write, Written,
 };
 use crate::line::handed_over;
 
@@ -35,6 +35,7 @@ pub enum Call {
     HiddenRead(u32, Vec<u8>),
     Needs(u32),
     CheckTree,
+    WaitRounds,
     Write { number: u32, data: Vec<u8>, offer: Option<(u32, Vec<u8>)>, random: Vec<u8>, list: Vec<u32> },
     Enter(Offer, LentLine),
     WriteLine { number: u32, data: Vec<u8>, line: LentLine, random: Vec<u8>, list: Vec<u32> },
@@ -59,6 +60,7 @@ pub enum Given {
     Shown(Result<(Part, usize), u32>),
     Needed(Needs),
     Checked(Result<(), u32>),
+    Waits(Wait),
     Wrote(Written, Vec<u32>),
     Entered(Entered, Vec<Offer>),
     WroteLine(LineWritten, Vec<Offer>, Vec<u32>),
@@ -88,6 +90,7 @@ impl Call {
             }
             Call::Needs(number) => Given::Needed((engine.needs)(disk, *number)),
             Call::CheckTree => Given::Checked((engine.check_tree)(disk)),
+            Call::WaitRounds => Given::Waits((engine.wait_rounds)(disk)),
             Call::Write { number, data, offer, random, list } => {
                 let offer = offer.as_ref().map(|(number, data)| (*number, &data[..]));
                 let mut list = list.clone();
@@ -127,6 +130,7 @@ impl Call {
             }
             Call::Needs(number) => format!("needs of {number}"),
             Call::CheckTree => "tree check".to_string(),
+            Call::WaitRounds => "wait rounds".to_string(),
             Call::Write { number, data, offer, random, list } => {
                 let offer = match offer {
                     Some((number, data)) => format!("offer {number} of {} bytes", data.len()),
@@ -191,7 +195,7 @@ impl Given {
             Given::Wrote(written, _) => written.outcome == 12,
             Given::WroteLine(written, ..) => written.outcome == 12,
             Given::Formatted(_) | Given::Identified(_) | Given::Sized(_) => false,
-            Given::Needed(_) | Given::Entered(..) => false,
+            Given::Needed(_) | Given::Waits(_) | Given::Entered(..) => false,
         }
     }
 

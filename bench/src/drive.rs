@@ -95,9 +95,15 @@ impl Drive {
         (self.bitmap + bit / (8 * self.b), bit % (8 * self.b) / 8, 1 << (bit % 8))
     }
 
-    fn marked(&self, disk: &[u8], slot: usize) -> bool {
+    pub fn marked(&self, disk: &[u8], slot: usize) -> bool {
         let (address, byte, weight) = self.bit(slot);
         self.block(disk, address)[byte] & weight != 0
+    }
+
+    /// Whose slot the one at A is, if anyone's: the last entry of its leaf.
+    #[inline(always)]
+    pub fn owner(&self, disk: &[u8], a: usize) -> usize {
+        entry(self.block(disk, a + 1), self.f - 1)
     }
 
     /// Block and place of a public number's map entry.
@@ -126,6 +132,11 @@ impl Drive {
             check(!self.is_well_formed(level, node), 12)?;
         }
         Ok((Some(node), nodes))
+    }
+
+    /// Whether the walk for a number ends at a data address.
+    pub fn leads_to(&self, disk: &[u8], number: usize, address: usize) -> bool {
+        self.walk(disk, number).is_ok_and(|(end, _)| end == Some(address))
     }
 
     /// Makes a node of a level point to what is below it in the slot at A; a leaf also names its owner.

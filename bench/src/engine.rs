@@ -110,6 +110,28 @@ impl Needs {
     }
 }
 
+/// In which round, counted from the head, the first offer waiting is placed: the one that comes to the first
+/// slot that is not live. 0 where every slot is live, and where the answer is a refusal. Laid out as
+/// `pddm_wait`.
+#[repr(C)]
+#[derive(Clone, Copy, PartialEq, Eq, Debug)]
+pub struct Wait {
+    pub answer: u32,
+    pub rounds: u32,
+}
+
+impl Wait {
+    pub fn refused(answer: u32) -> Self {
+        Wait { answer, rounds: 0 }
+    }
+
+    /// Of the slots from the head on: whether each is live.
+    pub fn of(live: impl IntoIterator<Item = bool>) -> Self {
+        let first = live.into_iter().position(|live| !live);
+        Wait { answer: 0, rounds: first.map_or(0, |i| i as u32 + 1) }
+    }
+}
+
 /// Which drive a disk is; all 0 but for the answer where that is a refusal. Laid out as `pddm_drive`.
 #[repr(C)]
 #[derive(Clone, Copy, Default, PartialEq, Eq, Debug)]
@@ -152,6 +174,7 @@ pub struct Engine {
     pub hidden_read: for<'a> fn(&'a [u8], u32, &'a [u8]) -> Shown<'a>,
     pub needs: fn(&[u8], u32) -> Needs,
     pub check_tree: fn(&[u8]) -> Result<(), u32>,
+    pub wait_rounds: fn(&[u8]) -> Wait,
     /// Changes the disk and enters the stores in the list.
     pub write: fn(&mut [u8], &Write, &mut [u32]) -> Written,
     /// Of a disk, an offer, the lent blocks, a line and how many of it wait; changes the line.

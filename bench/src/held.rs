@@ -1,17 +1,19 @@
 //! Equal drives of several mappers: each call is made on all of them, and what it gives and leaves is to be
-//! the same.
+//! the same. What is promised of a drive that passes the tree check is held too.
 use crate::calls::{Call, Given, LentLine, Part};
-use crate::engine::{Engine, LineWritten, Offer, Written};
+use crate::engine::{Engine, LineWritten, Offer, Wait, Written};
 use crate::met::Met;
 use crate::plain::PLAIN;
 use crate::proved::PROVED;
+use crate::waits::{Before, Row, holds_told};
 
-/// The mappers and their disks, the first being the one that the others are held against, and whether the
-/// tree is known to pass the tree check.
+/// The mappers and their disks, the first being the one that the others are held against, whether the tree is
+/// known to pass the tree check, and the offers that wait since it did.
 pub struct Held<'a> {
     pub engines: &'a [Engine],
     pub disks: Vec<Vec<u8>>,
     pub passes: bool,
+    pub row: Row,
 }
 
 /// That a line is kept past the offers that wait, and all of it where the call is refused.
@@ -55,7 +57,7 @@ fn holds_rest(call: &Call, given: &Given) -> Result<(), String> {
 
 impl<'a> Held<'a> {
     pub fn new(engines: &'a [Engine], disk: Vec<u8>, passes: bool) -> Self {
-        Held { engines, disks: vec![disk; engines.len()], passes }
+        Held { engines, disks: vec![disk; engines.len()], passes, row: Row::default() }
     }
 
     /// Holds the disks against the first.
@@ -83,13 +85,52 @@ impl<'a> Held<'a> {
         if !first.changes() && self.disks[0] != before {
             return Err("the disk is changed".to_string());
         }
+        if let Given::Waits(told) = first {
+            holds_told(&self.disks[0], told)?;
+        }
         holds_rest(call, &first).map(|()| first)
     }
 
-    /// Makes a call, held. Where the tree passes, no call meets damage, and it still passes after each.
-    pub fn call(&mut self, call: &Call, met: &mut Met) -> Result<Given, String> {
+    /// Makes a call on the equal disks, held and counted.
+    fn count_call(&mut self, call: &Call, met: &mut Met) -> Result<Given, String> {
         let given = self.hold_call(call).map_err(|what| format!("{}: {what}", call.told()))?;
         met.enter(call, &given);
+        Ok(given)
+    }
+
+    /// The round told, in which the first offer waiting is placed.
+    fn ask(&mut self, met: &mut Met) -> Result<Wait, String> {
+        let Given::Waits(told) = self.count_call(&Call::WaitRounds, met)? else { unreachable!() };
+        Ok(told)
+    }
+
+    /// What stands before a write, if the tree passes.
+    fn before(&mut self, call: &Call, met: &mut Met) -> Result<Option<Before>, String> {
+        if !matches!(call, Call::Write { .. } | Call::WriteLine { .. }) {
+            return Ok(None);
+        }
+        let told = self.ask(met)?;
+        Ok(if self.passes { Before::of(call, &self.disks[0], told) } else { None })
+    }
+
+    /// Goes on with the row by a good write; another call that changes the drive ends it.
+    fn go_on(&mut self, before: Option<Before>, given: &Given, met: &mut Met) -> Result<(), String> {
+        if !given.changes() {
+            return Ok(());
+        }
+        let Some(before) = before else {
+            self.row = Row::default();
+            return Ok(());
+        };
+        let told = self.ask(met)?;
+        self.row.go_on(&before, given, &self.disks[0], told, met)
+    }
+
+    /// Makes a call, held. Where the tree passes, no call meets damage, it still passes after each, and no
+    /// offer waits longer than it may.
+    pub fn call(&mut self, call: &Call, met: &mut Met) -> Result<Given, String> {
+        let before = self.before(call, met)?;
+        let given = self.count_call(call, met)?;
         if self.hides_damage(call, &given) {
             met.count("of lines", "no 12 of a read");
         }
@@ -99,6 +140,7 @@ impl<'a> Held<'a> {
         if self.passes && given.changes() && (PROVED.check_tree)(&self.disks[0]).is_err() {
             return Err(format!("{}: the tree check no longer passes", call.told()));
         }
+        self.go_on(before, &given, met).map_err(|what| format!("{}: {what}", call.told()))?;
         self.passes |= matches!(given, Given::Checked(Ok(())) | Given::Formatted(Ok(())));
         Ok(given)
     }

@@ -2,12 +2,28 @@
 //! and a block with some bytes changed has just these changed. It leaves what the others leave.
 use crate::allowed::{self, Allowed, Half, Public};
 use crate::drive::{Drive, Nodes, put_entry};
-use crate::engine::{Engine, LineWrite, LineWritten, Offer, Write, Written};
+use crate::engine::{Engine, LineWrite, LineWritten, Offer, Wait, Write, Written};
 use crate::plain::PLAIN;
 use std::arch::x86_64::{_MM_HINT_T0, _mm_prefetch};
 
-/// Formatting, the questions, reads, entries and the whole-tree check copy no block, and are plain Rust's.
-pub const IN_PLACE: Engine = Engine { name: "in-place Rust", write, write_line, ..PLAIN };
+/// Formatting, the other questions, reads, entries and the whole-tree check copy no block, and are plain
+/// Rust's.
+pub const IN_PLACE: Engine = Engine { name: "in-place Rust", wait_rounds, write, write_line, ..PLAIN };
+
+/// Goes by the numbers: the slot that a number's walk ends in is live if the number owns it.
+fn wait_rounds(disk: &[u8]) -> Wait {
+    let told = Drive::open(disk).map(|(v, head)| {
+        let mut live = vec![false; v.m];
+        for number in 0..v.h {
+            if let Ok((Some(end), _)) = v.walk(disk, number) {
+                live[v.slot_of(end)] |= v.owner(disk, end - v.k) == number;
+            }
+        }
+        live.rotate_left(head);
+        Wait::of(live)
+    });
+    told.unwrap_or_else(Wait::refused)
+}
 
 fn block_mut<'a>(v: &Drive, disk: &'a mut [u8], address: usize) -> &'a mut [u8] {
     &mut disk[address * v.b..][..v.b]

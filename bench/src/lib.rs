@@ -26,6 +26,7 @@ pub mod states;
 pub mod tree;
 pub mod tree_damage;
 pub mod volume;
+pub mod waits;
 pub mod watched;
 pub mod workload;
 pub mod wrong;

@@ -1,10 +1,12 @@
 //! Random lines of waiting offers: entered one by one and handed back by the calls, and bent now and then.
 use crate::calls::LentLine;
-use crate::engine::{Geometry, Offer};
+use crate::drive::Drive;
+use crate::engine::{Geometry, MOST_OFFERS, Offer};
+use crate::plain::PLAIN;
 use crate::random::Random;
 
 /// So many bytes of lent blocks: a few whole blocks, now and then none, or a short one behind them.
-fn any_blocks(r: &mut Random, b: usize) -> Vec<u8> {
+pub fn any_blocks(r: &mut Random, b: usize) -> Vec<u8> {
     let count = if r.one_in(8) { 0 } else { 1 + r.below(4) as usize };
     let rest = if r.one_in(4) { r.pick(&[1, b / 2, b - 1]) } else { 0 };
     r.bytes(count * b + rest)
@@ -38,6 +40,21 @@ pub fn any_line(r: &mut Random, g: Geometry) -> LentLine {
     let blocks = any_blocks(r, g.block_size as usize);
     let mut line = LentLine { offers: Vec::new(), waiting: 0, blocks };
     line.offers = (0..lent).map(|_| any_offer(r, g, &line)).collect();
+    line
+}
+
+/// A line to be carried by many writes: any, or one that waits long, of the owners of the slots before the
+/// first that is not live, the nearest first. Each of these, placed, leaves the slot that the rounds then
+/// come to last.
+pub fn carried_line(r: &mut Random, g: Geometry, disk: &[u8]) -> LentLine {
+    let mut line = any_line(r, g);
+    if r.one_in(2) {
+        let (v, head) = Drive::open(disk).expect("a drive that is not refused");
+        let free = head + (PLAIN.wait_rounds)(disk).rounds as usize - 1;
+        let owner = |i| v.owner(disk, v.start((free + v.m - i) % v.m)) as u32;
+        line.offers = (1..v.m.min(MOST_OFFERS)).map(|i| Offer { number: owner(i), place: 0 }).collect();
+    }
+    line.waiting = r.below(line.offers.len() as u64 + 1) as u32;
     line
 }
 

@@ -1,11 +1,11 @@
 //! How often each kind of call gave what, and what is due.
 use crate::calls::{Call, Given, LentLine, Part};
-use crate::engine::{Entered, LineWritten, MOST_OFFERS, NONE, NOT_TRIED, Offer, PLACED, WAITING};
+use crate::engine::{Entered, LineWritten, MOST_OFFERS, NONE, NOT_TRIED, Offer, PLACED, WAITING, Wait};
 use std::collections::BTreeMap;
 
 /// What each kind of call, and the whole-tree check after each kind of tree damage, is to give at least once,
 /// and nothing else.
-const DUE: [(&str, &[&str]); 23] = [
+const DUE: [(&str, &[&str]); 26] = [
     ("format", &["0", "1", "2"]),
     ("identify", &["0", "1", "2", "3"]),
     ("drive size", &["0", "1"]),
@@ -30,6 +30,19 @@ const DUE: [(&str, &[&str]); 23] = [
             "more than 16",
             "another geometry",
             "no 12 of a read",
+        ],
+    ),
+    ("wait rounds", &["0", "1", "2", "3"]),
+    ("told", &["1", "2", "3 or more"]),
+    (
+        "of waits",
+        &[
+            "in the round told",
+            "told for later",
+            "placed by a later write",
+            "in round H + 1",
+            "in round w x H + 1",
+            "before one in front",
         ],
     ),
     ("tree check", &["0", "1", "2", "3", "13", "14", "15"]),
@@ -102,6 +115,7 @@ impl Met {
             }
             Given::Needed(needs) => self.count("needs", needs.answer),
             Given::Checked(answer) => self.count("tree check", answer.err().unwrap_or(0)),
+            Given::Waits(wait) => self.count_wait(wait),
             Given::Wrote(written, _) => {
                 self.count("write", written.answer);
                 self.rounds += u64::from(written.rounds);
@@ -109,6 +123,14 @@ impl Met {
             }
             Given::Entered(entered, _) => self.count_entered(call, entered),
             Given::WroteLine(written, offers, _) => self.count_line(call, written, offers),
+        }
+    }
+
+    fn count_wait(&mut self, wait: &Wait) {
+        self.count("wait rounds", wait.answer);
+        if wait.answer == 0 {
+            let rounds = wait.rounds;
+            self.count("told", if rounds < 3 { rounds.to_string() } else { "3 or more".to_string() });
         }
     }
 

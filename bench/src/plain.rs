@@ -3,7 +3,7 @@
 use crate::allowed::{self, Allowed, Half, Public};
 use crate::drive::{Drive, put_entry};
 use crate::engine::{
-    Engine, Geometry, Identified, LineWrite, LineWritten, Needs, Offer, Shown, Size, Write, Written,
+    Engine, Geometry, Identified, LineWrite, LineWritten, Needs, Offer, Shown, Size, Wait, Write, Written,
 };
 use crate::line::{enter, handed_over, waiting_for};
 use crate::tree::check_tree;
@@ -17,6 +17,7 @@ pub const PLAIN: Engine = Engine {
     hidden_read,
     needs,
     check_tree,
+    wait_rounds,
     write,
     enter,
     write_line,
@@ -75,6 +76,15 @@ fn hidden_read_line<'a>(
 fn needs(disk: &[u8], number: u32) -> Needs {
     let plan = Drive::open(disk).and_then(|(v, head)| v.plan(disk, head, number as usize, v.b));
     plan.map_or_else(Needs::refused, |(needs, _)| needs)
+}
+
+/// A slot is live if the walk for its owner, a hidden number, ends there.
+fn wait_rounds(disk: &[u8]) -> Wait {
+    let told = Drive::open(disk).map(|(v, head)| {
+        let starts = (0..v.m).map(|i| v.start((head + i) % v.m));
+        Wait::of(starts.map(|a| v.owner(disk, a) < v.h && v.leads_to(disk, v.owner(disk, a), a + v.k)))
+    });
+    told.unwrap_or_else(Wait::refused)
 }
 
 /// The disk and the list of a write; a block that is changed or written back passes through `block`.

@@ -5,7 +5,8 @@
 //! line and list are borrowed alone where they are changed.
 use crate::drive::check;
 use crate::engine::{
-    Engine, Entered, Geometry, Identified, LineWrite, LineWritten, Needs, Offer, Shown, Size, Write, Written,
+    Engine, Entered, Geometry, Identified, LineWrite, LineWritten, Needs, Offer, Shown, Size, Wait, Write,
+    Written,
 };
 
 pub const PROVED: Engine = Engine {
@@ -17,6 +18,7 @@ pub const PROVED: Engine = Engine {
     hidden_read,
     needs,
     check_tree,
+    wait_rounds,
     write,
     enter,
     write_line,
@@ -56,6 +58,7 @@ unsafe extern "C" {
     ) -> Written;
     fn pddm_write_needs(disk: *const u8, disk_len: usize, number: u32) -> Needs;
     fn pddm_check_tree(disk: *const u8, disk_len: usize) -> u32;
+    fn pddm_wait_rounds(disk: *const u8, disk_len: usize) -> Wait;
     fn pddm_enter(
         disk: *const u8, disk_len: usize, number: u32, place: u32, blocks: *const u8, blocks_len: usize,
         line: *mut Offer, line_len: usize, waiting: u32,
@@ -115,6 +118,10 @@ fn needs(disk: &[u8], number: u32) -> Needs {
 fn check_tree(disk: &[u8]) -> Result<(), u32> {
     let answer = unsafe { pddm_check_tree(disk.as_ptr(), disk.len()) };
     check(answer != 0, answer)
+}
+
+fn wait_rounds(disk: &[u8]) -> Wait {
+    unsafe { pddm_wait_rounds(disk.as_ptr(), disk.len()) }
 }
 
 #[rustfmt::skip]

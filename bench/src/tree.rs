@@ -34,13 +34,8 @@ impl Drive {
         check(!self.is_well_formed(level, address), 13)?;
         check(below.start >= self.h, 14)?;
         let a = self.start(self.slot_of(address));
-        let owner = entry(self.block(disk, a + 1), self.f - 1);
+        let owner = self.owner(disk, a);
         check(!below.contains(&owner) || !self.leads_to(disk, owner, a + self.k), 15)?;
         if level == 0 { Ok(()) } else { self.check_node(disk, address, level, below.start) }
-    }
-
-    /// Whether the walk for a number ends at a data address.
-    fn leads_to(&self, disk: &[u8], number: usize, address: usize) -> bool {
-        self.walk(disk, number).is_ok_and(|(end, _)| end == Some(address))
     }
 }

@@ -1,25 +1,27 @@
 //! `differential [SECONDS [SEED]]`: holds the three mappers against each other, over document 02's K11 calls
 //! and then over random small drives until the seconds (20) are up. Answers, shown parts, lists and lines
-//! with their tails and disks are to be equal after every call, a drive that passes the tree check is to go
-//! on passing it, and every refusal, every outcome and what lines can meet is to be met. First it finds
-//! mappers that are wrong with lines. Ends with status 1 on the first difference, which it prints, where one
-//! was not met, or where a wrong mapper is not found. A drive is made from its seed alone: the one that is
-//! printed, given as SEED, is the first.
-use pddm_bench::any_calls::{any_call, any_line_call};
+//! with their tails and disks are to be equal after every call; a drive that passes the tree check is to go
+//! on passing it, and no offer is to wait longer there than it may (K12); and every refusal, every outcome
+//! and what lines and waits can meet is to be met. First it finds mappers that are wrong with lines and
+//! waits. Ends with status 1 on the first difference, which it prints, where one was not met, or where a
+//! wrong mapper is not found. A drive is made from its seed alone: the one that is printed, given as SEED, is
+//! the first.
+use pddm_bench::any_calls::{any_call, any_line_call, any_line_write, any_offered, any_write};
 use pddm_bench::arguments::Arguments;
 use pddm_bench::calls::{Call, Given, LentLine};
 use pddm_bench::drives::{KINDS, Kind, damage, drive, geometry, spoil};
 use pddm_bench::engine::{Engine, Geometry, fresh};
 use pddm_bench::held::Held;
 use pddm_bench::inplace::IN_PLACE;
-use pddm_bench::lines::{any_line, bend};
+use pddm_bench::lines::{any_blocks, any_line, any_offer, bend, carried_line};
 use pddm_bench::met::Met;
 use pddm_bench::plain::PLAIN;
 use pddm_bench::proved::PROVED;
 use pddm_bench::random::Random;
 use pddm_bench::tree_damage::damage_tree;
+use pddm_bench::waits::Row;
 use pddm_bench::workload::{CALLS, Caller, GEOMETRY};
-use pddm_bench::wrong::WRONG;
+use pddm_bench::wrong::{LATE, WRONG};
 use std::process::ExitCode;
 use std::time::{Duration, Instant};
 
@@ -29,6 +31,9 @@ const ENGINES: [Engine; 3] = [PLAIN, PROVED, IN_PLACE];
 /// Random drives that are made even when the time is up: enough to meet every refusal and outcome, and to
 /// find a wrong mapper.
 const LEAST: u64 = 1000;
+
+/// The most writes of a row.
+const ROW: u32 = 60;
 
 /// How often the random drives say how far they are.
 const PROGRESS: Duration = Duration::from_secs(5);
@@ -100,7 +105,38 @@ impl<'a> Stand<'a> {
         Ok(())
     }
 
-    /// A call, now and then with the line bent before it, on a spoilt or damaged drive, or elsewhere.
+    /// A row of writes that carry one offer along, or a line, until none waits that has waited; now and then
+    /// with another entered or replaced between them, or other blocks lent.
+    fn carry(&mut self, met: &mut Met) -> Result<(), String> {
+        let Stand { r, g, held, line, .. } = self;
+        let offer = r.one_in(3).then(|| any_offered(r, *g));
+        if offer.is_none() {
+            *line = carried_line(r, *g, &held.disks[0]);
+        }
+        for _ in 0..ROW {
+            if r.one_in(8) {
+                let call = Call::Enter(any_offer(r, *g, line), line.clone());
+                held.call(&call, met)?.hand_back(line);
+            }
+            if r.one_in(16) {
+                line.blocks = any_blocks(r, g.block_size as usize);
+            }
+            let call = match &offer {
+                Some(offer) => any_write(r, *g, &held.disks[0], Some(offer.clone())),
+                None => any_line_write(r, *g, &held.disks[0], line),
+            };
+            let given = held.call(&call, met)?;
+            let is_over = given.changes() && !held.row.waits();
+            given.hand_back(line);
+            if is_over {
+                break;
+            }
+        }
+        Ok(())
+    }
+
+    /// A call, now and then with the line bent before it, on a spoilt or damaged drive, or elsewhere; or a
+    /// row.
     fn turn(&mut self, met: &mut Met) -> Result<(), String> {
         let Stand { r, kind, g, held, line } = self;
         if r.one_in(4) {
@@ -113,6 +149,9 @@ impl<'a> Stand<'a> {
         }
         if r.one_in(24) {
             return self.call_elsewhere(met);
+        }
+        if held.passes && r.one_in(if *kind == Kind::Full { 6 } else { 24 }) {
+            return self.carry(met);
         }
         if *kind == Kind::Deep && r.one_in(2) {
             return self.hold_damage(met);
@@ -135,12 +174,25 @@ fn hold_drive(engines: &[Engine], seed: u64, met: &mut Met) -> Result<(), String
     Ok(())
 }
 
-/// Holds each wrong mapper against the right one, until it is found.
+/// The first random drive on which mappers are found in these words.
+fn find(engines: &[Engine], words: &str) -> Result<u64, String> {
+    let found = |seed: &u64| {
+        let held = hold_drive(engines, *seed, &mut Met::default());
+        held.is_err_and(|what| what.contains(words))
+    };
+    let name = engines[engines.len() - 1].name;
+    (1..=LEAST).find(found).ok_or(format!("nothing of wrong mapper '{name}'"))
+}
+
+/// Finds each wrong mapper: beside the right one, or alone.
 fn find_wrong() -> Result<(), String> {
     for wrong in WRONG {
-        let differs = |seed: &u64| hold_drive(&[PLAIN, wrong], *seed, &mut Met::default()).is_err();
-        let seed = (1..=LEAST).find(differs).ok_or(format!("nothing of wrong mapper '{}'", wrong.name))?;
+        let seed = find(&[PLAIN, wrong], "")?;
         println!("wrong mapper '{}': found on drive seed {seed}", wrong.name);
+    }
+    for (words, late) in LATE {
+        let seed = find(&[late], words)?;
+        println!("wrong mapper '{}' alone: found on drive seed {seed}: '{words}'", late.name);
     }
     Ok(())
 }
@@ -148,7 +200,7 @@ fn find_wrong() -> Result<(), String> {
 /// The calls of K11, each held, on one drive for each mapper.
 fn hold_workload() -> Result<(), String> {
     let disks = ENGINES.map(|engine| fresh(&engine, GEOMETRY)).to_vec();
-    let mut held = Held { engines: &ENGINES, disks, passes: true };
+    let mut held = Held { engines: &ENGINES, disks, passes: true, row: Row::default() };
     let mut callers = ENGINES.map(|_| Caller::new(GEOMETRY));
     for i in 0..CALLS {
         let parts = ENGINES.iter().zip(&mut callers).zip(&mut held.disks);
@@ -159,7 +211,9 @@ fn hold_workload() -> Result<(), String> {
         if (i + 1) % 20_000 == 0 {
             let after = |what| format!("after call {i} of K11: {what}");
             held.hold_disks().map_err(after)?;
-            held.call(&Call::CheckTree, &mut Met::default()).map_err(after)?;
+            for call in [Call::CheckTree, Call::WaitRounds] {
+                held.call(&call, &mut Met::default()).map_err(after)?;
+            }
             println!("K11: {} of {CALLS} calls, all equal", i + 1);
         }
     }

@@ -52,9 +52,9 @@ fn line_stacks(g: Geometry, disk: &mut [u8]) -> [usize; 3] {
     [entered, shown, written]
 }
 
-/// The stacks of formatting, both reads, what a write needs, writes without and with an offer, the check, and
-/// the calls with a line.
-fn stacks(g: Geometry) -> [usize; 12] {
+/// The stacks of formatting, both reads, the questions, writes without and with an offer, the check, and the
+/// calls with a line.
+fn stacks(g: Geometry) -> [usize; 13] {
     let mut disk = full(g);
     let block = vec![1; g.block_size as usize];
     let (random, list) = ample(g);
@@ -75,6 +75,7 @@ fn stacks(g: Geometry) -> [usize; 12] {
         stack_of(|| numbers().for_each(|n| assert!((PROVED.public_read)(&disk, n, &block).is_ok()))),
         stack_of(|| numbers().for_each(|n| assert!((PROVED.hidden_read)(&disk, n, &block).is_ok()))),
         stack_of(|| numbers().for_each(|n| assert_eq!((PROVED.needs)(&disk, n).answer, 0))),
+        stack_of(|| assert_eq!((PROVED.wait_rounds)(&disk).answer, 0)),
         written[0],
         written[1],
         stack_of(|| assert_eq!((PROVED.check_tree)(&disk), Ok(()))),
@@ -89,10 +90,11 @@ fn stacks(g: Geometry) -> [usize; 12] {
 
 fn main() {
     Arguments::new("stacks").end();
-    const CALLS: [&str; 12] = [
+    const CALLS: [&str; 13] = [
         "public read",
         "hidden read",
         "what a write needs",
+        "how long an offer waits",
         "write without an offer",
         "write with an offer",
         "tree check",

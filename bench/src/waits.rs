@@ -1,7 +1,7 @@
 //! How long offers wait (document 02, K12), held of the writes on a drive that passes the tree check: the
 //! first offer that counts is placed in just the round told before the write, and one at place w of a line
-//! that every write carries is placed by round w x (H + 1). The offer of a write without a line is a line of
-//! one.
+//! that every write carries is placed by round w x H + 1, which is w x (H + 1) at most. The offer of a write
+//! without a line is a line of one.
 use crate::calls::{Call, Given};
 use crate::drive::Drive;
 use crate::engine::{PLACED, Wait};
@@ -127,6 +127,11 @@ struct Waiting {
 }
 
 impl Waiting {
+    /// The round by which it is placed.
+    fn last(&self, v: &Drive) -> u32 {
+        self.place * v.h as u32 + 1
+    }
+
     /// Goes on by a write; that it is placed by its last round.
     fn goes_on(&mut self, before: &Before, after: &After) -> Result<(), String> {
         let Waiting { number, place, .. } = *self;
@@ -134,25 +139,22 @@ impl Waiting {
         let round = if waits { Some(after.rounds) } else { before.round_of(number, after) };
         let round = round.ok_or_else(|| format!("offer {number} left, and is not placed by a round"))?;
         (self.rounds, self.writes) = (self.rounds + round, self.writes + 1);
-        let most = place * (before.v.h as u32 + 1);
-        if self.rounds < most || (self.rounds == most && !waits) {
+        let last = self.last(&before.v);
+        if self.rounds < last || (self.rounds == last && !waits) {
             return Ok(());
         }
         let how = if waits { "waits after" } else { "is placed in" };
-        Err(format!(
-            "offer {number} at place {place} {how} round {}, not placed by round {most}",
-            self.rounds
-        ))
+        Err(format!("offer {number} at place {place} {how} round {}, not by round {last}", self.rounds))
     }
 
     /// Counts how an offer that is placed has waited.
     fn count(&self, before: &Before, after: &After, met: &mut Met) {
-        let last = self.place * before.v.h as u32 + 1;
+        let is_last = self.rounds == self.last(&before.v);
         let in_front = front(&before.numbers, self.number);
         let shown = [
             (self.writes > 1, "placed by a later write"),
-            (self.rounds == last && self.place == 1, "in round H + 1"),
-            (self.rounds == last && self.place > 1, "in round w x H + 1"),
+            (is_last && self.place == 1, "in round H + 1"),
+            (is_last && self.place > 1, "in round w x H + 1"),
             (in_front.iter().any(|number| after.left.contains(number)), "before one in front"),
         ];
         shown.into_iter().filter(|(holds, _)| *holds).for_each(|(_, label)| met.count("of waits", label));

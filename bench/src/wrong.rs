@@ -37,9 +37,9 @@ pub const LATE: [(&str, Engine); 7] = [
     ("which is placed in", LAST_FIRST),
     ("an offer is placed", Engine { name: "own slot taken", write: own_slot_taken, ..PLAIN }),
     ("rounds, and after", Engine { name: "head left behind", write: head_left_behind, ..PLAIN }),
-    ("not placed by round", Engine { name: "last first, silent", wait_rounds: silent, ..LAST_FIRST }),
+    ("not by round", Engine { name: "last first, silent", wait_rounds: silent, ..LAST_FIRST }),
     (
-        "not placed by round",
+        "not by round",
         Engine { name: "passed over, silent", wait_rounds: silent, write: passed_over, ..PLAIN },
     ),
 ];

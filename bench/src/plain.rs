@@ -1,5 +1,5 @@
-//! A mapper written from documents 01 and 02 (K2, K3, K7, K12) in plain Rust: one store function, whole blocks,
-//! the documents' checks and no others. The proved mapper is measured and held against it.
+//! A mapper written from documents 01 and 02 (K2, K3, K7, K12) in plain Rust: one store function, whole
+//! blocks, the documents' checks and no others. The proved mapper is measured and held against it.
 use crate::allowed::{self, Allowed, Half, Public};
 use crate::drive::{Drive, put_entry};
 use crate::engine::{

@@ -1,8 +1,8 @@
 //! `waiting`: how long an offer waits, in rounds and public writes, on drives of 2,048 slots with all hidden
 //! numbers placed, public numbers at random: one offer on drives with several H, and lines of 16. Beside what
-//! is measured stands what is promised (document 02, K12): by round H + 1, at place w of a line by w x (H +
-//! 1). Prints the tables of docs/MANUAL.md. Ends with status 1 and a line that says so where an offer waits
-//! longer, or is placed in another round than the one told before its first write.
+//! is measured stands the bound of document 02, K12: H + 1, and w × (H + 1) at place w of a line. Prints the
+//! tables of docs/MANUAL.md. Ends with status 1 and a line that says so where an offer waits longer, or is
+//! placed in another round than the one told before its first write.
 use pddm_bench::arguments::Arguments;
 use pddm_bench::drive::{Drive, entry};
 use pddm_bench::engine::{Geometry, LineWrite, MOST_OFFERS, Offer, PLACED, Wait, Write, ample, fresh};
@@ -150,7 +150,7 @@ fn measured<const N: usize>(hidden: u32, lines: usize) -> Result<Vec<Vec<Waited>
 }
 
 /// The mean, with two places where it is small, and the most of the numbers of some waits.
-fn told<'a>(waits: impl Iterator<Item = &'a Waited> + Clone, number: impl Fn(&Waited) -> u32) -> String {
+fn told<'a>(waits: impl Iterator<Item = &'a Waited>, number: impl Fn(&Waited) -> u32) -> String {
     let all = waits.map(number).collect::<Vec<_>>();
     let mean = f64::from(all.iter().sum::<u32>()) / all.len() as f64;
     let mean = if mean < 100.0 { format!("{mean:.2}") } else { grouped(mean.round() as u32) };
@@ -183,7 +183,7 @@ fn print_alone() -> Result<(), String> {
 fn print_lines() -> Result<(), String> {
     println!("\nlines of {MOST_OFFERS}, {LINES} on each drive:\n");
     println!(
-        "| H, all placed | Place w | Its round, mean | Most | Bound, w x (H + 1) |\n|---|---|---|---|---|"
+        "| H, all placed | Place w | Its round, mean | Most | Bound, w × (H + 1) |\n|---|---|---|---|---|"
     );
     for hidden in WITH_LINES {
         let waits = measured::<MOST_OFFERS>(hidden, LINES)?;

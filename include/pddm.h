@@ -144,8 +144,8 @@ typedef struct {
 } pddm_wait;
 
 /* In which round from now the first waiting offer is placed on a drive that passes the check, counted through the writes
- * to come: 0 and that round, from 1 to hidden + 1, or refusal 1 to 3. Where every slot is live, and so no check passes, it
- * is 0 and 0. The answer is the owner's, as outcomes are: it tells of the hidden volume, and is shown to nobody else. */
+ * to come: 0 and that round, from 1 to hidden + 1, or refusal 1 to 3. It is the owner's, as outcomes are: it tells of the
+ * hidden volume, and is shown to nobody else. */
 pddm_wait pddm_wait_rounds(const uint8_t *disk, size_t disk_len);
 
 /* Checks the whole hidden tree, from the first root entry on; changes nothing. Answers 0 if it passes: then no later call

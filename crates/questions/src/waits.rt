@@ -31,7 +31,8 @@ fn is_slot_live(disk: &[u8], g: Geometry, slot: u32) -> bool
     is_live(g, slot, walk_owner(disk, g, number))
 }
 
-// The round, from the head on, that comes to the first slot that is not live; 0 where every slot is live.
+// The round, from the head on, that comes to the first slot that is not live; 0 where every slot is live,
+// which no drive has, as live slots have different owners.
 fn rounds_to_place(disk: &[u8], g: Geometry) -> u32
     requires { ⌜ Drive (geometryOf g) (now disk) ⌝ }
     requires { ⌜ headIn (now disk) < g .slots ⌝ }
@@ -51,7 +52,7 @@ fn rounds_to_place(disk: &[u8], g: Geometry) -> u32
 }
 
 // In which round from here on the first offer that waits is placed, on a drive that passes the check of its
-// tree; 0 where every slot is live. 1 to 3 and 0 where the disk is no drive.
+// tree: from 1 to H + 1. 1 to 3 and 0 where the disk is no drive.
 pub fn wait_rounds(disk: &[u8]) -> Waited
     ensures { λ r. ⌜ waitOf r ≡ waitIn (now (disk .entry)) ⌝ }
 {

@@ -17,4 +17,5 @@ wait-figures =
       first-place = refl;
       second-place = refl;
       place-twice = refl;
+      place-absent = refl;
     }

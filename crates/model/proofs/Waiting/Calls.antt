@@ -20,7 +20,7 @@ use Rattle.model.specs.Refusals.{hiddenWriteRefusal}
 use Rattle.model.specs.Line.{Offer, turns, leftAfter, isWaitingIn, entered, waitingFor}
 use Rattle.model.specs.Calls.{one, inLine, offeredWrites, startState, Written, writtenDisk, lineLeft}
 use Rattle.model.specs.Waits.{offersBefore}
-use Rattle.model.specs.Promises.Waiting.{halfWritten, firstRounds, StillOffered}
+use Rattle.model.specs.Promises.Waiting.{halfWritten, halfDisk, firstRounds, StillOffered}
 use Rattle.model.specs.Promises.Waiting.{offeredWithin, offeredThen, StillWaiting, waitsWithin}
 use Rattle.model.specs.Promises.Waiting.{waitsThen, waitsEntered}
 use Rattle.model.proofs.Laws.Offers.{offeredWrites-one, offeredWrites-inLine}
@@ -63,17 +63,17 @@ module _ (write : HiddenWrite) where
       by (inr m) = omega (arith, m .spent)
   still-offered disk rounds index ahead good (offeredThen half _ later stays row) =
       by (write-waits half disk (one write) index ahead 0 (one-waits (geometryIn disk) good))
-      (λ (indexAfter : ℕ) (next : Ahead (writtenDisk (halfWritten half disk (one write)) disk) indexAfter)
-      (same : geometryIn (writtenDisk (halfWritten half disk (one write)) disk) ≡ geometryIn disk).
-      still-offered (writtenDisk (halfWritten half disk (one write)) disk) later indexAfter next
+      (λ (indexAfter : ℕ) (next : Ahead (halfDisk half disk (one write)) indexAfter)
+      (same : geometryIn (halfDisk half disk (one write)) ≡ geometryIn disk).
+      still-offered (halfDisk half disk (one write)) later indexAfter next
       (ap (λ (g : Geometry). hiddenWriteRefusal g (write .number) (write .content)) same ∙ good) row)
     where
       by : WriteWaits disk (halfWritten half disk (one write)) index 0 →
-          ((indexAfter : ℕ) → Ahead (writtenDisk (halfWritten half disk (one write)) disk) indexAfter →
-          geometryIn (writtenDisk (halfWritten half disk (one write)) disk) ≡ geometryIn disk →
+          ((indexAfter : ℕ) → Ahead (halfDisk half disk (one write)) indexAfter →
+          geometryIn (halfDisk half disk (one write)) ≡ geometryIn disk →
           later ≤ indexAfter) → halfWritten half disk (one write) .rounds + later ≤ index
       by (is-placed l) rest = absurd (omega (arith, l, stays))
-      by (goes-on indexAfter frontAfter next same front-is spent) rest =
+      by (goes-on indexAfter frontAfter next same front-is spent no-sooner) rest =
           omega (arith, rest indexAfter next same, spent)
 
 -- ---- a place in a line ----
@@ -148,8 +148,8 @@ module _ (asked : ℕ) where
       (offersBefore asked (turns (geometryIn disk) blocks line))
       (line-waits (geometryIn disk) blocks line counts))
       (λ (indexAfter : ℕ)
-      (next : Ahead (writtenDisk (halfWritten half disk (inLine blocks line)) disk) indexAfter).
-      still-waiting (writtenDisk (halfWritten half disk (inLine blocks line)) disk)
+      (next : Ahead (halfDisk half disk (inLine blocks line)) indexAfter).
+      still-waiting (halfDisk half disk (inLine blocks line))
       (lineLeft (halfWritten half disk (inLine blocks line)) disk blocks line) later indexAfter next row)
     where
       result : Written
@@ -176,7 +176,7 @@ module _ (asked : ℕ) where
           later < roundsLeft (geometryIn (writtenDisk result disk)) indexAfter (offersBefore asked left)) →
           result .rounds + later < roundsLeft (geometryIn disk) index (offersBefore asked line)
       by (is-placed l) rest = absurd (omega (arith, l, placed-few))
-      by (goes-on indexAfter frontAfter next same front-is spent) rest =
+      by (goes-on indexAfter frontAfter next same front-is spent no-sooner) rest =
           let less : later < roundsLeft (geometryIn disk) indexAfter (offersBefore asked left) =
           subst (λ (h : Geometry). later < roundsLeft h indexAfter (offersBefore asked left)) same
           (rest indexAfter next) in

@@ -9,7 +9,7 @@ use native.Mathlib.Omega.{arith}
 use lib.Dec.{ltb}
 use lib.ListN.{length}
 use borrow.Author.Tests.{ltb-true}
-use Rattle.laws.proofs.Cases.{bool-cases, true-is-not-false, eq-cases, and-left, and-right}
+use Rattle.laws.proofs.Cases.{bool-cases, true-is-not-false, eq-cases, lt-cases, and-left, and-right}
 use Rattle.laws.proofs.Pigeonhole.{Reached, reached-le}
 use Rattle.model.specs.Geometry.{Geometry, Fits, blockCount, blockWidth}
 use Rattle.model.specs.Blocks.{Bytes, blockAt}
@@ -49,6 +49,17 @@ pub record NearestAfter (g : Geometry) (disk : Bytes) (slot : ℕ) : Type 0 wher
   pub index : ℕ
   pub fewer : suc index ≤ g .hidden
   pub near : Near g disk (nextSlot g slot) index
+
+-- there is one such slot
+pub near-unique :
+    (g : Geometry) (disk : Bytes) (slot index other : ℕ) → Near g disk slot index → Near g disk slot other →
+    index ≡ other
+near-unique g disk slot index other n m =
+    ⊎-elim (λ l. true-is-not-false (m .live-before index l) (n .not-live))
+    (λ k.
+    ⊎-elim (λ l. true-is-not-false (n .live-before other l) (m .not-live)) (λ l. omega arith)
+    (lt-cases other index))
+    (lt-cases index other)
 
 -- one slot further on it is one less away, on a disk with the same live slots
 pub near-next :

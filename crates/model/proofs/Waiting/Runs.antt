@@ -63,6 +63,7 @@ pub record Nearer (g : Geometry) (final : Bytes) (slot : ℕ) (state : HiddenSta
   pub frontAfter : ℕ
   pub front-is : run .state .placed + frontAfter ≡ state .placed + front
   pub spent : run .rounds + roundsLeft g indexAfter frontAfter ≤ roundsLeft g index front
+  pub no-sooner : index ≤ run .rounds + indexAfter
 
 -- what becomes of the write behind so many others
 abbrev pub Waits : Geometry → (final : Bytes) → (slot : ℕ) → HiddenState → Run → (index front : ℕ) → Type 0
@@ -185,6 +186,7 @@ module _ (g : Geometry) (f : Fits g) (number : ℕ) (counted : number < g .publi
               frontAfter = frontAfter;
               front-is = front-is;
               spent = omega (arith, spent);
+              no-sooner = omega arith;
             })
 
     -- this round and a run after it
@@ -252,6 +254,7 @@ module _ (g : Geometry) (f : Fits g) (number : ℕ) (counted : number < g .publi
                     frontAfter = m .frontAfter;
                     front-is = m .front-is ∙ front-is;
                     spent = omega (arith, spent, m .spent);
+                    no-sooner = omega (arith, m .no-sooner);
                   })
 
     waits-by :
@@ -284,6 +287,7 @@ module _ (g : Geometry) (f : Fits g) (number : ℕ) (counted : number < g .publi
         frontAfter = front;
         front-is = refl;
         spent = omega arith;
+        no-sooner = omega arith;
       })
   runFrom-waits (suc most) disk slot random state tree index front underway ghost n waits =
       waits-by most (runFrom-waits most) disk slot random state tree index front underway ghost n waits

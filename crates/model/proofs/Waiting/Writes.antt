@@ -45,7 +45,7 @@ pub data WriteWaits (disk : Bytes) (result : Written) (index front : ℕ) : Type
   goes-on : (indexAfter frontAfter : ℕ) → Ahead (writtenDisk result disk) indexAfter →
       geometryIn (writtenDisk result disk) ≡ geometryIn disk → result .placed + frontAfter ≡ front →
       result .rounds + roundsLeft (geometryIn disk) indexAfter frontAfter ≤
-      roundsLeft (geometryIn disk) index front →
+      roundsLeft (geometryIn disk) index front → index ≤ result .rounds + indexAfter →
       WriteWaits disk result index front
 
 -- ---- how many rounds ----
@@ -187,7 +187,7 @@ module _ (half : PublicHalf) (disk : Bytes) (offer : Offered) (free : halfRefusa
                 (subst (λ (s : ℕ). Near g (writtenDisk result disk) s (m .indexAfter)) (sym head-after)
                 (m .near-after));
           })
-          kept (omega (arith, m .front-is)) (m .spent)
+          kept (omega (arith, m .front-is)) (m .spent) (m .no-sooner)
 
 -- ---- any write ----
 
@@ -197,7 +197,7 @@ refused-waits :
 refused-waits disk answer index front ahead =
     goes-on index front
     (subst (λ (d : Bytes). Ahead d index) (sym (apply-nil (blockWidth (geometryIn disk)) disk)) ahead)
-    (ap geometryIn (apply-nil (blockWidth (geometryIn disk)) disk)) (omega arith) (omega arith)
+    (ap geometryIn (apply-nil (blockWidth (geometryIn disk)) disk)) (omega arith) (omega arith) (omega arith)
 
 pub write-waits :
     (half : PublicHalf) (disk : Bytes) (offer : Offered) (index : ℕ) → Ahead disk index →

@@ -67,11 +67,13 @@ pub record WaitFigures : Type 0 where
   pub rounds-later : waitRounds seven (sevenAfter sevenLive nothing) ≡ 7
   -- hidden 3 waits with seven writes and is placed with the eighth
   pub three-told : outcomesOf 8 (ofNines 3) sevenLive ≡ 2 ∷ 2 ∷ 2 ∷ 2 ∷ 2 ∷ 2 ∷ 2 ∷ 1 ∷ []
-  -- hidden 6 goes to slot 7, so that slot 6, which it had, comes last: the next one waits 2 × H rounds
+  -- hidden 6 goes to slot 7, so that slot 6, which it had, comes last: the next one waits for 2 × H rounds
+  -- and is placed in round 2 × H + 1
   pub six-five : placedIn 16 0 sixFive sevenLive ≡ 8 ∷ 15 ∷ []
   -- hidden 3 had slot 3, which comes sooner
   pub three-two : placedIn 12 0 threeTwo sevenLive ≡ 8 ∷ 12 ∷ []
-  -- how many stand in front: of a number twice its first is meant
+  -- how many stand in front: of a number twice its first is meant, all of them where it is not there
   pub first-place : offersBefore 6 sixFive ≡ 0
   pub second-place : offersBefore 5 sixFive ≡ 1
   pub place-twice : offersBefore 2 (offerAt 3 0 ∷ offerAt 2 1 ∷ offerAt 2 0 ∷ []) ≡ 1
+  pub place-absent : offersBefore 4 sixFive ≡ 2

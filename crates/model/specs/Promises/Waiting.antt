@@ -1,6 +1,6 @@
 -- How long an offer waits (document 02, K12), in rounds, on a drive that passes the check of the whole tree:
--- the exact round of the first one waiting, and the bounds for one offer and for a place in the line. Assumes
--- nothing.
+-- the exact round of the first one waiting, how it counts down, and the bounds for one offer and for a place
+-- in the line. Assumes nothing.
 use mathlib.Core.Path.{_≡_}
 use mathlib.Core.Logic.{_≢_}
 use mathlib.Core.Bool.{true}
@@ -35,6 +35,9 @@ halfRefusal half disk = writeRefusal disk (half .number) (half .content) (length
 abbrev pub halfWritten : PublicHalf → (disk : Bytes) → Offered → Written
 halfWritten half disk offer = written disk (half .number) (half .content) (half .random) (half .room) offer
 
+abbrev pub halfDisk : PublicHalf → (disk : Bytes) → Offered → Bytes
+halfDisk half disk offer = writtenDisk (halfWritten half disk offer) disk
+
 -- the first so many rounds of a write that is not refused
 abbrev pub firstRounds : (most : ℕ) → PublicHalf → (disk : Bytes) → Offered → Run
 firstRounds most half disk offer =
@@ -60,7 +63,7 @@ pub data StillOffered (write : HiddenWrite) : (disk : Bytes) → (rounds : ℕ) 
   -- a whole write, refused or not, and rounds after it
   offeredThen :
       (half : PublicHalf) (disk : Bytes) (rounds : ℕ) → halfWritten half disk (one write) .placed ≡ 0 →
-      StillOffered write (writtenDisk (halfWritten half disk (one write)) disk) rounds →
+      StillOffered write (halfDisk half disk (one write)) rounds →
       StillOffered write disk (halfWritten half disk (one write) .rounds + rounds)
 
 -- a number's offer in a line that write after write carries, each with the line that the last one left and
@@ -76,7 +79,7 @@ pub data StillWaiting (asked : ℕ) : (disk : Bytes) → (line : List Offer) →
       (half : PublicHalf) (disk blocks : Bytes) (line : List Offer) (rounds : ℕ) →
       waitingFor (geometryIn disk) blocks line asked ≢ none →
       isWaitingIn (lineLeft (halfWritten half disk (inLine blocks line)) disk blocks line) asked ≡ true →
-      StillWaiting asked (writtenDisk (halfWritten half disk (inLine blocks line)) disk)
+      StillWaiting asked (halfDisk half disk (inLine blocks line))
       (lineLeft (halfWritten half disk (inLine blocks line)) disk blocks line) rounds →
       StillWaiting asked disk line (halfWritten half disk (inLine blocks line) .rounds + rounds)
   -- an offer enters, refused or not, of any number
@@ -107,6 +110,12 @@ pub record Waiting : Type 0 where
       halfRefusal half disk ≡ 0 → most ≤ roundCount (geometryIn disk) disk →
       offeredWrites (geometryIn disk) offer ≢ [] →
       ExactRound (firstRounds most half disk offer) (waitRounds (geometryIn disk) disk)
+  -- a write, refused or not, that carries one along and places none brings it as much nearer as it has rounds
+  pub counts-down :
+      (half : PublicHalf) (disk : Bytes) (offer : Offered) → treeRefusal disk ≡ 0 →
+      offeredWrites (geometryIn disk) offer ≢ [] → halfWritten half disk offer .placed ≡ 0 →
+      halfWritten half disk offer .rounds + waitRounds (geometryIn disk) (halfDisk half disk offer) ≡
+      waitRounds (geometryIn disk) disk
   -- one offer that 10 and 11 do not meet is placed by round H + 1
   pub one-offer :
       (write : HiddenWrite) (disk : Bytes) (rounds : ℕ) → treeRefusal disk ≡ 0 →

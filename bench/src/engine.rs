@@ -111,8 +111,7 @@ impl Needs {
 }
 
 /// In which round, counted from the head, the first offer waiting is placed: the one that comes to the first
-/// slot that is not live. 0 where every slot is live, and where the answer is a refusal. Laid out as
-/// `pddm_wait`.
+/// slot that is not live; 0 where the answer is a refusal. Laid out as `pddm_wait`.
 #[repr(C)]
 #[derive(Clone, Copy, PartialEq, Eq, Debug)]
 pub struct Wait {

@@ -15,4 +15,5 @@ pub mod TreeCheck
 pub mod LineFigures
 pub mod LineOfOffers
 pub mod WaitFigures
+pub mod WaitRows
 pub mod Waiting

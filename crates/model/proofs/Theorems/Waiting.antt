@@ -27,6 +27,7 @@ use Rattle.model.proofs.Waiting.Writes.{write-waits}
 use Rattle.model.proofs.Waiting.Calls.{still-offered, still-waiting}
 use Rattle.model.proofs.Theorems.TreeCheck.{accepted-of-pass, sound-of-pass}
 use Rattle.model.proofs.Theorems.WaitFigures.{wait-figures}
+use Rattle.model.proofs.Theorems.WaitRows.{one-row, second-row}
 
 positive : {A : Type 0} (xs : List A) → xs ≢ [] → 0 < length xs
 positive [] ne = absurd (ne refl)
@@ -116,6 +117,7 @@ waiting =
       one-offer = λ write disk rounds pass good row.
           let l = still-offered write disk rounds (found disk pass .index) (ahead disk pass) good row in
           omega (arith, l, found disk pass .near .few);
+      one-reached = one-row;
       in-line = λ asked disk line rounds pass row.
           omega (
             arith,
@@ -124,4 +126,5 @@ waiting =
           );
       in-line-most = λ asked disk line rounds pass row.
           omega (arith, line-left disk pass asked line rounds row);
+      line-reached = second-row;
     }

@@ -8,6 +8,7 @@ use lib.ListN.{replicate}
 use Rattle.model.specs.Geometry.{Geometry}
 use Rattle.model.specs.Blocks.{Bytes}
 use Rattle.model.specs.Layout.{headIn}
+use Rattle.model.specs.HiddenHalf.{HiddenWrite}
 use Rattle.model.specs.Line.{Offer}
 use Rattle.model.specs.Calls.{formatted, Offered, nothing, one, inLine, Written, written, writtenDisk}
 use Rattle.model.specs.Calls.{outcomeNumber, lineLeft}
@@ -25,8 +26,11 @@ sevenWritten disk offer = written disk 0 (filled 7) (replicate 64 165) 8 offer
 abbrev pub sevenAfter : (disk : Bytes) → Offered → Bytes
 sevenAfter disk offer = writtenDisk (sevenWritten disk offer) disk
 
+abbrev pub nines : (number : ℕ) → HiddenWrite
+nines number = record { number = number; content = filled 9 }
+
 abbrev pub ofNines : (number : ℕ) → Offered
-ofNines number = one (record { number = number; content = filled 9 })
+ofNines number = one (nines number)
 
 -- so many numbers offered, each with one write, from a number on
 unfoldable pub offeredFrom : (count number : ℕ) → (disk : Bytes) → Bytes

@@ -18,7 +18,7 @@ use Rattle.model.specs.Calls.{Offered, one, inLine, offeredWrites, start
 use Rattle.model.specs.Calls.{writtenDisk, lineLeft}
 use Rattle.model.specs.Waits.{waitRounds, offersBefore}
 use Rattle.model.specs.TreeCheck.{treeRefusal}
-use Rattle.model.specs.Promises.WaitFigures.{WaitFigures}
+use Rattle.model.specs.Promises.WaitFigures.{WaitFigures, nines, sevenLive, sixFive}
 
 -- ---- a write and its first rounds ----
 
@@ -121,6 +121,8 @@ pub record Waiting : Type 0 where
       (write : HiddenWrite) (disk : Bytes) (rounds : ℕ) → treeRefusal disk ≡ 0 →
       hiddenWriteRefusal (geometryIn disk) (write .number) (write .content) ≡ 0 →
       StillOffered write disk rounds → rounds < suc (geometryIn disk .hidden)
+  -- in H rounds in a row it may not be
+  pub one-reached : StillOffered (nines 3) sevenLive 7
   -- at place w of a line, behind w - 1 others, by round w × (H + 1)
   pub in-line :
       (asked : ℕ) (disk : Bytes) (line : List Offer) (rounds : ℕ) → treeRefusal disk ≡ 0 →
@@ -131,3 +133,5 @@ pub record Waiting : Type 0 where
       (asked : ℕ) (disk : Bytes) (line : List Offer) (rounds : ℕ) → treeRefusal disk ≡ 0 →
       StillWaiting asked disk line rounds →
       rounds < suc (suc (offersBefore asked line) * geometryIn disk .hidden)
+  -- in w × H rounds in a row it may not be: hidden 5 behind hidden 6
+  pub line-reached : StillWaiting 5 sevenLive sixFive 14

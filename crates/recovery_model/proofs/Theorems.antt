@@ -1,0 +1,2 @@
+-- The promise and its figures, proved. Assumes nothing.
+pub mod RecoveryFigures

@@ -1,0 +1,35 @@
+-- The figures of cut writes and of recoveries: each field by computation. Assumes nothing.
+use mathlib.Core.Path.{refl}
+use Rattle.laws.proofs.Lists.{same-of-isSame}
+use Rattle.model.proofs.Theorems.Computing.{computing}
+use Rattle.recovery_model.specs.Recovery.{usedFrom, areStarts, areApart, mapChecks, recoveryRefusal}
+use Rattle.recovery_model.specs.Recovery.{withoutBits, withMarks, recovered}
+use Rattle.recovery_model.specs.Promises.RecoveryFigures.{RecoveryFigures, pulledAt, withMap, withBitmap}
+
+pub recovery-figures : RecoveryFigures
+unfolding computing usedFrom areStarts areApart mapChecks recoveryRefusal withoutBits withMarks recovered
+recovery-figures =
+    record {
+      stores = refl;
+      list-of-nine = refl;
+      placed-eight = refl;
+      placed-nine = refl;
+      hidden-old = refl;
+      hidden-new = refl;
+      public-old = refl;
+      six-before = refl;
+      public-new = refl;
+      bits-fourteen = same-of-isSame (recovered (pulledAt 14)) (pulledAt 14) refl;
+      bits-fifteen = same-of-isSame (recovered (pulledAt 15)) (withBitmap 65 2 (pulledAt 15)) refl;
+      bits-sixteen = same-of-isSame (recovered (pulledAt 16)) (pulledAt 16) refl;
+      empty = same-of-isSame (recovered (withMap 0 0 0 0)) (withBitmap 0 0 (withMap 0 0 0 0)) refl;
+      three = same-of-isSame (recovered (withMap 4 7 13 0)) (withBitmap 9 2 (withMap 4 7 13 0)) refl;
+      leaf-entry = refl;
+      root-entry = refl;
+      past-slots = refl;
+      shared = refl;
+      last-slot = refl;
+      past-publics = refl;
+      past-shared = refl;
+      three-first = refl;
+    }

@@ -1,0 +1,2 @@
+-- Both volumes under a write that is cut, and recovered. Assumes nothing.
+pub mod CutLeaves

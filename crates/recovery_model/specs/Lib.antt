@@ -1,0 +1,4 @@
+pub mod Cuts
+pub mod Recovery
+pub mod MapConditions
+pub mod Promises

@@ -1,8 +1,8 @@
 // Refusal 17, and the call.
 use crate::bits::clear_bits;
 use crate::bits::set_marks;
+use crate::entries::is_map_formed;
 use crate::windows::is_map_apart;
-use crate::windows::is_map_formed;
 use layout::drives::Opened;
 use layout::drives::open_drive;
 use layout::geometry::Geometry;
@@ -22,10 +22,10 @@ fn map_fault(disk: &[u8], g: Geometry) -> u8
     if !is_map_formed(disk, g) {
         return 17;
     }
-    if !is_map_apart(disk, g) {
-        return 17;
+    if is_map_apart(disk, g) {
+        return 0;
     }
-    0
+    17
 }
 
 // Rebuilds a drive's bitmap from its map and answers 0; answers 17 and changes no byte where it refuses.

@@ -1,19 +1,21 @@
-// One entry of the map.
+// The entries of the map: each is 0 or a slot's start, and a slot is marked from its own.
 use layout::bitmap::mark_slot;
 use layout::geometry::Geometry;
 use layout::geometry::slot_of;
 use layout::levels::is_slot_start;
 use layout::numbers::DiskAddress;
+use layout::numbers::PublicNumber;
+use layout::public_map::map_entry;
 ghost use mathlib.Core.Path.{_≡_};
 ghost use mathlib.Core.Bool.{true};
 ghost use mathlib.Core.List.{[]};
 ghost use Rattle.model.specs.Geometry.{Fits};
 ghost use Rattle.model.specs.Layout.{Drive};
 ghost use Rattle.layout.specs.Geometries.{geometryOf};
-ghost use Rattle.recovery_model.specs.Recovery.{unlessZero, areStarts, withMarks};
+ghost use Rattle.recovery_model.specs.Recovery.{unlessZero, usedEntries, areStarts, withMarks};
 
 // Whether an entry is 0 or block A of one of the slots.
-pub fn is_formed(g: Geometry, entry: DiskAddress) -> bool
+fn is_formed(g: Geometry, entry: DiskAddress) -> bool
     requires { ⌜ Fits (geometryOf g) ⌝ }
     ensures { λ r. ⌜ r ≡ areStarts (geometryOf g) (unlessZero (entry .0) []) ⌝ }
 {
@@ -21,6 +23,22 @@ pub fn is_formed(g: Geometry, entry: DiskAddress) -> bool
         return true;
     }
     is_slot_start(g, entry)
+}
+
+// Whether every entry of the map is 0 or block A of one of the slots.
+pub fn is_map_formed(disk: &[u8], g: Geometry) -> bool
+    requires { ⌜ Drive (geometryOf g) (now disk) ⌝ }
+    ensures { λ r. ⌜ r ≡ areStarts (geometryOf g) (usedEntries (geometryOf g) (now (disk .entry))) ⌝ }
+{
+    let publics = g.publics;
+    let mut number: u32 = 0;
+    while number < publics {
+        if !is_formed(g, map_entry(disk, g, PublicNumber(number))) {
+            return false;
+        }
+        number += 1;
+    }
+    true
 }
 
 // Marks the slot of an entry that is 0 or block A of one of the slots; for 0 the disk stays as it is.

@@ -1,6 +1,5 @@
-// The map looked through: every entry is a slot's start, and no two numbers share one. For the second the
-// slots are taken a window of 32,768 at a time, one bit each in 4,096 bytes.
-use crate::entries::is_formed;
+// No two numbers share a place: the slots are taken a window of 32,768 at a time, one bit each in 4,096
+// bytes, and the map is looked through once for each window.
 use layout::bitmap::bit_at;
 use layout::bitmap::set_bit;
 use layout::geometry::Geometry;
@@ -11,26 +10,9 @@ use layout::numbers::PublicNumber;
 use layout::public_map::map_entry;
 ghost use mathlib.Core.Path.{_≡_};
 ghost use Prim.Native.Nat.{_<_};
-ghost use Rattle.model.specs.Layout.{Drive};
 ghost use Rattle.layout.specs.Geometries.{geometryOf};
-ghost use Rattle.recovery_model.specs.Recovery.{usedEntries, areStarts, areApart};
+ghost use Rattle.recovery_model.specs.Recovery.{usedEntries, areApart};
 ghost use Rattle.recovery.specs.Windows.{Window, Noted, Started, isWindowApart};
-
-// Whether every entry of the map is 0 or block A of one of the slots.
-pub fn is_map_formed(disk: &[u8], g: Geometry) -> bool
-    requires { ⌜ Drive (geometryOf g) (now disk) ⌝ }
-    ensures { λ r. ⌜ r ≡ areStarts (geometryOf g) (usedEntries (geometryOf g) (now (disk .entry))) ⌝ }
-{
-    let publics = g.publics;
-    let mut number: u32 = 0;
-    while number < publics {
-        if !is_formed(g, map_entry(disk, g, PublicNumber(number))) {
-            return false;
-        }
-        number += 1;
-    }
-    true
-}
 
 // Notes an entry in the bits of the window of slots that begins at `low`; answers whether it was noted
 // before. An entry outside the window is not noted.

@@ -64,7 +64,7 @@ mul-count : tie.Need-mul-count
 mul-count c = omega (arith, inside c)
 
 clear-at-requires : tie.Need-clear-at-requires
-clear-at-requires c κs = inside (c .before)
+clear-at-requires c κs = omega (arith, inside (c .before))
 
 same-length : tie.Need-same-length
 same-length c = search needs

@@ -44,17 +44,16 @@ is-map-apart-requires c κs = record { drive = startOf (formedOf c) .pre; starts
 returns-2 : tie.Need-returns-2
 returns-2 c =
     let told = c .before .is-map-apart in
-    let a = startOf (formedOf (c .before .before)) .args in
-    sym (mapChecks-not-apart (geometryOf (a .g)) (a .disk .now)
-    (sym (told .ensures) ∙ not-true (told .result) (c .if2 .taken)))
+    let formed = c .before .before in
+    let a = startOf (formedOf formed) .args in
+    sym (mapChecks-good (geometryOf (a .g)) (a .disk .now) (starts formed)
+    (sym (told .ensures) ∙ c .if2 .taken))
 
 returns-3 : tie.Need-returns-3
 returns-3 c =
     let told = c .before .is-map-apart in
-    let formed = c .before .before in
-    let a = startOf (formedOf formed) .args in
-    sym (mapChecks-good (geometryOf (a .g)) (a .disk .now) (starts formed)
-    (sym (told .ensures) ∙ not-false (told .result) (c .if2 .left)))
+    let a = startOf (formedOf (c .before .before)) .args in
+    sym (mapChecks-not-apart (geometryOf (a .g)) (a .disk .now) (sym (told .ensures) ∙ c .if2 .left))
 
 pub map-fault-spec : {M : Type 1} → statement M
 map-fault-spec =

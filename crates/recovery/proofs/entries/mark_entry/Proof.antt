@@ -1,6 +1,7 @@
 -- `recovery::entries::mark_entry` meets its contract: a 0 marks nothing, any other entry is the start of one
 -- of the slots. Assumes nothing.
 use mathlib.Core.Path.{sym, _∙_}
+use native.Mathlib.Omega.{arith}
 use borrow.Author.Needs.{needs}
 use Rattle.layout.specs.Geometries.{geometryOf}
 use Rattle.recovery_model.proofs.Laws.Steps.{withMarks-zero}
@@ -36,10 +37,14 @@ slot-of-requires c κs =
 
 mark-slot-requires : tie.Need-mark-slot-requires
 mark-slot-requires c κs =
-    let s = startOf (someOf c) in (
+    let s = startOf (someOf c) in
+    let slot = c .slot-of in (
       s .pre .0,
-      formed-slot (geometryOf (s .args .g)) (s .args .entry .0) (s .pre .1) (someOf c .if1 .left)
-          (c .slot-of .result) (c .slot-of .ensures),
+      omega (
+        arith,
+        formed-slot (geometryOf (s .args .g)) (s .args .entry .0) (s .pre .1) (someOf c .if1 .left)
+            (slot .result) (slot .ensures),
+      ),
     )
 
 same-length : tie.Need-same-length

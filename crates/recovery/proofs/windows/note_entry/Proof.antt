@@ -24,8 +24,8 @@ place-inside :
     (a .entry .0 - a .low) / a .width < windowSlots
 place-inside s =
     let a = startOf s .args in
-    window-place-lt (a .low) (a .width) (a .entry .0) (a .seen .now) (s .before .if1 .left) (s .if2 .left)
-    (startOf s .pre .width-low)
+    window-place-lt (a .low) (a .width) (a .entry .0) (a .seen .now) (s .before .if1 .left)
+    (omega (arith, s .if2 .left)) (startOf s .pre .width-low)
 
 -- ---- answers ----
 

@@ -1,12 +1,12 @@
--- `recovery::windows::is_map_formed` meets its contract. Invariant: every entry of a number before this one is
+-- `recovery::entries::is_map_formed` meets its contract. Invariant: every entry of a number before this one is
 -- 0 or a slot's start. The measure is the numbers left. Assumes nothing.
 use Prim.Native.Nat.{_-_}
 use borrow.Author.Needs.{needs}
 use borrow.Author.Tests.{not-true, not-false}
 use Rattle.layout.specs.Geometries.{geometryOf}
 use Rattle.recovery.proofs.Laws.Entries.{Formed, formed-none, formed-next, formed-not, formed-all}
-use Rattle.recovery.proofs.windows.is_map_formed.Statement.{statement}
-use Rattle.recovery.proofs.windows.is_map_formed.Tie as tie
+use Rattle.recovery.proofs.entries.is_map_formed.Statement.{statement}
+use Rattle.recovery.proofs.entries.is_map_formed.Tie as tie
 
 abbrev Inv-loop : tie.InvT-loop
 Inv-loop disk g publics number₀ number = Formed (geometryOf g) disk number

@@ -1,4 +1,4 @@
--- What holds of each member of a list: of a joined list, of what follows from it, and of its first members;
+-- What holds of each member of a list: of a joined list, of what follows from it, and of the first members;
 -- and lists of numbers without one twice. Assumes nothing.
 use mathlib.Core.Path.{sym}
 use mathlib.Core.Logic.{_≢_}
@@ -20,10 +20,10 @@ pub all-map :
 all-map P Q [] f h = tt
 all-map P Q (x ∷ xs) f h = (f x (h .0), all-map P Q xs f (h .1))
 
-pub all-take : {A : Type 0} (P : A → Type 0) (n : ℕ) (xs : List A) → All P xs → All P (take n xs)
+pub all-take : {A : Type 0} (P : A → Type 0) (count : ℕ) (xs : List A) → All P xs → All P (take count xs)
 all-take P zero xs h = tt
-all-take P (suc n) [] h = tt
-all-take P (suc n) (x ∷ xs) h = (h .0, all-take P n xs (h .1))
+all-take P (suc count) [] h = tt
+all-take P (suc count) (x ∷ xs) h = (h .0, all-take P count xs (h .1))
 
 -- ---- no number twice ----
 

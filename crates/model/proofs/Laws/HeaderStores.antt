@@ -1,10 +1,10 @@
 -- Laws of the header under the stores of a write: what goes to it keeps the five numbers and has a head slot
 -- among the slots, so that after any of the stores the disk is a drive of the same geometry. Assumes nothing.
 use mathlib.Core.Path.{_≡_, refl, sym, ap, _∙_, subst}
-use mathlib.Core.Logic.{_≢_, _⊎_, inl, inr, ⊎-elim}
+use mathlib.Core.Logic.{_≢_, _⊎_, inl, inr}
 use mathlib.Core.Bool.{true, false}
-use mathlib.Core.List.{[], _∷_, _++_}
-use Prim.Native.Nat.{ℕ, zero, suc, _+_, _*_, _≤_, _<_}
+use mathlib.Core.List.{[], _∷_}
+use Prim.Native.Nat.{ℕ, zero, suc, _*_, _≤_, _<_}
 use native.Mathlib.Omega.{arith}
 use lib.ListN.{length, drop}
 use Rattle.laws.proofs.Cases.{bool-cases, eq-cases}
@@ -15,7 +15,7 @@ use Rattle.model.specs.Layout.{geometryIn, headIn, nextSlot, isAllocated
 use Rattle.model.specs.Stores.{Store, Trace, apply, addresses}
 use Rattle.model.specs.Table.{PublicChoice, keepPublic, writePublic}
 use Rattle.model.specs.HiddenHalf.{HiddenHalf, HiddenState, hiddenHalf}
-use Rattle.model.specs.Rounds.{Run, publicStore, headerStore, mapStores, roundTrace, runFrom}
+use Rattle.model.specs.Rounds.{Run, headerStore, mapStores, roundTrace, runFrom}
 use Rattle.model.specs.Refusals.{driveRefusal, writeRefusal}
 use Rattle.model.specs.Calls.{Offered, offeredWrites, startState, writeRun, Written, written}
 use Rattle.model.proofs.Laws.Geometry.{geometry-ext}
@@ -24,11 +24,10 @@ use Rattle.model.proofs.Laws.Entries.{entryAt-setEntry-same, entryAt-se
 use Rattle.model.proofs.Laws.Slots.{nextSlot-lt}
 use Rattle.model.proofs.Laws.Stores.{Stored}
 use Rattle.model.proofs.Laws.Refusals.{Accepted, accepted-of-refusal, refusal-of-accepted}
-use Rattle.model.proofs.Laws.Accepted.{AcceptedWrite, accepted-of-write, driveRefusal-of-write}
+use Rattle.model.proofs.Laws.Accepted.{accepted-of-write, driveRefusal-of-write}
 use Rattle.model.proofs.Laws.MapStores.{InFront, mapStores-inFront}
 use Rattle.model.proofs.Laws.RoundStores.{HiddenAddress, hides-addresses, publicStore-address}
 use Rattle.model.proofs.Laws.RoundStores.{afterRound, header-fits, round-stored, Round, old-of-round}
-use Rattle.model.proofs.Laws.Rounds.{entryAt-round, headIn-round}
 use Rattle.model.proofs.Laws.RoundCounts.{roundsTo-zero}
 use Rattle.model.proofs.Laws.Ready.{Ready, ready-kept, ready-round, runFrom-kept, runFrom-last}
 use Rattle.model.proofs.Laws.WriteRuns.{ready-of-write}
@@ -95,10 +94,14 @@ module _ {g : Geometry} {disk : Bytes} (drive : DriveOf g disk) where
 
 -- ---- stores that leave one ----
 
--- a store of a whole block inside the disk that, where it goes to the header, is such bytes
+-- a store that puts such bytes in the header, where it goes there
+abbrev LeavesHead : Geometry → Store → Type 0
+LeavesHead g x = x .address ≡ 0 → HeadOf g (x .content)
+
+-- and is of a whole block and inside the disk
 pub record KeepsDrive (g : Geometry) (x : Store) : Type 0 where
   pub stored : Stored (blockWidth g) (blockCount g) x
-  pub header : x .address ≡ 0 → HeadOf g (x .content)
+  pub header : LeavesHead g x
 
 driveOf-setBlock :
     {g : Geometry} {disk : Bytes} → DriveOf g disk → (x : Store) → KeepsDrive g x →
@@ -131,10 +134,6 @@ driveOf-apply [] keeps drive = drive
 driveOf-apply (x ∷ xs) keeps drive = driveOf-apply xs (keeps .1) (driveOf-setBlock drive x (keeps .0))
 
 -- ---- the stores of a write ----
-
--- what a store leaves in the header
-abbrev LeavesHead : Geometry → Store → Type 0
-LeavesHead g x = x .address ≡ 0 → HeadOf g (x .content)
 
 -- stores that go elsewhere
 leaves-away :
@@ -231,7 +230,7 @@ module _ (g : Geometry) (f : Fits g) (number : ℕ) (content : Bytes) (known : n
   runFrom-keeps (suc most) disk slot random state drive ready =
       one-more-keeps most (runFrom-keeps most) disk slot random state drive ready
 
--- refused or not
+-- every store of a write, refused or not
 pub written-keeps :
     (disk : Bytes) (number : ℕ) (content random : Bytes) (room : ℕ) (offer : Offered) →
     All (KeepsDrive (geometryIn disk)) (written disk number content random room offer .trace)

@@ -1,7 +1,7 @@
 -- One write side by side on two drives that show the same: with the same public part they are refused alike,
 -- their stores are side by side, and the two drives that they leave show the same, whatever is offered and
 -- whatever the random bytes are. Assumes nothing.
-use mathlib.Core.Path.{_≡_, sym, ap, ap₂, _∙_, subst}
+use mathlib.Core.Path.{_≡_, sym, ap₂, _∙_, subst}
 use mathlib.Core.Logic.{⊎-elim}
 use mathlib.Core.List.{List}
 use Prim.Native.Nat.{ℕ}

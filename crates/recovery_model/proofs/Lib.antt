@@ -1,3 +1,3 @@
-pub mod Views
 pub mod Volumes
+pub mod Views
 pub mod Theorems

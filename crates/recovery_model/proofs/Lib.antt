@@ -1,2 +1,4 @@
+pub mod Laws
+pub mod Tree
 pub mod Volumes
 pub mod Theorems

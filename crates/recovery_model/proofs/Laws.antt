@@ -1,0 +1,2 @@
+-- Laws of a write that is cut after so many stores. Assumes nothing.
+pub mod CutHalves

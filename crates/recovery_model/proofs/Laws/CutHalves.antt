@@ -5,7 +5,7 @@ use mathlib.Core.Logic.{_≢_}
 use mathlib.Core.List.{[], _∷_, _++_}
 use Prim.Native.Nat.{ℕ, suc, _+_, _-_, _≤_, _<_}
 use native.Mathlib.Omega.{arith}
-use lib.ListN.{length, take, drop, take-append-drop}
+use lib.ListN.{length, take, drop, length-append, take-append-drop}
 use lib.Seq.{take-append-le, drop-append-le}
 use Rattle.laws.proofs.Members.{All, all-append}
 use Rattle.model.specs.Geometry.{Geometry, rootAddress}
@@ -13,7 +13,8 @@ use Rattle.model.specs.Blocks.{Bytes, DiskAddress}
 use Rattle.model.specs.Layout.{slotStart}
 use Rattle.model.specs.Stores.{Trace, addresses}
 use Rattle.model.specs.Simulator.{addressesFrom}
-use Rattle.model.proofs.Laws.Stores.{lastAt, lastAt-append, lastAt-outside, addresses-take, addresses-drop}
+use Rattle.model.proofs.Laws.Stores.{addresses-take, addresses-drop, length-addresses, lastAt, lastAt-append}
+use Rattle.model.proofs.Laws.Stores.{lastAt-outside}
 use Rattle.model.proofs.Laws.Paths.{Hides}
 use Rattle.model.proofs.Laws.RoundCounts.{length-addressesFrom}
 use Rattle.model.proofs.Laws.RoundStores.{all-addressesFrom, take-addressesFrom, drop-addressesFrom}
@@ -73,3 +74,10 @@ module _ (g : Geometry) (slot : ℕ) (trace : Trace) (hides : Hides g slot trace
       (all-addressesFrom (λ (other : ℕ). address ≢ other) (slotStart g slot + 1 + count) (g .height - count)
       (λ i l e. omega arith))
       ((λ e. omega arith), tt))))
+
+-- a half has a store for each of the slot's hidden blocks, and one for the root
+pub length-half : (g : Geometry) (slot : ℕ) (trace : Trace) → Hides g slot trace → length trace ≡ suc (g .height)
+length-half g slot trace hides =
+    sym (length-addresses trace) ∙ ap length (hides .runs)
+    ∙ length-append (addressesFrom (slotStart g slot + 1) (g .height)) (rootAddress g ∷ [])
+    ∙ omega (arith, length-addressesFrom (slotStart g slot + 1) (g .height))

@@ -1,7 +1,7 @@
 -- A hidden half that is cut before its root (document 02, K5): the new disk has a ghost tree again, and no
--- number shows anything else. A slot that the tree does not use may hold anything; a live one gets its owner's
--- path anew, which is planted up to the greatest level that the slot holds of it among those stored. Assumes
--- nothing.
+-- number shows anything else. A slot that the tree does not use may hold anything; a live one gets its
+-- owner's path anew, which is planted up to the greatest level that the slot holds of it among those stored.
+-- Assumes nothing.
 use mathlib.Core.Path.{_≡_, refl, sym, ap, _∙_, subst}
 use mathlib.Core.Logic.{_≢_, inr, ⊎-elim}
 use mathlib.Core.Bool.{true, false}

@@ -76,7 +76,8 @@ module _ (g : Geometry) (slot : ℕ) (trace : Trace) (hides : Hides g slot trace
       ((λ e. omega arith), tt))))
 
 -- a half has a store for each of the slot's hidden blocks, and one for the root
-pub length-half : (g : Geometry) (slot : ℕ) (trace : Trace) → Hides g slot trace → length trace ≡ suc (g .height)
+pub length-half :
+    (g : Geometry) (slot : ℕ) (trace : Trace) → Hides g slot trace → length trace ≡ suc (g .height)
 length-half g slot trace hides =
     sym (length-addresses trace) ∙ ap length (hides .runs)
     ∙ length-append (addressesFrom (slotStart g slot + 1) (g .height)) (rootAddress g ∷ [])

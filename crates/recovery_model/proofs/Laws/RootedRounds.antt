@@ -1,11 +1,31 @@
--- Laws of how many rounds of a cut write have their root stored (document 02, K5): none before store k + 2 of
--- the first round, then one, and with each whole kept round of k + 3 stores one more. Assumes nothing.
-use mathlib.Core.Path.{_≡_, ap, _∙_}
+-- Laws of how many rounds of a cut write have their root stored (document 02, K5): a round that another
+-- follows has k + 3 stores; no root is stored before store k + 2 of the first round, then one, and with each
+-- whole kept round one more. Assumes nothing.
+use mathlib.Core.Path.{_≡_, sym, ap, _∙_}
+use mathlib.Core.List.{[], _∷_}
 use Prim.Native.Nat.{ℕ, suc, _+_, _-_, _/_, _≤_, _<_}
 use native.Mathlib.Nat.{div-eq-of-lt, div-eq-sub-div, zero-div}
 use native.Mathlib.Omega.{arith}
+use lib.ListN.{length, length-append}
 use Rattle.model.specs.Geometry.{Geometry}
+use Rattle.model.specs.Blocks.{Bytes}
+use Rattle.model.specs.Stores.{Trace}
+use Rattle.model.specs.Table.{keepPublic}
+use Rattle.model.specs.Rounds.{roundTrace}
+use Rattle.model.specs.Simulator.{slotAddresses}
+use Rattle.model.proofs.Laws.Stores.{length-addresses}
+use Rattle.model.proofs.Laws.Paths.{Hides}
+use Rattle.model.proofs.Laws.RoundCounts.{length-slotAddresses}
+use Rattle.model.proofs.Laws.RoundStores.{addresses-kept}
 use Rattle.recovery_model.specs.Cuts.{rootedRounds}
+
+pub length-kept-round :
+    (g : Geometry) (disk : Bytes) (number slot : ℕ) (content : Bytes) (hidden : Trace) → Hides g slot hidden →
+    length (roundTrace keepPublic g disk number slot content hidden) ≡ g .height + 3
+length-kept-round g disk number slot content hidden hides =
+    sym (length-addresses (roundTrace keepPublic g disk number slot content hidden))
+    ∙ ap length (addresses-kept g disk number slot content hidden hides)
+    ∙ length-append (slotAddresses g slot) (0 ∷ []) ∙ omega (arith, length-slotAddresses g slot)
 
 module _ (g : Geometry) (bound : ℕ) where
   pub rootedRounds-none : bound < g .height + 2 → rootedRounds g bound ≡ 0

@@ -2,11 +2,11 @@
 -- number shows anything else, from the root on what the whole half placed; a kept round leaves map and public
 -- blocks, a last one enters the new place with the map block; and a cut behind a whole kept round. Assumes
 -- nothing.
-use mathlib.Core.Path.{_≡_, sym, ap, _∙_, subst}
+use mathlib.Core.Path.{_≡_, refl, sym, ap, _∙_, subst}
 use mathlib.Core.Logic.{_≢_, ⊎-elim}
 use mathlib.Core.Bool.{true, false}
 use Prim.Native.Nat.{ℕ, suc, _+_, _*_, _-_, _≤_, _<_}
-use native.Mathlib.Nat.{suc-mul}
+use native.Mathlib.Nat.{suc-mul, mul-le-mul-right}
 use native.Mathlib.Omega.{arith}
 use lib.ListN.{length}
 use lib.Seq.{take-all}
@@ -23,7 +23,7 @@ use Rattle.model.proofs.Laws.RoundEffects.{mapEntry-kept, isAllocated-kept, blo
 use Rattle.model.proofs.Laws.Ready.{Ready, ready-round}
 use Rattle.model.proofs.Tree.Ghost.{Tree, Ghost}
 use Rattle.model.proofs.Tree.Stored.{StoredBy}
-use Rattle.model.proofs.Tree.Turns.{hiddenHalf-turns}
+use Rattle.model.proofs.Tree.Turns.{still, hiddenHalf-turns}
 use Rattle.model.proofs.Volumes.Growth.{Grew, grew-of-turned, grew-then, round-grew}
 use Rattle.recovery_model.proofs.Laws.CutHalves.{length-half}
 use Rattle.recovery_model.proofs.Laws.CutRounds.{cutRound, length-cutRound, cutRound-stored}
@@ -51,6 +51,26 @@ pub record CutRun (g : Geometry) (number : ℕ) (content : Bytes) (bound : ℕ) 
       (other : ℕ) → other < g .publics → other ≢ number → mapEntry g cut other ≡ mapEntry g disk other
   pub map-old : bound < run .rounds * (g .height + 3) → mapEntry g cut number ≡ mapEntry g disk number
   pub new-place : run .rounds * (g .height + 3) ≤ bound → NewPlace g disk cut number content
+
+-- no store made
+pub cut-nothing :
+    (g : Geometry) → Fits g → (number : ℕ) (content disk : Bytes) (state : HiddenState) (run : Run) →
+    length disk ≡ blockCount g * g .blockSize → headIn disk < g .slots → 1 ≤ run .rounds →
+    state .placed ≤ run .state .placed → CutRun g number content 0 disk disk state run state
+cut-nothing g f number content disk state run whole inside some-rounds placed-le =
+    record {
+      whole = whole;
+      fields = λ i h. refl;
+      head = inside;
+      grew = λ tree ghost.
+          grew-of-turned g f disk disk tree state state
+          (record { grown = tree; ghost = ghost; turn = still refl (λ other h. refl) });
+      placed-le = placed-le;
+      block-kept = λ other h marked. refl;
+      map-other = λ other h ne. refl;
+      map-old = λ h. refl;
+      new-place = λ h. absurd (omega (arith, mul-le-mul-right (g .height + 3) some-rounds));
+    }
 
 module _ (g : Geometry) (f : Fits g) (number : ℕ) (counted : number < g .publics) (content : Bytes)
     (sized : length content ≡ g .blockSize) (most : ℕ) (disk : Bytes) (slot : ℕ) (random : Bytes)

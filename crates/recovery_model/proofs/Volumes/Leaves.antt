@@ -41,7 +41,7 @@ use Rattle.model.proofs.Volumes.Shown.{carries-placed}
 use Rattle.model.proofs.Theorems.TreeCheck.{accepted-of-pass, sound-of-pass}
 use Rattle.recovery_model.specs.Cuts.{cutDisk, rootedRounds, placedWithin}
 use Rattle.recovery_model.specs.Promises.Recovery.{Recoverable}
-use Rattle.recovery_model.proofs.Volumes.CutLeaves.{NewPlace, CutLeaves}
+use Rattle.recovery_model.proofs.Volumes.CutLeaves.{CutLeaves}
 use Rattle.recovery_model.proofs.Volumes.Cuts.{CutRun}
 use Rattle.recovery_model.proofs.Volumes.CutRuns.{runFrom-cut}
 
@@ -113,7 +113,9 @@ module _ (disk : Bytes) (half : PublicHalf) (offer : Offered) (bound : ℕ) (dri
     cut = apply (blockWidth g) (take bound (run .trace)) disk
 
     good : AcceptedNumber g disk (half .number) (length (half .content))
-    good = accepted-of-write disk (half .number) (half .content) (length (half .random)) (half .room) free .accepted
+    good =
+        accepted-of-write disk (half .number) (half .content) (length (half .random)) (half .room) free
+        .accepted
 
     cut-run : CutRun g (half .number) (half .content) bound disk cut (startState writes) run rooted
     cut-run =
@@ -125,7 +127,8 @@ module _ (disk : Bytes) (half : PublicHalf) (offer : Offered) (bound : ℕ) (dri
     done-is : result ≡ doneWrite (offerRefusal g offer) run
     done-is =
         written-done disk (half .number) (half .content) (half .random) (half .room) offer free
-        ∙ ap (doneWrite (offerRefusal g offer)) (writeRun-is g disk (half .number) (half .content) (half .random) offer)
+        ∙ ap (doneWrite (offerRefusal g offer))
+        (writeRun-is g disk (half .number) (half .content) (half .random) offer)
 
     rounds-are : result .rounds ≡ run .rounds
     rounds-are = ap (λ (made : Written). made .rounds) done-is

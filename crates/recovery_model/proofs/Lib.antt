@@ -1,3 +1,5 @@
+pub mod Laws
+pub mod Tree
 pub mod Volumes
 pub mod Views
 pub mod Theorems

@@ -1,6 +1,6 @@
 -- Laws of the map's entries that are not 0: the list by its first and by its last number, whose entries are
 -- in it, and marks set for a list. Assumes nothing.
-use mathlib.Core.Path.{_≡_, refl, sym, ap, _∙_}
+use mathlib.Core.Path.{_≡_, refl, sym, ap, ap₂, _∙_}
 use mathlib.Core.Logic.{_≢_, _⊎_, inl, inr, ⊎-elim}
 use mathlib.Core.Bool.{true}
 use mathlib.Core.List.{List, [], _∷_, _++_, append-nil}
@@ -103,6 +103,18 @@ module _ (g : Geometry) (disk : Bytes) where
       usedFrom-snoc number count
       ∙ ap (λ (last : List DiskAddress). usedFrom g disk number count ++ last)
       (unlessZero-some (mapEntry g disk (number + count)) [] ne)
+
+  -- two disks with the same entries there
+  pub usedFrom-same :
+      (other : Bytes) (number count : ℕ) →
+      ((owner : ℕ) → number ≤ owner → owner < number + count →
+      mapEntry g disk owner ≡ mapEntry g other owner) →
+      usedFrom g disk number count ≡ usedFrom g other number count
+  unfolding usedFrom
+  usedFrom-same other number zero same = refl
+  usedFrom-same other number (suc count) same =
+      ap₂ unlessZero (same number (omega arith) (omega arith))
+      (usedFrom-same other (suc number) count (λ owner h k. same owner (omega arith) (omega arith)))
 
   -- ---- whose entries are in the list ----
 

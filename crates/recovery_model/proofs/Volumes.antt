@@ -1,2 +1,5 @@
 -- Both volumes under a write that is cut, and recovered. Assumes nothing.
 pub mod CutLeaves
+pub mod Recoverable
+pub mod Recovers
+pub mod LineCuts

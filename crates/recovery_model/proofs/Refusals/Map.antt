@@ -1,6 +1,6 @@
 -- Refusal 17: the test of the map holds exactly if some entry other than 0 is no slot's public block or is
 -- shared by two numbers, and a recovery's chain answers its conditions. Assumes nothing.
-use mathlib.Core.Path.{_≡_, refl, sym, ap, _∙_}
+use mathlib.Core.Path.{_≡_, refl, ap, _∙_}
 use mathlib.Core.Logic.{_⊎_, inl, inr, ⊎-elim}
 use mathlib.Core.Bool.{true, not, _&&_}
 use mathlib.Core.List.{_++_}
@@ -10,7 +10,7 @@ use Rattle.laws.proofs.Cases.{and-left, and-right, bool-cases, true-is-not-fals
 use Rattle.laws.proofs.Decides.{Decides}
 use Rattle.model.specs.Geometry.{Geometry}
 use Rattle.model.specs.Blocks.{Bytes}
-use Rattle.model.specs.Layout.{geometryIn, slotOf, slotStart, isSlotBlock, mapEntry}
+use Rattle.model.specs.Layout.{geometryIn, slotOf, isSlotBlock, mapEntry}
 use Rattle.model.specs.Refusals.{driveChecks}
 use Rattle.model.specs.Conditions.{Answers, driveConditions}
 use Rattle.model.proofs.Laws.Slots.{isSlotBlock-slotStart, slotBlock-of}

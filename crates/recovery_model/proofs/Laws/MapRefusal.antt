@@ -1,5 +1,5 @@
--- Laws of refusal 17: after 1 to 3, what it says of the map where it is not given, and when it is not given.
--- Assumes nothing.
+-- Laws of refusal 17, which comes after 1 to 3: what holds of the map where it is not given, and the other
+-- way round; and two disks with one map. Assumes nothing.
 use mathlib.Core.Path.{_≡_, refl, sym, ap, _∙_, subst}
 use mathlib.Core.Logic.{_≢_, ⊎-elim}
 use mathlib.Core.Bool.{true, not, _&&_}
@@ -13,10 +13,9 @@ use Rattle.model.specs.Geometry.{Geometry}
 use Rattle.model.specs.Blocks.{Bytes, DiskAddress}
 use Rattle.model.specs.Layout.{geometryIn, isSlotBlock, mapEntry}
 use Rattle.model.specs.Refusals.{driveRefusal}
-use Rattle.model.proofs.Laws.Refusals.{after-drive-pass, after-drive-stop, driveRefusal-of-chain}
-use Rattle.model.proofs.Laws.Refusals.{passed-after-drive}
+use Rattle.model.proofs.Laws.Refusals.{after-drive-pass, driveRefusal-of-chain, passed-after-drive}
 use Rattle.recovery_model.specs.Recovery.{usedEntries, areStarts, areApart, mapChecks, recoveryRefusal}
-use Rattle.recovery_model.proofs.Laws.MapTests.{Sharing, start-of-areStarts, areStarts-of-starts}
+use Rattle.recovery_model.proofs.Laws.MapTests.{Sharing, start-of-used, areStarts-of-starts}
 use Rattle.recovery_model.proofs.Laws.MapTests.{apart-of-areApart, areApart-of-apart}
 
 -- a map that 17 does not meet
@@ -32,14 +31,9 @@ numbered-map : (g : Geometry) (disk : Bytes) → Numbered (mapChecks g disk)
 unfolding mapChecks
 numbered-map g disk = (λ e. omega arith, tt)
 
-module _ (disk : Bytes) where
-  pub recoveryRefusal-drive : driveRefusal disk ≢ 0 → recoveryRefusal disk ≡ driveRefusal disk
-  unfolding recoveryRefusal
-  recoveryRefusal-drive ne = after-drive-stop disk (mapChecks (geometryIn disk) disk) ne
-
-  pub driveRefusal-of-recovery : recoveryRefusal disk ≡ 0 → driveRefusal disk ≡ 0
-  unfolding recoveryRefusal
-  driveRefusal-of-recovery e = driveRefusal-of-chain disk (mapChecks (geometryIn disk) disk) e
+pub driveRefusal-of-recovery : (disk : Bytes) → recoveryRefusal disk ≡ 0 → driveRefusal disk ≡ 0
+unfolding recoveryRefusal
+driveRefusal-of-recovery disk e = driveRefusal-of-chain disk (mapChecks (geometryIn disk) disk) e
 
 module _ (g : Geometry) (disk : Bytes) (states : geometryIn disk ≡ g) where
   abbrev used : List DiskAddress
@@ -63,7 +57,7 @@ module _ (g : Geometry) (disk : Bytes) (states : geometryIn disk ≡ g) where
   goodMap-of-recovery e =
       record {
         starts = λ number h ne.
-            start-of-areStarts g disk 0 (g .publics) (areStarts-of-recovery e) (mapEntry g disk number)
+            start-of-used g disk 0 (g .publics) (areStarts-of-recovery e) (mapEntry g disk number)
             (record { owner = number; low = omega arith; high = omega arith; mapped = ne; entry-is = refl });
         apart = λ number other h k ne p. ⊎-elim
             (λ same. same)
@@ -95,7 +89,7 @@ module _ (g : Geometry) (disk : Bytes) (states : geometryIn disk ≡ g) where
           (and-right (areStarts g used) (areApart used) (tests-of-recovery e))
 
   module _ (accepted : driveRefusal disk ≡ 0) where
-    pub recoveryRefusal-of-tests : areStarts g used ≡ true → areApart used ≡ true → recoveryRefusal disk ≡ 0
+    recoveryRefusal-of-tests : areStarts g used ≡ true → areApart used ≡ true → recoveryRefusal disk ≡ 0
     unfolding recoveryRefusal mapChecks
     recoveryRefusal-of-tests starts apart =
         after-drive-pass disk (mapChecks (geometryIn disk) disk) accepted

@@ -164,10 +164,10 @@ module _ (g : Geometry) where
       (bool-cases (isSlotBlock g 0 first))
 
   module _ (disk : Bytes) (number count : ℕ) where
-    pub start-of-areStarts :
+    pub start-of-used :
         areStarts g (usedFrom g disk number count) ≡ true → (entry : DiskAddress) →
         UsedBy g disk number count entry → isSlotBlock g 0 entry ≡ true
-    start-of-areStarts e entry used =
+    start-of-used e entry used =
         isSlotBlock-of-areStarts (usedFrom g disk number count) e entry
         (isOneOf-of-usedBy g disk entry number count used)
 

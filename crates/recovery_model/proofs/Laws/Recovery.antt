@@ -160,6 +160,6 @@ module _ (g : Geometry) (disk torn : Bytes) (states : geometryIn disk ≡ g) (go
       recovered-done g torn states-torn recoveryRefusal-torn
       ∙ ap₂ (withMarks g)
       (usedFrom-same g torn disk 0 (g .publics)
-      (λ owner low high. mapEntry-torn g disk torn states before same owner (omega arith)))
+      (λ number h. mapEntry-torn g disk torn states before same number (omega arith)))
       withoutBits-torn
       ∙ sym (recovered-done g disk states good)

@@ -18,7 +18,7 @@ use Rattle.model.proofs.Refusals.Answers.{Judges, judges-append, answers-of-jud
 use Rattle.model.proofs.Refusals.Drive.{judges-drive}
 use Rattle.recovery_model.specs.Recovery.{usedEntries, areStarts, areApart, mapChecks, recoveryRefusal}
 use Rattle.recovery_model.specs.MapConditions.{NoStart, SharedEntry, mapConditions}
-use Rattle.recovery_model.proofs.Laws.MapTests.{Unstarted, Sharing, start-of-areStarts}
+use Rattle.recovery_model.proofs.Laws.MapTests.{Unstarted, Sharing, start-of-used}
 use Rattle.recovery_model.proofs.Laws.MapTests.{unstarted-of-areStarts, apart-of-areApart}
 use Rattle.recovery_model.proofs.Laws.MapTests.{sharing-of-areApart}
 
@@ -40,7 +40,7 @@ module _ (g : Geometry) (disk : Bytes) where
       let entry = mapEntry g disk (fault .number) in
       let block =
       slotBlock-of g 0 entry
-      (start-of-areStarts g disk 0 (g .publics) e entry
+      (start-of-used g disk 0 (g .publics) e entry
       (record {
         owner = fault .number;
         low = omega arith;

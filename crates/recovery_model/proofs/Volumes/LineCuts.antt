@@ -1,6 +1,6 @@
--- Reads through a line as it was lent, on a drive on which a write with it was cut and that is recovered: they
--- show what they did, since a number under which a block waits shows that block, and any other is none of
--- those that the write placed. Assumes nothing.
+-- Reads through a line as it was lent, on a drive on which a write with it was cut and that is recovered:
+-- they show what they did, since a number under which a block waits shows that block, and any other is none
+-- of those that the write placed. Assumes nothing.
 use mathlib.Core.Path.{_≡_, refl, sym, ap, subst, _∙_}
 use mathlib.Core.List.{List}
 use mathlib.Core.Option.{Option, none, some}

@@ -1,4 +1,8 @@
--- Laws of the definitions, file by file. Assumes nothing.
+-- The laws of this crate's definitions, a file for each idea. Assumes nothing.
+pub mod CutHalves
+pub mod CutRounds
+pub mod CutEffects
+pub mod RootedRounds
 pub mod Used
 pub mod MapTests
 pub mod Marks

@@ -11,16 +11,16 @@ use Rattle.model.specs.Blocks.{Bytes, DiskAddress}
 use Rattle.model.specs.Layout.{geometryIn}
 use Rattle.model.specs.Stores.{Trace, apply, addresses}
 use Rattle.model.specs.Calls.{Offered, inLine, Written, writtenDisk, writtenList}
-use Rattle.model.specs.View.{Alike}
-use Rattle.model.specs.Promises.Waiting.{PublicHalf, halfWritten}
+use Rattle.model.specs.Promises.Waiting.{PublicHalf}
 use Rattle.recovery_model.specs.Cuts.{cutTrace, cutDisk, cutList}
-use Rattle.recovery_model.specs.Promises.Recovery.{Recoverable, Recovers, CutAlike, Recovery}
+use Rattle.recovery_model.specs.Promises.Recovery.{Recoverable, Recovers, Recovery}
 use Rattle.recovery_model.proofs.Laws.Recovery.{recovered-refused, rebuilt-recovered, recovered-again}
 use Rattle.recovery_model.proofs.Refusals.Map.{answers-recovery}
-use Rattle.recovery_model.proofs.Volumes.CutLeaves.{CutLeaves}
+use Rattle.recovery_model.proofs.Volumes.Leaves.{cut-leaves}
 use Rattle.recovery_model.proofs.Volumes.Recoverable.{recoverable-of-sound}
 use Rattle.recovery_model.proofs.Volumes.Recovers.{recovers-of-leaves}
 use Rattle.recovery_model.proofs.Volumes.LineCuts.{lineRead-recovered}
+use Rattle.recovery_model.proofs.Views.CutDrives.{cut-alike}
 use Rattle.recovery_model.proofs.Theorems.RecoveryFigures.{recovery-figures}
 
 -- all stores are made
@@ -38,36 +38,27 @@ uncut disk list result bound h =
       ap (λ (trace : Trace). over 0 (addresses trace) list) e,
     )
 
-module _
-    (cut-leaves :
+-- every cut of every write
+cut-recovers :
     (g : Geometry) (disk : Bytes) (half : PublicHalf) (offer : Offered) (bound : ℕ) → Recoverable g disk →
-    CutLeaves g disk half offer bound (cutDisk bound (halfWritten half disk offer) disk))
-    (alike :
-    (disk other : Bytes) (half otherHalf : PublicHalf) (offer otherOffer : Offered) (bound : ℕ) →
-    Alike disk other → half .number ≡ otherHalf .number → half .content ≡ otherHalf .content →
-    length (half .random) ≡ length (otherHalf .random) → half .room ≡ otherHalf .room →
-    CutAlike disk other (halfWritten half disk offer) (halfWritten otherHalf other otherOffer) bound) where
-  -- every cut of every write
-  cut-recovers :
-      (g : Geometry) (disk : Bytes) (half : PublicHalf) (offer : Offered) (bound : ℕ) → Recoverable g disk →
-      Recovers g disk half offer bound
-  cut-recovers g disk half offer bound whole =
-      recovers-of-leaves g disk half offer bound whole (cut-leaves g disk half offer bound whole)
+    Recovers g disk half offer bound
+cut-recovers g disk half offer bound whole =
+    recovers-of-leaves g disk half offer bound whole (cut-leaves g disk half offer bound whole)
 
-  pub recovery : Recovery
-  recovery =
-      record {
-        figures = recovery-figures;
-        exact = answers-recovery;
-        refused = recovered-refused;
-        rebuilt = λ disk good. rebuilt-recovered (geometryIn disk) disk refl good;
-        again = λ disk torn good same.
-            recovered-again (geometryIn disk) disk torn refl good same;
-        uncut = uncut;
-        sound-recoverable = recoverable-of-sound;
-        recovers = cut-recovers;
-        line-same = λ g disk half blocks line bound asked blank whole low sized.
-            lineRead-recovered g blocks line asked blank low sized disk half bound whole
-            (cut-recovers g disk half (inLine blocks line) bound whole);
-        alike = alike;
-      }
+pub recovery : Recovery
+recovery =
+    record {
+      figures = recovery-figures;
+      exact = answers-recovery;
+      refused = recovered-refused;
+      rebuilt = λ disk good. rebuilt-recovered (geometryIn disk) disk refl good;
+      again = λ disk torn good same.
+          recovered-again (geometryIn disk) disk torn refl good same;
+      uncut = uncut;
+      sound-recoverable = recoverable-of-sound;
+      recovers = cut-recovers;
+      line-same = λ g disk half blocks line bound asked blank whole low sized.
+          lineRead-recovered g blocks line asked blank low sized disk half bound whole
+          (cut-recovers g disk half (inLine blocks line) bound whole);
+      alike = cut-alike;
+    }

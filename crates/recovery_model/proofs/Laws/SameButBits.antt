@@ -1,19 +1,18 @@
 -- Two disks that differ in the bitmap alone: the same header and so the same answers of refusals 1 to 3, the
 -- same map, the same blocks from the root on, and the same hidden volume. Assumes nothing.
-use mathlib.Core.Path.{_≡_, sym, ap, _∙_, subst}
+use mathlib.Core.Path.{_≡_}
 use mathlib.Core.Logic.{inl, inr}
-use Prim.Native.Nat.{ℕ, _+_, _*_, _≤_, _<_}
+use Prim.Native.Nat.{ℕ, _≤_, _<_}
 use native.Mathlib.Omega.{arith}
-use Rattle.model.specs.Geometry.{Geometry, Fits, rootAddress, blockWidth, driveSize, isGeometry}
-use Rattle.model.specs.Blocks.{Bytes, DiskAddress, blockAt, entryAt}
-use Rattle.model.specs.Layout.{geometryIn, headIn, mapAddress, mapEntry}
+use Rattle.model.specs.Geometry.{Geometry, Fits, rootAddress, blockWidth}
+use Rattle.model.specs.Blocks.{Bytes, DiskAddress, blockAt}
+use Rattle.model.specs.Layout.{geometryIn, mapAddress, mapEntry}
 use Rattle.model.specs.Refusals.{driveRefusal}
 use Rattle.model.specs.Calls.{hiddenRead}
 use Rattle.model.specs.Invariants.{HiddenInvariant}
-use Rattle.model.proofs.Laws.Geometry.{mapAddress-lt, geometry-ext}
-use Rattle.model.proofs.Laws.Entries.{entryAt-header}
+use Rattle.model.proofs.Laws.Geometry.{mapAddress-lt}
 use Rattle.model.proofs.Laws.PublicMap.{mapEntry-block}
-use Rattle.model.proofs.Laws.Refusals.{accepted-of-refusal, refusal-of-accepted}
+use Rattle.model.proofs.Laws.HeaderStores.{DriveOf, headOf-driveOf, driveOf-header}
 use Rattle.model.proofs.Tree.Agreed.{hiddenInvariant-agreed, hiddenRead-agreed}
 use Rattle.model.proofs.Volumes.Writes.{fits-of-accepted}
 use Rattle.recovery_model.specs.Promises.Recovery.{SameButBits}
@@ -25,28 +24,17 @@ module _ (g : Geometry) (disk torn : Bytes) (states : geometryIn disk ≡ g) (ac
 
   -- ---- the header ----
 
-  entryAt-torn : (index : ℕ) → index < 6 → entryAt index torn ≡ entryAt index disk
-  entryAt-torn index h =
-      let inside : 4 * index + 4 ≤ g .blockSize = omega (arith, f .size-low) in
-      entryAt-header (blockWidth g) torn index inside
-      ∙ ap (entryAt index) (same .elsewhere 0 (inl (omega arith)))
-      ∙ sym (entryAt-header (blockWidth g) disk index inside)
-
-  geometryIn-same : geometryIn torn ≡ geometryIn disk
-  geometryIn-same = geometry-ext torn disk (λ index h. entryAt-torn index (omega arith))
+  torn-drive : DriveOf g torn
+  torn-drive =
+      let drive : DriveOf g disk = record { geometry = states; accepted = accepted } in
+      driveOf-header drive torn (same .same-length)
+      (rw (same .elsewhere 0 (inl (omega arith))) (headOf-driveOf drive))
 
   pub geometryIn-torn : geometryIn torn ≡ g
-  geometryIn-torn = geometryIn-same ∙ states
+  geometryIn-torn = torn-drive .geometry
 
   pub driveRefusal-torn : driveRefusal torn ≡ 0
-  driveRefusal-torn =
-      let drive = accepted-of-refusal disk accepted in
-      let e = geometryIn-same in
-      let l = same .same-length in
-      refusal-of-accepted torn (omega (arith, drive .sized .long)) (ap isGeometry e ∙ drive .sized .accepted)
-      (l ∙ drive .sized .whole ∙ sym (ap driveSize e))
-      (subst (λ (stated : Geometry). headIn torn < stated .slots) (sym e)
-      (rw (entryAt-torn 5 (omega arith)) (drive .head-inside)))
+  driveRefusal-torn = torn-drive .accepted
 
   -- ---- the map ----
 

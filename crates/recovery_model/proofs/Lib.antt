@@ -1,4 +1,5 @@
 pub mod Laws
+pub mod Refusals
 pub mod Tree
 pub mod Volumes
 pub mod Views

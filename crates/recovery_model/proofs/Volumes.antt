@@ -3,3 +3,6 @@ pub mod CutLeaves
 pub mod Cuts
 pub mod CutRuns
 pub mod Leaves
+pub mod Recoverable
+pub mod Recovers
+pub mod LineCuts

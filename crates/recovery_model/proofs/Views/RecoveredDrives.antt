@@ -1,40 +1,40 @@
 -- Two drives that show the same are recovered to drives that show the same, or refused alike (document 02,
 -- K5): a recovery reads header and map, and changes the bitmap alone, all of which is shown. Its steps in
 -- their order: the map's entries, the bitmap without bits, the bits set. Assumes nothing.
-use mathlib.Core.Path.{_≡_, refl, sym, ap, ap₂, _∙_, subst}
-use mathlib.Core.Logic.{_≢_, _⊎_, inl, inr, ⊎-elim}
+use mathlib.Core.Path.{_≡_, sym, ap, _∙_, subst}
+use mathlib.Core.Logic.{_≢_, inl, inr, ⊎-elim}
 use mathlib.Core.Bool.{true, not, _&&_}
 use mathlib.Core.List.{List, [], _∷_}
-use Prim.Native.Nat.{ℕ, zero, suc, _+_, _*_, _-_, _≤_, _<_}
-use native.Mathlib.Nat.{mul-le-mul-right}
+use Prim.Native.Nat.{ℕ, _+_, _≤_, _<_}
 use native.Mathlib.Omega.{arith}
-use lib.ListN.{length, replicate, length-replicate}
-use borrow.Author.Tests.{eq-eqb, ne-eqb, not-false}
-use Rattle.laws.specs.Lists.{part, over}
+use lib.ListN.{length}
 use Rattle.laws.specs.Checks.{check, firstOf}
-use Rattle.laws.proofs.Cases.{and-left, and-right, lt-cases, eq-cases, cond-true, cond-false}
-use Rattle.laws.proofs.Lists.{length-over, part-over-before, part-over-after, part-over-inside}
-use Rattle.model.specs.Geometry.{Geometry, Fits, mapBlocks, bitmapBlocks, rootAddress, blockCount}
+use Rattle.laws.proofs.Cases.{and-left, and-right, lt-cases, eq-cases}
+use Rattle.model.specs.Geometry.{Geometry, Fits, mapBlocks, rootAddress, blockCount}
 use Rattle.model.specs.Geometry.{driveSize, blockWidth}
 use Rattle.model.specs.Blocks.{Bytes, DiskAddress, blockAt}
 use Rattle.model.specs.Layout.{geometryIn, slotOf, isSlotBlock}
 use Rattle.model.specs.Rounds.{bitStore}
 use Rattle.model.specs.View.{shownOf}
 use Rattle.model.proofs.Laws.Geometry.{bitAddress-lt, bitAddress-ge}
-use Rattle.model.proofs.Laws.Blocks.{blockAt-is}
 use Rattle.model.proofs.Laws.Slots.{slotBlock-of}
 use Rattle.model.proofs.Laws.Bitmap.{length-bitmapWith}
 use Rattle.model.proofs.Laws.Stores.{apply-one}
-use Rattle.model.proofs.Laws.Refusals.{after-drive-pass, passed-after-drive}
+use Rattle.model.proofs.Laws.Refusals.{after-drive-pass}
 use Rattle.model.proofs.Laws.HeaderStores.{DriveOf, KeepsDrive, fits-driveOf, whole-driveOf, headOf-driveOf}
 use Rattle.model.proofs.Laws.HeaderStores.{driveOf-header, driveOf-apply}
 use Rattle.model.proofs.Views.Agreement.{none, more, agree-apply}
 use Rattle.model.proofs.Views.Shown.{ShowSame}
 use Rattle.model.proofs.Views.Sides.{mapEntry-alike, bitStore-alike}
 use Rattle.model.proofs.Views.Drives.{Twins}
-use Rattle.recovery_model.specs.Recovery.{unlessZero, usedFrom, usedEntries, areStarts, areApart}
+use Rattle.recovery_model.specs.Recovery.{usedEntries, areStarts, areApart}
 use Rattle.recovery_model.specs.Recovery.{mapChecks, recoveryRefusal, withoutBits, withMark, withMarks}
 use Rattle.recovery_model.specs.Recovery.{recovered}
+use Rattle.recovery_model.proofs.Laws.Used.{usedFrom-same}
+use Rattle.recovery_model.proofs.Laws.Marks.{Elsewhere, length-withoutBits}
+use Rattle.recovery_model.proofs.Laws.Marks.{blockAt-withoutBits-elsewhere, blockAt-withoutBits-zeros}
+use Rattle.recovery_model.proofs.Laws.MapRefusal.{areStarts-of-recovery}
+use Rattle.recovery_model.proofs.Laws.Recovery.{recovered-done, recovered-refused}
 
 -- ---- two drives of one geometry ----
 
@@ -56,17 +56,10 @@ twins-of-drives {g} {disk} {other} drives =
 -- ---- the map's entries ----
 
 module _ (g : Geometry) (f : Fits g) (disk other : Bytes) (same : ShowSame g disk other) where
-  usedFrom-alike :
-      (count number : ℕ) → number + count ≤ g .publics →
-      usedFrom g disk number count ≡ usedFrom g other number count
-  unfolding usedFrom
-  usedFrom-alike zero number h = refl
-  usedFrom-alike (suc count) number h =
-      ap₂ unlessZero (mapEntry-alike g f disk other same number (omega arith))
-      (usedFrom-alike count (suc number) (omega arith))
-
   usedEntries-alike : usedEntries g disk ≡ usedEntries g other
-  usedEntries-alike = usedFrom-alike (g .publics) 0 (omega arith)
+  usedEntries-alike =
+      usedFrom-same g disk other 0 (g .publics)
+      (λ number h. mapEntry-alike g f disk other same number (omega arith))
 
   mapChecks-alike : mapChecks g disk ≡ mapChecks g other
   unfolding mapChecks
@@ -88,52 +81,6 @@ recoveryRefusal-alike {g} {disk} {other} drives =
 
 -- ---- the bitmap without bits ----
 
-module _ (g : Geometry) (disk : Bytes) (whole : length disk ≡ driveSize g) where
-  abbrev start : ℕ
-  start = (1 + mapBlocks g) * g .blockSize
-
-  abbrev zeros : Bytes
-  zeros = replicate (bitmapBlocks g * g .blockSize) 0
-
-  zeros-length : length zeros ≡ bitmapBlocks g * g .blockSize
-  zeros-length = length-replicate {A = ℕ} (bitmapBlocks g * g .blockSize) 0
-
-  zeros-inside : start + length zeros ≤ length disk
-  zeros-inside =
-      let h : rootAddress g ≤ blockCount g = omega arith in
-      omega (arith, zeros-length, mul-le-mul-right (g .blockSize) h)
-
-  withoutBits-length : length (withoutBits g disk) ≡ length disk
-  unfolding withoutBits
-  withoutBits-length = length-over zeros disk start zeros-inside
-
-  withoutBits-elsewhere :
-      (address : DiskAddress) → (address < 1 + mapBlocks g) ⊎ (rootAddress g ≤ address) →
-      blockAt (blockWidth g) (withoutBits g disk) address ≡ blockAt (blockWidth g) disk address
-  unfolding withoutBits
-  withoutBits-elsewhere address (inl h) =
-      blockAt-is (blockWidth g) (over start zeros disk) address
-      ∙ part-over-before zeros disk start zeros-inside (address * g .blockSize) (g .blockSize)
-      (omega (arith, mul-le-mul-right (g .blockSize) h))
-      ∙ sym (blockAt-is (blockWidth g) disk address)
-  withoutBits-elsewhere address (inr h) =
-      blockAt-is (blockWidth g) (over start zeros disk) address
-      ∙ part-over-after zeros disk start zeros-inside (address * g .blockSize) (g .blockSize)
-      (omega (arith, zeros-length, mul-le-mul-right (g .blockSize) h))
-      ∙ sym (blockAt-is (blockWidth g) disk address)
-
-  withoutBits-bitmap :
-      (place : ℕ) → place < bitmapBlocks g →
-      blockAt (blockWidth g) (withoutBits g disk) (1 + mapBlocks g + place) ≡
-      part (place * g .blockSize) (g .blockSize) zeros
-  unfolding withoutBits
-  withoutBits-bitmap place h =
-      let e : (1 + mapBlocks g + place) * g .blockSize ≡ start + place * g .blockSize = omega arith in
-      blockAt-is (blockWidth g) (over start zeros disk) (1 + mapBlocks g + place)
-      ∙ ap (λ (from : ℕ). part from (g .blockSize) (over start zeros disk)) e
-      ∙ part-over-inside zeros disk start zeros-inside (place * g .blockSize) (g .blockSize)
-      (omega (arith, zeros-length, mul-le-mul-right (g .blockSize) h))
-
 -- what is left shows the same
 withoutBits-alike :
     {g : Geometry} {disk other : Bytes} → DrivesAlike g disk other →
@@ -144,8 +91,8 @@ withoutBits-alike {g} {disk} {other} drives =
       there = drive (drives .there);
       same =
           record {
-            whole = withoutBits-length g disk whole ∙ whole;
-            other-whole = withoutBits-length g other otherWhole ∙ otherWhole;
+            whole = length-withoutBits g f disk whole ∙ whole;
+            other-whole = length-withoutBits g f other otherWhole ∙ otherWhole;
             same-shown = λ address. ⊎-elim (λ h. kept address (inl h))
                 (λ h. ⊎-elim (λ l. cleared address h l) (λ l. kept address (inr l))
                 (lt-cases address (rootAddress g)))
@@ -153,6 +100,9 @@ withoutBits-alike {g} {disk} {other} drives =
           };
     }
   where
+    f : Fits g
+    f = fits-driveOf (drives .here)
+
     whole : length disk ≡ driveSize g
     whole = whole-driveOf (drives .here)
 
@@ -161,17 +111,18 @@ withoutBits-alike {g} {disk} {other} drives =
 
     drive : {bytes : Bytes} → DriveOf g bytes → DriveOf g (withoutBits g bytes)
     drive {bytes} d =
-        driveOf-header d (withoutBits g bytes) (withoutBits-length g bytes (whole-driveOf d))
-        (rw (withoutBits-elsewhere g bytes (whole-driveOf d) 0 (inl (omega arith))) (headOf-driveOf d))
+        driveOf-header d (withoutBits g bytes) (length-withoutBits g f bytes (whole-driveOf d))
+        (rw (blockAt-withoutBits-elsewhere g f bytes (whole-driveOf d) 0 (inl (omega arith)))
+        (headOf-driveOf d))
 
     kept :
-        (address : DiskAddress) → (address < 1 + mapBlocks g) ⊎ (rootAddress g ≤ address) →
+        (address : DiskAddress) → Elsewhere g address →
         shownOf g address (blockAt (blockWidth g) (withoutBits g disk) address) ≡
         shownOf g address (blockAt (blockWidth g) (withoutBits g other) address)
     kept address h =
         rw (
-          withoutBits-elsewhere g disk whole address h,
-          withoutBits-elsewhere g other otherWhole address h,
+          blockAt-withoutBits-elsewhere g f disk whole address h,
+          blockAt-withoutBits-elsewhere g f other otherWhole address h,
         ) (drives .same .same-shown address)
 
     cleared :
@@ -179,14 +130,9 @@ withoutBits-alike {g} {disk} {other} drives =
         shownOf g address (blockAt (blockWidth g) (withoutBits g disk) address) ≡
         shownOf g address (blockAt (blockWidth g) (withoutBits g other) address)
     cleared address h l =
-        let place : ℕ = address - (1 + mapBlocks g) in
-        let e : address ≡ 1 + mapBlocks g + place = omega arith in
-        let inside : place < bitmapBlocks g = omega arith in
         ap (shownOf g address)
-        (ap (blockAt (blockWidth g) (withoutBits g disk)) e
-        ∙ withoutBits-bitmap g disk whole place inside
-        ∙ sym (withoutBits-bitmap g other otherWhole place inside)
-        ∙ ap (blockAt (blockWidth g) (withoutBits g other)) (sym e))
+        (blockAt-withoutBits-zeros g f disk whole address h l
+        ∙ sym (blockAt-withoutBits-zeros g f other otherWhole address h l))
 
 -- ---- the bits set ----
 
@@ -232,29 +178,6 @@ module _ {g : Geometry} where
 
 -- ---- a recovery ----
 
-recovered-done :
-    {g : Geometry} (disk : Bytes) → geometryIn disk ≡ g → recoveryRefusal disk ≡ 0 →
-    recovered disk ≡ withMarks g (usedEntries g disk) (withoutBits g disk)
-unfolding recovered
-recovered-done disk stated e =
-    cond-true _ _ (eq-eqb (recoveryRefusal disk) 0 e)
-    ∙ ap (λ (h : Geometry). withMarks h (usedEntries h disk) (withoutBits h disk)) stated
-
-recovered-refused : (disk : Bytes) → recoveryRefusal disk ≢ 0 → recovered disk ≡ disk
-unfolding recovered
-recovered-refused disk ne = cond-false _ _ (ne-eqb (recoveryRefusal disk) 0 ne)
-
-starts-of-refusal :
-    {g : Geometry} (disk : Bytes) → geometryIn disk ≡ g → recoveryRefusal disk ≡ 0 →
-    areStarts g (usedEntries g disk) ≡ true
-unfolding recoveryRefusal mapChecks
-starts-of-refusal disk stated e =
-    let h = geometryIn disk in
-    let used = usedEntries h disk in
-    let passed = passed-after-drive disk (mapChecks h disk) (λ z. omega arith, tt) e in
-    subst (λ (h : Geometry). areStarts h (usedEntries h disk) ≡ true) stated
-    (and-left (areStarts h used) (areApart used) (not-false (areStarts h used && areApart used) (passed .0)))
-
 pub recovered-alike :
     {g : Geometry} {disk other : Bytes} → DrivesAlike g disk other →
     DrivesAlike g (recovered disk) (recovered other)
@@ -269,11 +192,11 @@ recovered-alike {g} {disk} {other} drives = ⊎-elim done refused (eq-cases (rec
     done : recoveryRefusal disk ≡ 0 → DrivesAlike g (recovered disk) (recovered other)
     done e =
         rw (
-          recovered-done disk (drives .here .geometry) e,
-          recovered-done other (drives .there .geometry) (sym refusals ∙ e),
+          recovered-done g disk (drives .here .geometry) e,
+          recovered-done g other (drives .there .geometry) (sym refusals ∙ e),
           sym entries,
         )
-        (withMarks-alike (usedEntries g disk) (starts-of-refusal disk (drives .here .geometry) e)
+        (withMarks-alike (usedEntries g disk) (areStarts-of-recovery g disk (drives .here .geometry) e)
         (withoutBits-alike drives))
 
     refused : recoveryRefusal disk ≢ 0 → DrivesAlike g (recovered disk) (recovered other)

@@ -5,11 +5,14 @@ use crate::geometry::map_blocks;
 use crate::geometry::slot_width;
 use crate::numbers::DiskAddress;
 ghost use mathlib.Core.Path.{_≡_};
+ghost use mathlib.Core.Bool.{true};
 ghost use Prim.Native.Nat.{_/_, _<_};
 ghost use lib.ListN.{length};
 ghost use Rattle.laws.specs.Bits.{bitOf, withBit, bitAt, setBit};
-ghost use Rattle.model.specs.Geometry.{Fits};
+ghost use Rattle.model.specs.Geometry.{Fits, blockWidth};
+ghost use Rattle.model.specs.Blocks.{setBlock};
 ghost use Rattle.model.specs.Layout.{Drive, areaPlace, bitAddress, bitPlace, isShared, isAllocated};
+ghost use Rattle.model.specs.Layout.{bitmapWith};
 ghost use Rattle.layout.specs.Geometries.{geometryOf};
 ghost use Rattle.layout.specs.Slots.{TwoSlots};
 
@@ -103,4 +106,19 @@ pub fn is_allocated(disk: &[u8], g: Geometry, slot: u32) -> bool
 {
     let block = block_at(disk, g, bit_address(g, slot));
     bit_at(block, bit_place(g, slot))
+}
+
+// Marks a slot as one that holds a public block: sets its bit, every other byte of the disk stays.
+pub fn mark_slot(disk: &mut [u8], g: Geometry, slot: u32)
+    requires { ⌜ Drive (geometryOf g) (now disk) ⌝ }
+    requires { ⌜ slot < g .slots ⌝ }
+    ensures { λ _. ⌜ now (disk .exit) ≡ setBlock (blockWidth (geometryOf g)) (now (disk .entry))
+        (bitAddress (geometryOf g) slot) (bitmapWith (geometryOf g) (now (disk .entry)) slot true) ⌝ }
+{
+    let width = g.block_size as usize;
+    let place = bit_place(g, slot);
+    let address = bit_address(g, slot);
+    let from = (address.0 as usize) * width;
+    let to = from + width;
+    set_bit(&mut disk[from..to], place, true);
 }

@@ -157,7 +157,7 @@ fn area_blocks(g: Geometry) -> u64
 }
 
 // Blocks of the bitmap.
-fn bitmap_blocks(g: Geometry) -> u64
+pub fn bitmap_blocks(g: Geometry) -> u64
     requires { ⌜ Bounded (geometryOf g) ⌝ }
     ensures { λ r. ⌜ r ≡ bitmapBlocks (geometryOf g) ⌝ }
 {

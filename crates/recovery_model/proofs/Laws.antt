@@ -9,3 +9,5 @@ pub mod Marks
 pub mod SameButBits
 pub mod MapRefusal
 pub mod Recovery
+pub mod Steps
+pub mod StepDisks

@@ -1,14 +1,16 @@
 //! `differential [SECONDS [SEED]]`: holds the three mappers against each other, over document 02's K11 calls
 //! and then over random small drives until the seconds (20) are up. Answers, shown parts, lists and lines
 //! with their tails and disks are to be equal after every call; a drive that passes the tree check is to go
-//! on passing it, and no offer is to wait longer there than it may (K12); and every refusal, every outcome
-//! and what lines and waits can meet is to be met. First it finds mappers that are wrong with lines and
-//! waits. Ends with status 1 on the first difference, which it prints, where one was not met, or where a
-//! wrong mapper is not found. A drive is made from its seed alone: the one that is printed, given as SEED, is
-//! the first.
-use pddm_bench::any_calls::{any_call, any_line_call, any_line_write, any_offered, any_write};
+//! on passing it, no offer is to wait longer there than it may (K12), and a write that is cut after any store
+//! is to be recovered to old or new blocks (K5); and every refusal, every outcome and what lines, waits, cuts
+//! and recoveries can meet is to be met. First it finds mappers that are wrong with these. Ends with status 1
+//! on the first difference, which it prints, where one was not met, or where a wrong mapper is not found. A
+//! drive is made from its seed alone: the one that is printed, given as SEED, is the first.
+use pddm_bench::any_calls::{any_call, any_line_call, any_line_write, any_offered, any_write, either_write};
 use pddm_bench::arguments::Arguments;
 use pddm_bench::calls::{Call, Given, LentLine};
+use pddm_bench::cuts::hold_cuts;
+use pddm_bench::drive::Drive;
 use pddm_bench::drives::{KINDS, Kind, damage, drive, geometry, spoil};
 use pddm_bench::engine::{Engine, Geometry, fresh};
 use pddm_bench::held::Held;
@@ -18,10 +20,12 @@ use pddm_bench::met::Met;
 use pddm_bench::plain::PLAIN;
 use pddm_bench::proved::PROVED;
 use pddm_bench::random::Random;
-use pddm_bench::tree_damage::damage_tree;
+use pddm_bench::recoveries::{bend_free, bend_map, recover_again};
+use pddm_bench::tree_damage::{damage_tree, move_node};
 use pddm_bench::waits::Row;
 use pddm_bench::workload::{CALLS, Caller, GEOMETRY};
 use pddm_bench::wrong::{LATE, WRONG};
+use pddm_bench::wrong_cuts::{TORN, WRONG_CUTS};
 use std::process::ExitCode;
 use std::time::{Duration, Instant};
 
@@ -43,6 +47,7 @@ struct Stand<'a> {
     r: Random,
     kind: Kind,
     g: Geometry,
+    bitmap_blocks: usize,
     held: Held<'a>,
     line: LentLine,
 }
@@ -54,7 +59,8 @@ impl<'a> Stand<'a> {
         let g = geometry(&mut r, kind);
         let held = Held::new(engines, drive(&mut r, &PLAIN, kind, g), kind != Kind::Foreign);
         let line = any_line(&mut r, g);
-        Stand { r, kind, g, held, line }
+        let v = Drive::of(g).expect("a geometry within the limits");
+        Stand { r, kind, g, bitmap_blocks: v.root - v.bitmap, held, line }
     }
 
     /// Any call on a disk of another state, held, with the line.
@@ -135,10 +141,35 @@ impl<'a> Stand<'a> {
         Ok(())
     }
 
+    /// A write that is cut after one store after another, now and then with nodes moved and with what a drive
+    /// is free to have changed; and the drive goes on from one of these cuts, recovered.
+    fn cut(&mut self, met: &mut Met) -> Result<(), String> {
+        let Stand { r, g, held, line, .. } = self;
+        let mut disk = held.disks[0].clone();
+        if r.one_in(2) {
+            (0..8).for_each(|_| move_node(r, &mut disk));
+            bend_free(r, &mut disk);
+        }
+        let call = either_write(r, *g, &disk, line);
+        if let Some(recovered) = hold_cuts(r, &held.again(disk), call, met)? {
+            met.count("of cuts", "gone on from");
+            *held = held.again(recovered);
+        }
+        Ok(())
+    }
+
+    /// A recovery of the drive with map entries and bits changed.
+    fn recover(&mut self, met: &mut Met) -> Result<(), String> {
+        let Stand { r, held, .. } = self;
+        let mut disk = held.disks[0].clone();
+        bend_map(r, &mut disk);
+        recover_again(r, &mut held.again(disk), met).map(|_| ())
+    }
+
     /// A call, now and then with the line bent before it, on a spoilt or damaged drive, or elsewhere; or a
-    /// row.
+    /// row, a write cut, a recovery.
     fn turn(&mut self, met: &mut Met) -> Result<(), String> {
-        let Stand { r, kind, g, held, line } = self;
+        let Stand { r, kind, g, held, line, bitmap_blocks } = self;
         if r.one_in(4) {
             bend(r, *g, line);
         }
@@ -152,6 +183,12 @@ impl<'a> Stand<'a> {
         }
         if held.passes && r.one_in(if *kind == Kind::Full { 6 } else { 24 }) {
             return self.carry(met);
+        }
+        if r.one_in(if *bitmap_blocks > 1 { 50 } else { 160 }) {
+            return self.cut(met);
+        }
+        if r.one_in(80) {
+            return self.recover(met);
         }
         if *kind == Kind::Deep && r.one_in(2) {
             return self.hold_damage(met);
@@ -186,13 +223,13 @@ fn find(engines: &[Engine], words: &str) -> Result<u64, String> {
 
 /// Finds each wrong mapper: beside the right one, or alone.
 fn find_wrong() -> Result<(), String> {
-    for wrong in WRONG {
+    for wrong in WRONG.into_iter().chain(WRONG_CUTS) {
         let seed = find(&[PLAIN, wrong], "")?;
         println!("wrong mapper '{}': found on drive seed {seed}", wrong.name);
     }
-    for (words, late) in LATE {
-        let seed = find(&[late], words)?;
-        println!("wrong mapper '{}' alone: found on drive seed {seed}: '{words}'", late.name);
+    for (words, wrong) in LATE.into_iter().chain(TORN) {
+        let seed = find(&[wrong], words)?;
+        println!("wrong mapper '{}' alone: found on drive seed {seed}: '{words}'", wrong.name);
     }
     Ok(())
 }

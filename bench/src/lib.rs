@@ -1,7 +1,7 @@
 //! The proved mapper beside two written in Rust: what they answer is compared, and how long they take. The
 //! programs are `differential`, `bit_places`, `walks`, `touched`, `benchmark`, `pair`, `digest`, `tree_check`,
-//! `waiting`, `longest`, `fill`, `spread` and `stacks`; `tests/` holds all three mappers to the documents'
-//! examples.
+//! `recover_time`, `waiting`, `longest`, `fill`, `spread` and `stacks`; `tests/` holds all three mappers to
+//! the documents' examples.
 pub mod allowed;
 pub mod any_calls;
 pub mod arguments;

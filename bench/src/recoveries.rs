@@ -1,8 +1,9 @@
 //! Recoveries (document 02, K5), held on several mappers: of drives with other map entries and bits, made
-//! again, and of a bitmap that is torn.
+//! again, of a bitmap that is torn, and of a drive with many slots.
 use crate::calls::{Call, Given};
 use crate::drive::{Drive, entry, put_entry};
 use crate::drives::any_entry;
+use crate::engine::{Engine, Geometry, fresh};
 use crate::held::Held;
 use crate::met::Met;
 use crate::plain::PLAIN;
@@ -98,4 +99,52 @@ pub fn recover_again(r: &mut Random, drives: &mut Held, met: &mut Met) -> Result
         }
     }
     Ok(answer)
+}
+
+/// For so many slots at a time the proved recovery goes through all map entries.
+pub const WINDOW: u32 = 32_768;
+
+/// Slots 0 to the last of four windows, of which the last has one slot.
+const WINDOWS: Geometry =
+    Geometry { block_size: 32, height: 2, publics: 12, hidden: 1, slots: 3 * WINDOW + 1 };
+
+/// The first and the last slots of the windows, and some beside them.
+const EDGES: [u32; 10] = [
+    0,
+    1,
+    WINDOW - 2,
+    WINDOW - 1,
+    WINDOW,
+    2 * WINDOW - 1,
+    2 * WINDOW,
+    2 * WINDOW + 1,
+    3 * WINDOW - 1,
+    3 * WINDOW,
+];
+
+/// A recovery of equal drives on which the last number has this entry is to answer this.
+fn hold_entry(drives: &mut Held, at: usize, due: Result<(), u32>) -> Result<(), String> {
+    drives.disks.iter_mut().for_each(|disk| put_entry(&mut disk[32..], EDGES.len(), at));
+    match drives.call(&Call::Recover, &mut Met::default())? {
+        Given::Recovered(answer) if answer == due => Ok(()),
+        given => Err(format!("{} with an entry {at} more, not {due:?}", given.told())),
+    }
+}
+
+/// Recoveries of a drive with a number's place at each edge of the windows, and one number more: placed
+/// beside these, where one of them is, or in no slot's block.
+pub fn hold_windows(engines: &[Engine]) -> Result<(), String> {
+    let v = Drive::of(WINDOWS).expect("a geometry within the limits");
+    let mut disk = fresh(&PLAIN, WINDOWS);
+    let starts = EDGES.map(|slot| v.start(slot as usize));
+    starts.iter().enumerate().for_each(|(number, at)| put_entry(&mut disk[v.b..], number, *at));
+    let mut drives = Held::new(engines, disk, false);
+    hold_entry(&mut drives, 0, Ok(()))?;
+    hold_entry(&mut drives, v.start(WINDOW as usize + 1), Ok(()))?;
+    for at in starts {
+        hold_entry(&mut drives, at, Err(17))?;
+        hold_entry(&mut drives, at + 1, Err(17))?;
+    }
+    hold_entry(&mut drives, v.t, Err(17))?;
+    hold_entry(&mut drives, v.start(WINDOW as usize - 3), Ok(()))
 }

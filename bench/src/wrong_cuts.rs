@@ -3,6 +3,7 @@
 use crate::drive::{Drive, check, entry};
 use crate::engine::{Cut, Engine, Write, Written};
 use crate::plain::PLAIN;
+use crate::recoveries::WINDOW;
 
 /// To be found beside plain Rust's, by a difference.
 pub const WRONG_CUTS: [Engine; 12] = [
@@ -22,6 +23,12 @@ pub const WRONG_CUTS: [Engine; 12] = [
 
 const MARKS_ADDED: Engine = Engine { name: "marks only added", recover: marks_added, ..PLAIN };
 const PADDING_KEPT: Engine = Engine { name: "padding kept", recover: padding_kept, ..PLAIN };
+
+/// To be found beside plain Rust's on a drive with many slots.
+pub const WRONG_WINDOWS: [Engine; 2] = [
+    Engine { name: "one window", recover: one_window, ..PLAIN },
+    Engine { name: "last slot of a window missed", recover: last_slot_missed, ..PLAIN },
+];
 
 /// To be found alone, by what is promised of cuts: the words in which they are found, and the mapper. Whole
 /// writes of these have the same order of stores.
@@ -175,14 +182,31 @@ fn padding_kept(disk: &mut [u8]) -> Result<(), u32> {
     })
 }
 
-/// Two numbers may have one place.
-fn shared_allowed(disk: &mut [u8]) -> Result<(), u32> {
+/// A recovery that judges only some slots by whether two numbers have their place there.
+fn judging(disk: &mut [u8], is_judged: impl Fn(usize) -> bool) -> Result<(), u32> {
     let (v, _) = Drive::open(disk)?;
-    let places = v.mapped(disk).collect::<Vec<_>>();
+    let mut places = v.mapped(disk).collect::<Vec<_>>();
+    places.sort_unstable();
     check(places.iter().any(|at| !v.is_at(0, *at)), 17)?;
+    check(places.windows(2).any(|two| two[0] == two[1] && is_judged(v.slot_of(two[0]))), 17)?;
     disk[v.bits()].fill(0);
     places.iter().for_each(|at| disk[v.bits()][(at - v.d) / 8] |= 1 << ((at - v.d) % 8));
     Ok(())
+}
+
+/// Two numbers may have one place.
+fn shared_allowed(disk: &mut [u8]) -> Result<(), u32> {
+    judging(disk, |_| false)
+}
+
+/// Past the first window they may.
+fn one_window(disk: &mut [u8]) -> Result<(), u32> {
+    judging(disk, |slot| slot < WINDOW as usize)
+}
+
+/// In the last slot of a window they may.
+fn last_slot_missed(disk: &mut [u8]) -> Result<(), u32> {
+    judging(disk, |slot| (slot + 1) % WINDOW as usize != 0)
 }
 
 /// An entry that is no number's has to be a slot's block too.

@@ -1,11 +1,12 @@
-//! `differential [SECONDS [SEED]]`: holds the three mappers against each other, over document 02's K11 calls
-//! and then over random small drives until the seconds (20) are up. Answers, shown parts, lists and lines
-//! with their tails and disks are to be equal after every call; a drive that passes the tree check is to go
-//! on passing it, no offer is to wait longer there than it may (K12), and a write that is cut after any store
-//! is to be recovered to old or new blocks (K5); and every refusal, every outcome and what lines, waits, cuts
-//! and recoveries can meet is to be met. First it finds mappers that are wrong with these. Ends with status 1
-//! on the first difference, which it prints, where one was not met, or where a wrong mapper is not found. A
-//! drive is made from its seed alone: the one that is printed, given as SEED, is the first.
+//! `differential [SECONDS [SEED]]`: holds the three mappers against each other, over recoveries of a drive
+//! with many slots, document 02's K11 calls and then random small drives until the seconds (20) are up.
+//! Answers, shown parts, lists and lines with their tails and disks are to be equal after every call; a drive
+//! that passes the tree check is to go on passing it, no offer is to wait longer there than it may (K12), and
+//! a write that is cut after any store is to be recovered to old or new blocks (K5); and every refusal, every
+//! outcome and what lines, waits, cuts and recoveries can meet is to be met. First it finds mappers that are
+//! wrong with these. Ends with status 1 on the first difference, which it prints, where one was not met, or
+//! where a wrong mapper is not found. A drive is made from its seed alone: the one that is printed, given as
+//! SEED, is the first.
 use pddm_bench::any_calls::{any_call, any_line_call, any_line_write, any_offered, any_write, either_write};
 use pddm_bench::arguments::Arguments;
 use pddm_bench::calls::{Call, Given, LentLine};
@@ -20,12 +21,12 @@ use pddm_bench::met::Met;
 use pddm_bench::plain::PLAIN;
 use pddm_bench::proved::PROVED;
 use pddm_bench::random::Random;
-use pddm_bench::recoveries::{bend_free, bend_map, recover_again};
+use pddm_bench::recoveries::{bend_free, bend_map, hold_windows, recover_again};
 use pddm_bench::tree_damage::{damage_tree, move_node};
 use pddm_bench::waits::Row;
 use pddm_bench::workload::{CALLS, Caller, GEOMETRY};
 use pddm_bench::wrong::{LATE, WRONG};
-use pddm_bench::wrong_cuts::{TORN, WRONG_CUTS};
+use pddm_bench::wrong_cuts::{TORN, WRONG_CUTS, WRONG_WINDOWS};
 use std::process::ExitCode;
 use std::time::{Duration, Instant};
 
@@ -227,6 +228,11 @@ fn find_wrong() -> Result<(), String> {
         let seed = find(&[PLAIN, wrong], "")?;
         println!("wrong mapper '{}': found on drive seed {seed}", wrong.name);
     }
+    for wrong in WRONG_WINDOWS {
+        let found = hold_windows(&[PLAIN, wrong]);
+        let what = found.err().ok_or(format!("nothing of wrong mapper '{}'", wrong.name))?;
+        println!("wrong mapper '{}': found: {what}", wrong.name);
+    }
     for (words, wrong) in LATE.into_iter().chain(TORN) {
         let seed = find(&[wrong], words)?;
         println!("wrong mapper '{}' alone: found on drive seed {seed}: '{words}'", wrong.name);
@@ -280,7 +286,11 @@ fn main() -> ExitCode {
     let seed = arguments.number("SEED", 1, 0..=1 << 48);
     arguments.end();
     let end = start + Duration::from_secs(seconds);
-    match find_wrong().and_then(|()| hold_workload()).and_then(|()| hold_drives(seed, end)) {
+    match find_wrong()
+        .and_then(|()| hold_windows(&ENGINES))
+        .and_then(|()| hold_workload())
+        .and_then(|()| hold_drives(seed, end))
+    {
         Err(what) => println!("differs: {what}"),
         Ok(met) if met.report() => {
             println!("all equal, every refusal and outcome met");

@@ -1,11 +1,12 @@
-//! `recover_time [TURNS]`: how long a recovery takes on a drive with every public number placed, proved and in
-//! plain Rust: medians of so many turns. Takes some 450 MB of memory.
+//! `recover_time [TURNS]`: how long a recovery takes on a drive with every public number placed, proved and
+//! in plain Rust: medians of so many turns. Takes some 450 MB of memory.
 use pddm_bench::arguments::Arguments;
 use pddm_bench::drives::fill;
 use pddm_bench::engine::{Engine, Geometry, fresh};
 use pddm_bench::inplace::IN_PLACE;
 use pddm_bench::plain::PLAIN;
 use pddm_bench::proved::PROVED;
+use pddm_bench::recoveries::WINDOW;
 use std::time::Instant;
 
 const RECOVERIES: [Engine; 2] = [PROVED, PLAIN];
@@ -15,9 +16,6 @@ const SIZES: [(u32, u32); 2] = [(65_536, 131_072), (1_000_000, 2_097_152)];
 
 /// Numbers are placed in scattered order; this is prime to both counts of them.
 const STEP: u64 = 618_033;
-
-/// For so many slots at a time the proved recovery goes through all map entries.
-const WINDOW: u32 = 32_768;
 
 /// A drive with all its public numbers placed.
 fn full(publics: u32, slots: u32) -> Vec<u8> {

@@ -88,8 +88,7 @@ pub fn either_write(r: &mut Random, g: Geometry, disk: &[u8], line: &LentLine) -
 /// A write that is cut after some store, or has a bound past all.
 fn any_cut(r: &mut Random, g: Geometry, disk: &[u8], line: &LentLine) -> Call {
     let write = either_write(r, g, disk, line);
-    let (Call::Write { number, .. } | Call::WriteLine { number, .. }) = write else { unreachable!() };
-    let stores = u64::from((PLAIN.needs)(disk, number).stores);
+    let stores = u64::from(write.needs(disk).stores);
     let bound = if r.one_in(8) { r.pick(&[1 << 32, usize::MAX]) } else { r.below(stores + 2) as usize };
     Call::Cut(Rc::new(write), bound)
 }

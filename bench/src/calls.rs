@@ -4,6 +4,7 @@ use crate::engine::{
     Written,
 };
 use crate::line::handed_over;
+use crate::plain::PLAIN;
 use std::rc::Rc;
 
 /// A line as it is lent, so many of its first offers waiting, and the blocks that its places speak of.
@@ -134,6 +135,15 @@ impl Call {
             }
             Call::Cut(write, bound) => write.run_cut(engine, disk, *bound),
             Call::Recover => Given::Recovered((engine.recover)(disk)),
+        }
+    }
+
+    /// What a write takes, whole or cut.
+    pub fn needs(&self, disk: &[u8]) -> Needs {
+        match self {
+            Call::Write { number, .. } | Call::WriteLine { number, .. } => (PLAIN.needs)(disk, *number),
+            Call::Cut(write, _) => write.needs(disk),
+            _ => Needs::refused(0),
         }
     }
 

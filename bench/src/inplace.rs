@@ -7,7 +7,7 @@ use crate::plain::PLAIN;
 use std::arch::x86_64::{_MM_HINT_T0, _mm_prefetch};
 
 /// Formatting, the other questions, reads, entries and the whole-tree check copy no block, and are plain
-/// Rust's. So is a write that is cut: the one here makes no store at a time, and moves the head once a call.
+/// Rust's. So is a write that is cut: here blocks are not stored one by one, and the head moves once a call.
 pub const IN_PLACE: Engine =
     Engine { name: "in-place Rust", wait_rounds, write, write_line, recover, ..PLAIN };
 

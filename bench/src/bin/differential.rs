@@ -142,16 +142,18 @@ impl<'a> Stand<'a> {
         Ok(())
     }
 
-    /// A write that is cut after one store after another, now and then with nodes moved and with what a drive
-    /// is free to have changed; and the drive goes on from one of these cuts, recovered.
+    /// A write that is cut after one store after another, of three the one with the most stores; now and then
+    /// with nodes moved and with what a drive is free to have changed. The drive goes on from one of the cuts,
+    /// recovered.
     fn cut(&mut self, met: &mut Met) -> Result<(), String> {
         let Stand { r, g, held, line, .. } = self;
         let mut disk = held.disks[0].clone();
         if r.one_in(2) {
-            (0..8).for_each(|_| move_node(r, &mut disk));
+            (0..20).for_each(|_| move_node(r, &mut disk));
             bend_free(r, &mut disk);
         }
-        let call = either_write(r, *g, &disk, line);
+        let writes = [(); 3].map(|()| either_write(r, *g, &disk, line));
+        let call = writes.into_iter().max_by_key(|write| write.needs(&disk).stores).unwrap();
         if let Some(recovered) = hold_cuts(r, &held.again(disk), call, met)? {
             met.count("of cuts", "gone on from");
             *held = held.again(recovered);
@@ -185,7 +187,8 @@ impl<'a> Stand<'a> {
         if held.passes && r.one_in(if *kind == Kind::Full { 6 } else { 24 }) {
             return self.carry(met);
         }
-        if r.one_in(if *bitmap_blocks > 1 { 50 } else { 160 }) {
+        let is_long = *bitmap_blocks > 1 || (PLAIN.needs)(&held.disks[0], 0).rounds > 1;
+        if r.one_in(if is_long { 60 } else { 200 }) {
             return self.cut(met);
         }
         if r.one_in(80) {

@@ -23,7 +23,8 @@
  * blank not one block, 6 bad map entry, 7 every slot allocated, 8 too few random bytes, 9 list too short, 10 hidden number
  * outside, 11 hidden data or blank not one block, or the place of an offer not wholly among the lent blocks, 12 damaged
  * tree; by the tree check, 13 ill-formed entry, 14 entry past the hidden numbers, 15 slot that is not its owner's; by
- * entering an offer, 16 a seventeenth number or no room in the lent line. 0: not refused.
+ * entering an offer, 16 a seventeenth number or no room in the lent line; by recovery, 17 a map entry that is no slot's
+ * public block or that two numbers share. 0: not refused.
  */
 #ifndef PDDM_H
 #define PDDM_H
@@ -152,6 +153,30 @@ pddm_wait pddm_wait_rounds(const uint8_t *disk, size_t disk_len);
  * gives 12, and it still passes after each. Else refusal 1 to 3, or that of the first bad entry: 13 if it is no address of
  * its level, 14 if all hidden numbers below it are outside, 15 if its slot's owner is not below it or not found there. */
 uint32_t pddm_check_tree(const uint8_t *disk, size_t disk_len);
+
+/* Rebuilds the bitmap from the public map: a bit of it is 1 if it is that of a public number's block, and 0 otherwise; no
+ * other block is changed. Answers 0, or refusal 1 to 3 or 17; refused, no byte is changed. Call it at plugging in, before any
+ * other call: a plug pulled within a write leaves marks that do not fit the map, and then blocks are lost. A drive that needs
+ * none stays as it is. Where the plug is pulled meanwhile, call it again. It tells an inspector nothing: it looks at what he
+ * sees. */
+uint32_t pddm_recover(uint8_t *disk, size_t disk_len);
+
+typedef struct {
+    uint32_t answer, stores, cut; /* stores: how many were made; cut: 1 where others were left out */
+} pddm_cut;
+
+/* For tests: pddm_write stopped after its first bound stores, as if the plug were pulled. It is refused as pddm_write is,
+ * whatever the bound, and then makes no store and is not cut; with a bound of as many stores as it has it is pddm_write. */
+pddm_cut pddm_write_cut(uint8_t *disk, size_t disk_len, uint32_t number, const uint8_t *data, size_t data_len,
+                        bool offered, uint32_t hidden_number, const uint8_t *hidden, size_t hidden_len,
+                        const uint8_t *random, size_t random_len, uint32_t *list, size_t list_len, size_t bound);
+
+/* For tests: pddm_write_line likewise. The line is lent as its numbers and its places, of which the first `waiting` wait as
+ * far as both go, at most 16, and is not handed back: after a plug is pulled the line that was lent is offered again. */
+pddm_cut pddm_write_line_cut(uint8_t *disk, size_t disk_len, uint32_t number, const uint8_t *data, size_t data_len,
+                             const uint8_t *blocks, size_t blocks_len, const uint32_t *numbers, size_t numbers_len,
+                             const uint32_t *places, size_t places_len, uint32_t waiting, const uint8_t *random,
+                             size_t random_len, uint32_t *list, size_t list_len, size_t bound);
 
 #ifdef __cplusplus
 }

@@ -6,6 +6,7 @@ use crate::engine::Geometry;
 use crate::lines::{any_number, any_offer};
 use crate::plain::PLAIN;
 use crate::random::Random;
+use std::rc::Rc;
 
 /// One block of random bytes, or now and then less or more.
 fn any_block(r: &mut Random, b: usize) -> Vec<u8> {
@@ -75,9 +76,26 @@ fn any_waiting(r: &mut Random, g: Geometry, line: &LentLine) -> u32 {
     }
 }
 
+/// A write without a line or with it.
+pub fn either_write(r: &mut Random, g: Geometry, disk: &[u8], line: &LentLine) -> Call {
+    if r.one_in(2) {
+        return any_line_write(r, g, disk, line);
+    }
+    let offer = (!r.one_in(4)).then(|| any_offered(r, g));
+    any_write(r, g, disk, offer)
+}
+
+/// A write that is cut after some store, or has a bound past all.
+fn any_cut(r: &mut Random, g: Geometry, disk: &[u8], line: &LentLine) -> Call {
+    let write = either_write(r, g, disk, line);
+    let stores = u64::from(write.needs(disk).stores);
+    let bound = if r.one_in(8) { r.pick(&[1 << 32, usize::MAX]) } else { r.below(stores + 2) as usize };
+    Call::Cut(Rc::new(write), bound)
+}
+
 pub fn any_call(r: &mut Random, g: Geometry, disk: &[u8], line: &LentLine) -> Call {
     let b = g.block_size as usize;
-    match r.below(96) {
+    match r.below(100) {
         0 if r.one_in(6) => Call::Format(g),
         0 | 1 => Call::Format(bent_geometry(r, g)),
         2..=9 => Call::PublicRead(any_number(r, g.publics), any_block(r, b)),
@@ -91,6 +109,8 @@ pub fn any_call(r: &mut Random, g: Geometry, disk: &[u8], line: &LentLine) -> Ca
             let offer = (!r.one_in(4)).then(|| any_offered(r, g));
             any_write(r, g, disk, offer)
         }
+        56 | 57 => any_cut(r, g, disk, line),
+        58 | 59 => Call::Recover,
         _ => any_line_call(r, g, disk, line),
     }
 }

@@ -1,8 +1,11 @@
 //! Calls with all that they lend, what they give, and both in words.
 use crate::engine::{
-    Engine, Entered, Geometry, Identified, LineWrite, LineWritten, Needs, Offer, Size, Wait, Write, Written,
+    Cut, Engine, Entered, Geometry, Identified, LineWrite, LineWritten, Needs, Offer, Size, Wait, Write,
+    Written,
 };
 use crate::line::handed_over;
+use crate::plain::PLAIN;
+use std::rc::Rc;
 
 /// A line as it is lent, so many of its first offers waiting, and the blocks that its places speak of.
 #[derive(Clone)]
@@ -36,10 +39,25 @@ pub enum Call {
     Needs(u32),
     CheckTree,
     WaitRounds,
-    Write { number: u32, data: Vec<u8>, offer: Option<(u32, Vec<u8>)>, random: Vec<u8>, list: Vec<u32> },
+    Write {
+        number: u32,
+        data: Vec<u8>,
+        offer: Option<(u32, Vec<u8>)>,
+        random: Vec<u8>,
+        list: Vec<u32>,
+    },
     Enter(Offer, LentLine),
-    WriteLine { number: u32, data: Vec<u8>, line: LentLine, random: Vec<u8>, list: Vec<u32> },
+    WriteLine {
+        number: u32,
+        data: Vec<u8>,
+        line: LentLine,
+        random: Vec<u8>,
+        list: Vec<u32>,
+    },
     HiddenReadLine(u32, Vec<u8>, LentLine),
+    /// Of a write its first so many stores.
+    Cut(Rc<Call>, usize),
+    Recover,
 }
 
 /// What a read shows: a part of the disk or of the lent blocks, by its offset, or the blank.
@@ -64,6 +82,8 @@ pub enum Given {
     Wrote(Written, Vec<u32>),
     Entered(Entered, Vec<Offer>),
     WroteLine(LineWritten, Vec<Offer>, Vec<u32>),
+    Cut(Cut, Vec<u32>),
+    Recovered(Result<(), u32>),
 }
 
 /// Which part of disk or lent blocks is shown, if it is not the blank, and its length.
@@ -113,6 +133,36 @@ impl Call {
                 let part = (engine.hidden_read_line)(disk, *number, blank, blocks, offers, *waiting);
                 Given::Shown(part.map(|part| shown(part, disk, blocks)))
             }
+            Call::Cut(write, bound) => write.run_cut(engine, disk, *bound),
+            Call::Recover => Given::Recovered((engine.recover)(disk)),
+        }
+    }
+
+    /// What a write takes, whole or cut.
+    pub fn needs(&self, disk: &[u8]) -> Needs {
+        match self {
+            Call::Write { number, .. } | Call::WriteLine { number, .. } => (PLAIN.needs)(disk, *number),
+            Call::Cut(write, _) => write.needs(disk),
+            _ => Needs::refused(0),
+        }
+    }
+
+    /// A write as far as its first so many stores.
+    fn run_cut(&self, engine: &Engine, disk: &mut [u8], bound: usize) -> Given {
+        match self {
+            Call::Write { number, data, offer, random, list } => {
+                let offer = offer.as_ref().map(|(number, data)| (*number, &data[..]));
+                let mut list = list.clone();
+                let write = Write { number: *number, data, offer, random };
+                Given::Cut((engine.write_cut)(disk, &write, &mut list, bound), list)
+            }
+            Call::WriteLine { number, data, line, random, list } => {
+                let LentLine { offers, waiting, blocks } = line;
+                let mut list = list.clone();
+                let write = LineWrite { number: *number, data, blocks, waiting: *waiting, random };
+                Given::Cut((engine.write_line_cut)(disk, &write, offers, &mut list, bound), list)
+            }
+            _ => unreachable!("only writes are cut"),
         }
     }
 
@@ -147,6 +197,8 @@ impl Call {
             Call::HiddenReadLine(number, blank, line) => {
                 format!("hidden read of {number}, blank of {} bytes, {}", blank.len(), line.told())
             }
+            Call::Cut(write, bound) => format!("{}, cut after {bound} stores", write.told()),
+            Call::Recover => "recovery".to_string(),
         }
     }
 }
@@ -162,6 +214,9 @@ impl Given {
     pub fn apart_from(&self, other: &Given) -> String {
         let difference = match (self, other) {
             (Given::Wrote(report, list), Given::Wrote(same, others)) if report == same => {
+                difference("list entry", list, others)
+            }
+            (Given::Cut(report, list), Given::Cut(same, others)) if report == same => {
                 difference("list entry", list, others)
             }
             (Given::Entered(report, line), Given::Entered(same, others)) if report == same => {
@@ -183,6 +238,7 @@ impl Given {
             Given::Wrote(report, _) => format!("{report:?}"),
             Given::Entered(report, _) => format!("{report:?}"),
             Given::WroteLine(report, ..) => format!("{report:?}"),
+            Given::Cut(report, _) => format!("{report:?}"),
             _ => format!("{self:?}"),
         }
     }
@@ -196,6 +252,7 @@ impl Given {
             Given::WroteLine(written, ..) => written.outcome == 12,
             Given::Formatted(_) | Given::Identified(_) | Given::Sized(_) => false,
             Given::Needed(_) | Given::Waits(_) | Given::Entered(..) => false,
+            Given::Cut(..) | Given::Recovered(_) => false,
         }
     }
 
@@ -205,6 +262,8 @@ impl Given {
             Given::Formatted(answer) => answer.is_ok(),
             Given::Wrote(written, _) => written.answer == 0,
             Given::WroteLine(written, ..) => written.answer == 0,
+            Given::Cut(cut, _) => cut.stores != 0,
+            Given::Recovered(answer) => answer.is_ok(),
             _ => false,
         }
     }

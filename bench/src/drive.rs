@@ -1,6 +1,7 @@
 //! Where things stand on a drive and what is read from it (document 01, "The disk"), with refusals 1 to 7 and
 //! 10 to 12. Names of one letter are document 01's.
 use crate::engine::{Geometry, Needs};
+use std::ops::Range;
 
 /// The refusal of this number where its condition holds.
 pub fn check(holds: bool, number: u32) -> Result<(), u32> {
@@ -80,7 +81,7 @@ impl Drive {
     }
 
     /// Whether an address is A + place of some slot.
-    fn is_at(&self, place: usize, address: usize) -> bool {
+    pub fn is_at(&self, place: usize, address: usize) -> bool {
         (self.d..self.t).contains(&address) && (address - self.d) % (self.k + 1) == place
     }
 
@@ -111,6 +112,17 @@ impl Drive {
         (1 + number / self.f, number % self.f)
     }
 
+    /// The map entries of the public numbers, those that are 0 left out.
+    pub fn mapped(&self, disk: &[u8]) -> impl Iterator<Item = usize> {
+        let map = &disk[self.b..];
+        (0..self.p).map(move |number| entry(map, number)).filter(|at| *at != 0)
+    }
+
+    /// The bytes of the bitmap on a disk, padding too.
+    pub fn bits(&self) -> Range<usize> {
+        self.bitmap * self.b..self.root * self.b
+    }
+
     /// The place, in its node of level + 1, of the entry that leads a hidden number to a level.
     pub fn branch(&self, number: usize, level: usize) -> usize {
         match level {
@@ -137,6 +149,12 @@ impl Drive {
     /// Whether the walk for a number ends at a data address.
     pub fn leads_to(&self, disk: &[u8], number: usize, address: usize) -> bool {
         self.walk(disk, number).is_ok_and(|(end, _)| end == Some(address))
+    }
+
+    /// The round, counted from a head, that comes by the slot where a hidden number's block stands.
+    pub fn round_of(&self, disk: &[u8], head: usize, number: usize) -> Option<usize> {
+        let (end, _) = self.walk(disk, number).ok()?;
+        Some((self.slot_of(end?) + self.m - head) % self.m + 1)
     }
 
     /// Makes a node of a level point to what is below it in the slot at A; a leaf also names its owner.

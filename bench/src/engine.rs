@@ -82,6 +82,24 @@ impl LineWritten {
     }
 }
 
+/// What a write reports of which only the first so many stores are made: those that are, and 1 where some are
+/// left out. Laid out as `pddm_cut`.
+#[repr(C)]
+#[derive(Clone, Copy, PartialEq, Eq, Debug)]
+pub struct Cut {
+    pub answer: u32,
+    pub stores: u32,
+    pub cut: u32,
+}
+
+impl Cut {
+    /// Of a whole write with this answer and so many stores.
+    pub fn of(answer: u32, stores: u32, bound: usize) -> Self {
+        let made = bound.min(stores as usize) as u32;
+        Cut { answer, stores: made, cut: u32::from(made < stores) }
+    }
+}
+
 /// The outcomes that are no refusal numbers.
 pub const NONE: u32 = 0;
 pub const PLACED: u32 = 1;
@@ -182,6 +200,12 @@ pub struct Engine {
     pub write_line: fn(&mut [u8], &LineWrite, &mut [Offer], &mut [u32]) -> LineWritten,
     /// Of a disk, a number, a blank, the lent blocks, a line and how many of it wait.
     pub hidden_read_line: for<'a> fn(&'a [u8], u32, &'a [u8], &'a [u8], &[Offer], u32) -> Shown<'a>,
+    /// The write with its first so many stores alone, as if the plug were pulled then.
+    pub write_cut: fn(&mut [u8], &Write, &mut [u32], usize) -> Cut,
+    /// The same with a line, which stays as it is lent.
+    pub write_line_cut: fn(&mut [u8], &LineWrite, &[Offer], &mut [u32], usize) -> Cut,
+    /// Rebuilds the bitmap from the public map.
+    pub recover: fn(&mut [u8]) -> Result<(), u32>,
 }
 
 /// A formatted drive whose data area is filled with 165.

@@ -1,7 +1,7 @@
 //! Equal drives of several mappers: each call is made on all of them, and what it gives and leaves is to be
 //! the same. What is promised of a drive that passes the tree check is held too.
 use crate::calls::{Call, Given, LentLine, Part};
-use crate::engine::{Engine, LineWritten, Offer, Wait, Written};
+use crate::engine::{Cut, Engine, LineWritten, Offer, Wait, Written};
 use crate::met::Met;
 use crate::plain::PLAIN;
 use crate::proved::PROVED;
@@ -47,6 +47,11 @@ fn holds_rest(call: &Call, given: &Given) -> Result<(), String> {
             holds_list(list, stores, after)?;
             (given.told(), answer == 0 || *written == LineWritten::refused(answer, waiting))
         }
+        (Call::Cut(write, _), Given::Cut(cut, after)) => {
+            let (Call::Write { list, .. } | Call::WriteLine { list, .. }) = &**write else { unreachable!() };
+            holds_list(list, cut.stores, after)?;
+            (given.told(), cut.answer == 0 || *cut == Cut::of(cut.answer, 0, 0))
+        }
         (Call::Enter(_, line), Given::Entered(entered, offers)) => {
             return holds_line(line, entered.answer, entered.waiting, offers);
         }
@@ -58,6 +63,11 @@ fn holds_rest(call: &Call, given: &Given) -> Result<(), String> {
 impl<'a> Held<'a> {
     pub fn new(engines: &'a [Engine], disk: Vec<u8>, passes: bool) -> Self {
         Held { engines, disks: vec![disk; engines.len()], passes, row: Row::default() }
+    }
+
+    /// The same mappers on another disk; its tree passes where this one does.
+    pub fn again(&self, disk: Vec<u8>) -> Self {
+        Held::new(self.engines, disk, self.passes)
     }
 
     /// Holds the disks against the first.

@@ -1,14 +1,15 @@
 //! A mapper that changes the drive in place, as fast as it can be had: a block that is kept is only listed,
 //! and a block with some bytes changed has just these changed. It leaves what the others leave.
 use crate::allowed::{self, Allowed, Half, Public};
-use crate::drive::{Drive, Nodes, put_entry};
+use crate::drive::{Drive, Nodes, check, put_entry};
 use crate::engine::{Engine, LineWrite, LineWritten, Offer, Wait, Write, Written};
 use crate::plain::PLAIN;
 use std::arch::x86_64::{_MM_HINT_T0, _mm_prefetch};
 
 /// Formatting, the other questions, reads, entries and the whole-tree check copy no block, and are plain
-/// Rust's.
-pub const IN_PLACE: Engine = Engine { name: "in-place Rust", wait_rounds, write, write_line, ..PLAIN };
+/// Rust's. So is a write that is cut: here blocks are not stored one by one, and the head moves once a call.
+pub const IN_PLACE: Engine =
+    Engine { name: "in-place Rust", wait_rounds, write, write_line, recover, ..PLAIN };
 
 /// Goes by the numbers: the slot that a number's walk ends in is live if the number owns it.
 fn wait_rounds(disk: &[u8]) -> Wait {
@@ -100,4 +101,19 @@ fn write(disk: &mut [u8], call: &Write, list: &mut [u32]) -> Written {
 
 fn write_line(disk: &mut [u8], call: &LineWrite, line: &mut [Offer], list: &mut [u32]) -> LineWritten {
     allowed::write_line(disk, call, line, list, make_rounds)
+}
+
+/// Goes by the mapped places in their order: one that two numbers share stands there twice in a row.
+fn recover(disk: &mut [u8]) -> Result<(), u32> {
+    let (v, _) = Drive::open(disk)?;
+    let mut places = v.mapped(disk).collect::<Vec<_>>();
+    places.sort_unstable();
+    check(places.iter().any(|at| !v.is_at(0, *at)), 17)?;
+    check(places.windows(2).any(|two| two[0] == two[1]), 17)?;
+    disk[v.bits()].fill(0);
+    for at in places {
+        let (address, byte, weight) = v.bit(v.slot_of(at));
+        block_mut(&v, disk, address)[byte] |= weight;
+    }
+    Ok(())
 }

@@ -1,7 +1,7 @@
 //! The proved mapper beside two written in Rust: what they answer is compared, and how long they take. The
 //! programs are `differential`, `bit_places`, `walks`, `touched`, `benchmark`, `pair`, `digest`, `tree_check`,
-//! `waiting`, `longest`, `fill`, `spread` and `stacks`; `tests/` holds all three mappers to the documents'
-//! examples.
+//! `recover_time`, `waiting`, `longest`, `fill`, `spread` and `stacks`; `tests/` holds all three mappers to
+//! the documents' examples.
 pub mod allowed;
 pub mod any_calls;
 pub mod arguments;
@@ -9,6 +9,7 @@ pub mod arguments;
 pub mod before;
 pub mod calls;
 pub mod carried;
+pub mod cuts;
 pub mod drive;
 pub mod drives;
 pub mod engine;
@@ -22,6 +23,7 @@ pub mod plain;
 pub mod plot;
 pub mod proved;
 pub mod random;
+pub mod recoveries;
 pub mod states;
 pub mod tree;
 pub mod tree_damage;
@@ -30,6 +32,7 @@ pub mod waits;
 pub mod watched;
 pub mod workload;
 pub mod wrong;
+pub mod wrong_cuts;
 
 /// All three mappers, the proved one first.
 pub const ENGINES: [engine::Engine; 3] = [proved::PROVED, plain::PLAIN, inplace::IN_PLACE];

@@ -5,7 +5,7 @@ use std::collections::BTreeMap;
 
 /// What each kind of call, and the whole-tree check after each kind of tree damage, is to give at least once,
 /// and nothing else.
-const DUE: [(&str, &[&str]); 26] = [
+const DUE: [(&str, &[&str]); 32] = [
     ("format", &["0", "1", "2"]),
     ("identify", &["0", "1", "2", "3"]),
     ("drive size", &["0", "1"]),
@@ -43,6 +43,50 @@ const DUE: [(&str, &[&str]); 26] = [
             "in round H + 1",
             "in round w x H + 1",
             "before one in front",
+        ],
+    ),
+    ("cut write", &["0", "1", "2", "3", "4", "5", "6", "7", "8", "9"]),
+    ("cut with line", &["0", "1", "2", "3", "4", "5", "6", "7", "8", "9"]),
+    (
+        "cut after",
+        &[
+            "nothing",
+            "block A",
+            "node",
+            "hidden data",
+            "root",
+            "map block",
+            "new bit",
+            "old bit",
+            "header",
+            "more than all",
+        ],
+    ),
+    (
+        "of cuts",
+        &[
+            "number old",
+            "number new",
+            "offer old",
+            "offer new",
+            "first of a line new",
+            "6 until recovery",
+            "gone on from",
+        ],
+    ),
+    ("recover", &["0", "1", "2", "3", "17"]),
+    (
+        "of recoveries",
+        &[
+            "17 for no slot's block",
+            "17 for a shared entry",
+            "17 for both",
+            "no block past P",
+            "shared past P",
+            "mark set",
+            "mark cleared",
+            "padding cleared",
+            "as it was",
         ],
     ),
     ("tree check", &["0", "1", "2", "3", "13", "14", "15"]),
@@ -123,6 +167,12 @@ impl Met {
             }
             Given::Entered(entered, _) => self.count_entered(call, entered),
             Given::WroteLine(written, offers, _) => self.count_line(call, written, offers),
+            Given::Cut(cut, _) => {
+                let Call::Cut(write, _) = call else { return };
+                let has_line = matches!(**write, Call::WriteLine { .. });
+                self.count(if has_line { "cut with line" } else { "cut write" }, cut.answer);
+            }
+            Given::Recovered(answer) => self.count("recover", answer.err().unwrap_or(0)),
         }
     }
 
@@ -173,7 +223,7 @@ impl Met {
                     good = false;
                 }
             }
-            println!("{kind:<11} | {}", line.join(", "));
+            println!("{kind:<13} | {}", line.join(", "));
         }
         for ((kind, label), count) in left {
             println!("not due: {kind} {label}, {count} times");

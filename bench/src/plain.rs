@@ -1,9 +1,10 @@
-//! A mapper written from documents 01 and 02 (K2, K3, K7, K12) in plain Rust: one store function, whole
+//! A mapper written from documents 01 and 02 (K2, K3, K5, K7, K12) in plain Rust: one store function, whole
 //! blocks, the documents' checks and no others. The proved mapper is measured and held against it.
 use crate::allowed::{self, Allowed, Half, Public};
-use crate::drive::{Drive, put_entry};
+use crate::drive::{Drive, check, put_entry};
 use crate::engine::{
-    Engine, Geometry, Identified, LineWrite, LineWritten, Needs, Offer, Shown, Size, Wait, Write, Written,
+    Cut, Engine, Geometry, Identified, LineWrite, LineWritten, Needs, Offer, Shown, Size, Wait, Write,
+    Written,
 };
 use crate::line::{enter, handed_over, waiting_for};
 use crate::tree::check_tree;
@@ -22,6 +23,9 @@ pub const PLAIN: Engine = Engine {
     enter,
     write_line,
     hidden_read_line,
+    write_cut,
+    write_line_cut,
+    recover,
 };
 
 fn format(disk: &mut [u8], g: Geometry) -> Result<(), u32> {
@@ -95,10 +99,13 @@ struct Lent<'a> {
     block: [u8; 4096],
 }
 
-/// Copies one whole block to its address and enters the address next in the list.
+/// Copies one whole block to its address and enters the address next in the list. Past the list's end no
+/// store is made: a write that is cut has a list of so many entries.
 fn store(disk: &mut [u8], list: &mut std::slice::IterMut<u32>, address: usize, block: &[u8]) {
-    disk[address * block.len()..][..block.len()].copy_from_slice(block);
-    *list.next().unwrap() = address as u32;
+    if let Some(next) = list.next() {
+        disk[address * block.len()..][..block.len()].copy_from_slice(block);
+        *next = address as u32;
+    }
 }
 
 impl Lent<'_> {
@@ -189,4 +196,40 @@ fn write(disk: &mut [u8], call: &Write, list: &mut [u32]) -> Written {
 
 fn write_line(disk: &mut [u8], call: &LineWrite, line: &mut [Offer], list: &mut [u32]) -> LineWritten {
     allowed::write_line(disk, call, line, list, make_rounds)
+}
+
+/// The rounds of a write as far as its first so many stores. What they read past these is no longer the
+/// write's, and goes nowhere.
+fn make_first(bound: usize) -> impl FnOnce(&mut [u8], &Public, &mut Allowed, &mut [u32]) {
+    move |disk, public, allowed, list| {
+        let made = bound.min(list.len());
+        make_rounds(disk, public, allowed, &mut list[..made]);
+    }
+}
+
+fn write_cut(disk: &mut [u8], call: &Write, list: &mut [u32], bound: usize) -> Cut {
+    let Written { answer, stores, .. } = allowed::write(disk, call, list, make_first(bound));
+    Cut::of(answer, stores, bound)
+}
+
+fn write_line_cut(disk: &mut [u8], call: &LineWrite, line: &[Offer], list: &mut [u32], bound: usize) -> Cut {
+    let mut line = line.to_vec();
+    let LineWritten { answer, stores, .. } =
+        allowed::write_line(disk, call, &mut line, list, make_first(bound));
+    Cut::of(answer, stores, bound)
+}
+
+/// The new bitmap is made beside the disk: an entry that two numbers share finds its bit set there, before a
+/// byte of the disk is changed.
+fn recover(disk: &mut [u8]) -> Result<(), u32> {
+    let (v, _) = Drive::open(disk)?;
+    let mut bits = vec![0; v.bits().len()];
+    for at in v.mapped(disk) {
+        check(!v.is_at(0, at), 17)?;
+        let (byte, weight) = ((at - v.d) / 8, 1 << ((at - v.d) % 8));
+        check(bits[byte] & weight != 0, 17)?;
+        bits[byte] |= weight;
+    }
+    disk[v.bits()].copy_from_slice(&bits);
+    Ok(())
 }

@@ -5,8 +5,8 @@
 //! line and list are borrowed alone where they are changed.
 use crate::drive::check;
 use crate::engine::{
-    Engine, Entered, Geometry, Identified, LineWrite, LineWritten, Needs, Offer, Shown, Size, Wait, Write,
-    Written,
+    Cut, Engine, Entered, Geometry, Identified, LineWrite, LineWritten, Needs, Offer, Shown, Size, Wait,
+    Write, Written,
 };
 
 pub const PROVED: Engine = Engine {
@@ -23,6 +23,9 @@ pub const PROVED: Engine = Engine {
     enter,
     write_line,
     hidden_read_line,
+    write_cut,
+    write_line_cut,
+    recover,
 };
 
 /// `pddm_found`.
@@ -72,6 +75,18 @@ unsafe extern "C" {
         disk: *const u8, disk_len: usize, number: u32, blank: *const u8, blank_len: usize,
         blocks: *const u8, blocks_len: usize, line: *const Offer, line_len: usize, waiting: u32,
     ) -> Found;
+    fn pddm_write_cut(
+        disk: *mut u8, disk_len: usize, number: u32, data: *const u8, data_len: usize,
+        offered: bool, hidden_number: u32, hidden: *const u8, hidden_len: usize,
+        random: *const u8, random_len: usize, list: *mut u32, list_len: usize, bound: usize,
+    ) -> Cut;
+    fn pddm_write_line_cut(
+        disk: *mut u8, disk_len: usize, number: u32, data: *const u8, data_len: usize,
+        blocks: *const u8, blocks_len: usize, numbers: *const u32, numbers_len: usize,
+        places: *const u32, places_len: usize, waiting: u32,
+        random: *const u8, random_len: usize, list: *mut u32, list_len: usize, bound: usize,
+    ) -> Cut;
+    fn pddm_recover(disk: *mut u8, disk_len: usize) -> u32;
 }
 
 /// What a find says, as a part of the disk or of the lent blocks, or the blank. A good find's blank is one
@@ -168,4 +183,36 @@ fn hidden_read_line<'a>(
         )
     };
     shown(disk, blocks, blank, found)
+}
+
+#[rustfmt::skip]
+fn write_cut(disk: &mut [u8], call: &Write, list: &mut [u32], bound: usize) -> Cut {
+    let (hidden_number, hidden) = call.offer.unwrap_or((0, &[]));
+    unsafe {
+        pddm_write_cut(
+            disk.as_mut_ptr(), disk.len(), call.number, call.data.as_ptr(), call.data.len(),
+            call.offer.is_some(), hidden_number, hidden.as_ptr(), hidden.len(),
+            call.random.as_ptr(), call.random.len(), list.as_mut_ptr(), list.len(), bound,
+        )
+    }
+}
+
+/// The line is lent as two arrays.
+#[rustfmt::skip]
+fn write_line_cut(disk: &mut [u8], call: &LineWrite, line: &[Offer], list: &mut [u32], bound: usize) -> Cut {
+    let numbers = line.iter().map(|offer| offer.number).collect::<Vec<_>>();
+    let places = line.iter().map(|offer| offer.place).collect::<Vec<_>>();
+    unsafe {
+        pddm_write_line_cut(
+            disk.as_mut_ptr(), disk.len(), call.number, call.data.as_ptr(), call.data.len(),
+            call.blocks.as_ptr(), call.blocks.len(), numbers.as_ptr(), numbers.len(),
+            places.as_ptr(), places.len(), call.waiting,
+            call.random.as_ptr(), call.random.len(), list.as_mut_ptr(), list.len(), bound,
+        )
+    }
+}
+
+fn recover(disk: &mut [u8]) -> Result<(), u32> {
+    let answer = unsafe { pddm_recover(disk.as_mut_ptr(), disk.len()) };
+    check(answer != 0, answer)
 }

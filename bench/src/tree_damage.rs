@@ -1,5 +1,5 @@
-//! Purpose-made damage of a tree that passes the whole-tree check, where the check goes: on the nodes of a
-//! number's path, and on owners.
+//! Purpose-made changes of a tree that passes the whole-tree check: damage where the check goes, on the nodes
+//! of a number's path and on owners; and nodes moved, by which it still passes.
 use crate::drive::{Drive, Nodes, entry, put_entry};
 use crate::drives::any_entry;
 use crate::random::Random;
@@ -12,7 +12,10 @@ struct Path {
 }
 
 fn any_path(r: &mut Random, v: &Drive, disk: &[u8]) -> Path {
-    let number = r.below(v.h as u64) as usize;
+    path_of(v, disk, r.below(v.h as u64) as usize)
+}
+
+fn path_of(v: &Drive, disk: &[u8], number: usize) -> Path {
     let mut root = [None; 5];
     root[v.k] = Some(v.root);
     let (end, nodes) = v.walk(disk, number).unwrap_or((None, root));
@@ -108,4 +111,24 @@ pub fn damage_tree(r: &mut Random, disk: &mut [u8]) -> &'static str {
         return "two damages";
     }
     done
+}
+
+/// Moves the node of a level that is on two numbers' ways to the slot of the second, which is the head's as
+/// often as not; where there is none it stays. A tree that passes the check still does. Calls leave no such
+/// tree, in which a node stands in a slot without those below it.
+pub fn move_node(r: &mut Random, disk: &mut [u8]) {
+    let (v, head) = Drive::open(disk).expect("a drive that is not refused");
+    let level = 1 + r.below(v.k as u64 - 1) as usize;
+    let owner = v.owner(disk, v.start(head));
+    let one = any_path(r, &v, disk);
+    let other = if r.one_in(2) && owner < v.h { path_of(&v, disk, owner) } else { any_path(r, &v, disk) };
+    let (Some(from), Some(end)) = (one.nodes[level], other.end) else { return };
+    if other.nodes[level] == Some(from) {
+        let to = v.start(v.slot_of(end)) + level;
+        disk.copy_within(from * v.b..(from + 1) * v.b, to * v.b);
+        if level == 1 {
+            put_entry(&mut disk[to * v.b..], v.f - 1, other.number);
+        }
+        put_entry(&mut disk[one.nodes[level + 1].unwrap() * v.b..], v.branch(one.number, level), to);
+    }
 }

@@ -71,10 +71,8 @@ impl Before {
 
     /// The round of the write that came by the slot where a number's block stands, if one did.
     fn round_of(&self, number: u32, after: &After) -> Option<u32> {
-        let (end, _) = self.v.walk(after.disk, number as usize).ok()?;
-        let slot = self.v.slot_of(end?);
-        let round = (slot + self.v.m - self.head) % self.v.m + 1;
-        (round <= after.rounds as usize).then_some(round as u32)
+        let round = self.v.round_of(after.disk, self.head, number as usize)? as u32;
+        (round <= after.rounds).then_some(round)
     }
 
     /// That the first offer that counts is placed in the round told, and none where the write has fewer.

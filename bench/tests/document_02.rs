@@ -1,6 +1,6 @@
 //! Document 02's K1 on drives worked by hand: what the tree check answers on every mapper. An entry is given
-//! by its block, its place there and its value. K3 is in `document_02/line.rs`, K12 in
-//! `document_02/waits.rs`.
+//! by its block, its place there and its value. K3 is in `document_02/line.rs`, K5 in
+//! `document_02/recovery.rs`, K12 in `document_02/waits.rs`.
 use pddm_bench::ENGINES;
 use pddm_bench::drive::{entry, put_entry};
 use pddm_bench::drives::fill;
@@ -8,6 +8,8 @@ use pddm_bench::engine::{Engine, Geometry, fresh};
 
 #[path = "document_02/line.rs"]
 mod line;
+#[path = "document_02/recovery.rs"]
+mod recovery;
 #[path = "document_02/waits.rs"]
 mod waits;
 

@@ -1,14 +1,17 @@
-//! `differential [SECONDS [SEED]]`: holds the three mappers against each other, over document 02's K11 calls
-//! and then over random small drives until the seconds (20) are up. Answers, shown parts, lists and lines
-//! with their tails and disks are to be equal after every call; a drive that passes the tree check is to go
-//! on passing it, and no offer is to wait longer there than it may (K12); and every refusal, every outcome
-//! and what lines and waits can meet is to be met. First it finds mappers that are wrong with lines and
-//! waits. Ends with status 1 on the first difference, which it prints, where one was not met, or where a
-//! wrong mapper is not found. A drive is made from its seed alone: the one that is printed, given as SEED, is
-//! the first.
-use pddm_bench::any_calls::{any_call, any_line_call, any_line_write, any_offered, any_write};
+//! `differential [SECONDS [SEED]]`: holds the three mappers against each other, over recoveries of a drive
+//! with many slots, document 02's K11 calls and then random small drives until the seconds (20) are up.
+//! Answers, shown parts, lists and lines with their tails and disks are to be equal after every call; a drive
+//! that passes the tree check is to go on passing it, no offer is to wait longer there than it may (K12), and
+//! a write that is cut after any store is to be recovered to old or new blocks (K5); and every refusal, every
+//! outcome and what lines, waits, cuts and recoveries can meet is to be met. First it finds mappers that are
+//! wrong with these. Ends with status 1 on the first difference, which it prints, where one was not met, or
+//! where a wrong mapper is not found. A drive is made from its seed alone: the one that is printed, given as
+//! SEED, is the first.
+use pddm_bench::any_calls::{any_call, any_line_call, any_line_write, any_offered, any_write, either_write};
 use pddm_bench::arguments::Arguments;
 use pddm_bench::calls::{Call, Given, LentLine};
+use pddm_bench::cuts::hold_cuts;
+use pddm_bench::drive::Drive;
 use pddm_bench::drives::{KINDS, Kind, damage, drive, geometry, spoil};
 use pddm_bench::engine::{Engine, Geometry, fresh};
 use pddm_bench::held::Held;
@@ -18,10 +21,12 @@ use pddm_bench::met::Met;
 use pddm_bench::plain::PLAIN;
 use pddm_bench::proved::PROVED;
 use pddm_bench::random::Random;
-use pddm_bench::tree_damage::damage_tree;
+use pddm_bench::recoveries::{bend_free, bend_map, hold_windows, recover_again};
+use pddm_bench::tree_damage::{damage_tree, move_node};
 use pddm_bench::waits::Row;
 use pddm_bench::workload::{CALLS, Caller, GEOMETRY};
 use pddm_bench::wrong::{LATE, WRONG};
+use pddm_bench::wrong_cuts::{TORN, WRONG_CUTS, WRONG_WINDOWS};
 use std::process::ExitCode;
 use std::time::{Duration, Instant};
 
@@ -43,6 +48,7 @@ struct Stand<'a> {
     r: Random,
     kind: Kind,
     g: Geometry,
+    bitmap_blocks: usize,
     held: Held<'a>,
     line: LentLine,
 }
@@ -54,7 +60,8 @@ impl<'a> Stand<'a> {
         let g = geometry(&mut r, kind);
         let held = Held::new(engines, drive(&mut r, &PLAIN, kind, g), kind != Kind::Foreign);
         let line = any_line(&mut r, g);
-        Stand { r, kind, g, held, line }
+        let v = Drive::of(g).expect("a geometry within the limits");
+        Stand { r, kind, g, bitmap_blocks: v.root - v.bitmap, held, line }
     }
 
     /// Any call on a disk of another state, held, with the line.
@@ -135,10 +142,37 @@ impl<'a> Stand<'a> {
         Ok(())
     }
 
+    /// A write that is cut after one store after another, of three the one with the most stores; now and then
+    /// with nodes moved and with what a drive is free to have changed. The drive goes on from one of the cuts,
+    /// recovered.
+    fn cut(&mut self, met: &mut Met) -> Result<(), String> {
+        let Stand { r, g, held, line, .. } = self;
+        let mut disk = held.disks[0].clone();
+        if r.one_in(2) {
+            (0..20).for_each(|_| move_node(r, &mut disk));
+            bend_free(r, &mut disk);
+        }
+        let writes = [(); 3].map(|()| either_write(r, *g, &disk, line));
+        let call = writes.into_iter().max_by_key(|write| write.needs(&disk).stores).unwrap();
+        if let Some(recovered) = hold_cuts(r, &held.again(disk), call, met)? {
+            met.count("of cuts", "gone on from");
+            *held = held.again(recovered);
+        }
+        Ok(())
+    }
+
+    /// A recovery of the drive with map entries and bits changed.
+    fn recover(&mut self, met: &mut Met) -> Result<(), String> {
+        let Stand { r, held, .. } = self;
+        let mut disk = held.disks[0].clone();
+        bend_map(r, &mut disk);
+        recover_again(r, &mut held.again(disk), met).map(|_| ())
+    }
+
     /// A call, now and then with the line bent before it, on a spoilt or damaged drive, or elsewhere; or a
-    /// row.
+    /// row, a write cut, a recovery.
     fn turn(&mut self, met: &mut Met) -> Result<(), String> {
-        let Stand { r, kind, g, held, line } = self;
+        let Stand { r, kind, g, held, line, bitmap_blocks } = self;
         if r.one_in(4) {
             bend(r, *g, line);
         }
@@ -152,6 +186,13 @@ impl<'a> Stand<'a> {
         }
         if held.passes && r.one_in(if *kind == Kind::Full { 6 } else { 24 }) {
             return self.carry(met);
+        }
+        let is_long = *bitmap_blocks > 1 || (PLAIN.needs)(&held.disks[0], 0).rounds > 1;
+        if r.one_in(if is_long { 60 } else { 200 }) {
+            return self.cut(met);
+        }
+        if r.one_in(80) {
+            return self.recover(met);
         }
         if *kind == Kind::Deep && r.one_in(2) {
             return self.hold_damage(met);
@@ -186,13 +227,18 @@ fn find(engines: &[Engine], words: &str) -> Result<u64, String> {
 
 /// Finds each wrong mapper: beside the right one, or alone.
 fn find_wrong() -> Result<(), String> {
-    for wrong in WRONG {
+    for wrong in WRONG.into_iter().chain(WRONG_CUTS) {
         let seed = find(&[PLAIN, wrong], "")?;
         println!("wrong mapper '{}': found on drive seed {seed}", wrong.name);
     }
-    for (words, late) in LATE {
-        let seed = find(&[late], words)?;
-        println!("wrong mapper '{}' alone: found on drive seed {seed}: '{words}'", late.name);
+    for wrong in WRONG_WINDOWS {
+        let found = hold_windows(&[PLAIN, wrong]);
+        let what = found.err().ok_or(format!("nothing of wrong mapper '{}'", wrong.name))?;
+        println!("wrong mapper '{}': found: {what}", wrong.name);
+    }
+    for (words, wrong) in LATE.into_iter().chain(TORN) {
+        let seed = find(&[wrong], words)?;
+        println!("wrong mapper '{}' alone: found on drive seed {seed}: '{words}'", wrong.name);
     }
     Ok(())
 }
@@ -243,7 +289,11 @@ fn main() -> ExitCode {
     let seed = arguments.number("SEED", 1, 0..=1 << 48);
     arguments.end();
     let end = start + Duration::from_secs(seconds);
-    match find_wrong().and_then(|()| hold_workload()).and_then(|()| hold_drives(seed, end)) {
+    match find_wrong()
+        .and_then(|()| hold_windows(&ENGINES))
+        .and_then(|()| hold_workload())
+        .and_then(|()| hold_drives(seed, end))
+    {
         Err(what) => println!("differs: {what}"),
         Ok(met) if met.report() => {
             println!("all equal, every refusal and outcome met");

@@ -52,9 +52,27 @@ fn line_stacks(g: Geometry, disk: &mut [u8]) -> [usize; 3] {
     [entered, shown, written]
 }
 
-/// The stacks of formatting, both reads, the questions, writes without and with an offer, the check, and the
-/// calls with a line.
-fn stacks(g: Geometry) -> [usize; 13] {
+/// The stacks of a write with an offer and of one with sixteen waiting, both cut after their first round.
+fn cut_stacks(g: Geometry, disk: &[u8]) -> [usize; 2] {
+    let block = vec![1; g.block_size as usize];
+    let (random, list) = ample(g);
+    let (random, mut list, bound) = (vec![165; random], vec![0; list], g.height as usize + 3);
+    let mut cut = disk.to_vec();
+    let with_offer = stack_of(|| {
+        let call = Write { number: 0, data: &block, offer: Some((0, &block)), random: &random };
+        assert_eq!((PROVED.write_cut)(&mut cut, &call, &mut list, bound).answer, 0);
+    });
+    let mut cut = disk.to_vec();
+    let with_line = stack_of(|| {
+        let call = LineWrite { number: 0, data: &block, blocks: &block, waiting: 16, random: &random };
+        assert_eq!((PROVED.write_line_cut)(&mut cut, &call, &sixteen(0), &mut list, bound).answer, 0);
+    });
+    [with_offer, with_line]
+}
+
+/// The stacks of formatting, both reads, the questions, writes without and with an offer, the check and the
+/// recovery, the calls with a line, and writes that are cut.
+fn stacks(g: Geometry) -> [usize; 16] {
     let mut disk = full(g);
     let block = vec![1; g.block_size as usize];
     let (random, list) = ample(g);
@@ -70,6 +88,7 @@ fn stacks(g: Geometry) -> [usize; 13] {
     };
     let written = [false, true].map(&mut writes);
     let [entered, shown, line_written] = line_stacks(g, &mut disk);
+    let [cut, line_cut] = cut_stacks(g, &disk);
     let numbers = || 0..NUMBERS;
     [
         stack_of(|| numbers().for_each(|n| assert!((PROVED.public_read)(&disk, n, &block).is_ok()))),
@@ -79,18 +98,21 @@ fn stacks(g: Geometry) -> [usize; 13] {
         written[0],
         written[1],
         stack_of(|| assert_eq!((PROVED.check_tree)(&disk), Ok(()))),
+        stack_of(|| assert_eq!((PROVED.recover)(&mut disk), Ok(()))),
         stack_of(|| assert_eq!((PROVED.identify)(&disk).answer, 0)),
         stack_of(|| assert_eq!((PROVED.drive_size)(g).answer, 0)),
         stack_of(|| assert_eq!((PROVED.format)(&mut disk, g), Ok(()))),
         entered,
         shown,
         line_written,
+        cut,
+        line_cut,
     ]
 }
 
 fn main() {
     Arguments::new("stacks").end();
-    const CALLS: [&str; 13] = [
+    const CALLS: [&str; 16] = [
         "public read",
         "hidden read",
         "what a write needs",
@@ -98,12 +120,15 @@ fn main() {
         "write without an offer",
         "write with an offer",
         "tree check",
+        "recovery",
         "which drive a disk is",
         "how large a drive is",
         "formatting",
         "entering an offer",
         "hidden read through a line",
         "write with a line",
+        "write with an offer, cut",
+        "write with a line, cut",
     ];
     let [two, three, four] = [2, 3, 4].map(|height| stacks(geometry(height)));
     println!("| stack in bytes | k 2 | k 3 | k 4 |\n|---|---|---|---|");

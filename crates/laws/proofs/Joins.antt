@@ -1,10 +1,11 @@
 -- Laws of joined lists, taken apart, and of a list that differs from another at one index. Assumes nothing.
-use mathlib.Core.Path.{_∙_, _≡_, ap, refl, sym}
+use mathlib.Core.Path.{_∙_, _≡_, ap, ap₂, refl, sym}
 use mathlib.Core.Logic.{_≢_, _⊎_, inl, inr}
 use mathlib.Core.List.{List, [], _∷_, _++_, append-assoc}
-use Prim.Native.Nat.{ℕ, _<_}
+use Prim.Native.Nat.{ℕ, zero, suc, _-_, _<_}
+use native.Mathlib.Omega.{arith}
 use lib.ListN.{length, take, drop, getD, set, length-set}
-use lib.Seq.{append-snoc, drop-at, getD-set-other, getD-set-same, take-at, ext-getD}
+use lib.Seq.{append-snoc, drop-at, getD-set-other, getD-set-same, take-at, take-nil, ext-getD}
 use Rattle.laws.proofs.Cases.{eq-cases}
 
 -- ---- joined lists ----
@@ -21,6 +22,21 @@ append-split xs ys us vs e h = (
   sym (take-at xs us (length ys) e) ∙ ap (take (length ys)) h ∙ take-at ys vs (length ys) refl,
   sym (drop-at xs us (length ys) e) ∙ ap (drop (length ys)) h ∙ drop-at ys vs (length ys) refl,
 )
+
+-- the first members of two joined lists
+pub take-append :
+    {A : Type 0} (count : ℕ) (xs ys : List A) →
+    take count (xs ++ ys) ≡ take count xs ++ take (count - length xs) ys
+take-append {A} count [] ys =
+    let all : count ≡ count - 0 = omega arith in
+    ap₂ (λ (front : List A) (rest : ℕ). front ++ take rest ys) (sym (take-nil count)) all
+take-append zero (x ∷ xs) ys =
+    let none : 0 ≡ 0 - suc (length xs) = omega arith in
+    ap (λ (rest : ℕ). take rest ys) none
+take-append {A} (suc count) (x ∷ xs) ys =
+    let fewer : count - length xs ≡ suc count - suc (length xs) = omega arith in
+    ap (λ (front : List A). x ∷ front) (take-append count xs ys)
+    ∙ ap (λ (rest : ℕ). (x ∷ take count xs) ++ take rest ys) fewer
 
 -- ---- one index ----
 

@@ -83,6 +83,13 @@ module _ {A : Type 0} where
         let t : length (take from old) ≡ from = length-front in
         rw (append-assoc, drop-at) (take-at _ _ _ refl)
 
+    -- a part of what was written
+    pub part-over-inside : (index count : ℕ) → index + count ≤ length new →
+        part (from + index) count (over from new old) ≡ part index count new
+    part-over-inside index count h =
+        sym (part-part from (length new) index count (over from new old) h)
+        ∙ ap (part index count) part-over-same
+
     take-over-before : (index : ℕ) → index ≤ from → take index (over from new old) ≡ take index old
     unfolding over
     take-over-before index h =

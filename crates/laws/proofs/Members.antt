@@ -1,5 +1,5 @@
--- What holds of each member of a list: of a joined list, and of what follows from it; and lists of numbers
--- without one twice. Assumes nothing.
+-- What holds of each member of a list: of a joined list, of what follows from it, and of the first members;
+-- and lists of numbers without one twice. Assumes nothing.
 use mathlib.Core.Path.{sym}
 use mathlib.Core.Logic.{_≢_}
 use mathlib.Core.List.{List, [], _∷_, _++_}
@@ -19,6 +19,11 @@ pub all-map :
     {A : Type 0} (P Q : A → Type 0) (xs : List A) → ((x : A) → P x → Q x) → All P xs → All Q xs
 all-map P Q [] f h = tt
 all-map P Q (x ∷ xs) f h = (f x (h .0), all-map P Q xs f (h .1))
+
+pub all-take : {A : Type 0} (P : A → Type 0) (count : ℕ) (xs : List A) → All P xs → All P (take count xs)
+all-take P zero xs h = tt
+all-take P (suc count) [] h = tt
+all-take P (suc count) (x ∷ xs) h = (h .0, all-take P count xs (h .1))
 
 -- ---- no number twice ----
 

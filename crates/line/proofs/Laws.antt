@@ -8,3 +8,4 @@ pub mod Leaving
 pub mod Runs
 pub mod Turns
 pub mod Counting
+pub mod Gathered

@@ -3,3 +3,4 @@ pub mod Numbers
 pub mod Turns
 pub mod Changes
 pub mod Waiting
+pub mod Gathered

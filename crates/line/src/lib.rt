@@ -4,3 +4,4 @@ pub mod numbers; // where a number stands in a line
 pub mod turns; // the offers that count on a drive, in their turn
 pub mod changes; // an offer that enters, and those that leave
 pub mod waiting; // what waits under a number
+pub mod gathered; // a line lent as two runs of numbers

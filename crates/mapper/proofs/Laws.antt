@@ -3,3 +3,4 @@ pub mod Offers
 pub mod Outcomes
 pub mod Writes
 pub mod LineWrites
+pub mod Uncut

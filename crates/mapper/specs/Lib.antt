@@ -1,1 +1,3 @@
 pub mod Writes
+pub mod Within
+pub mod Cuts

@@ -2,10 +2,17 @@
 // `requires`: each contract fixes the answer and the bytes that the call leaves, for every input. Formatting
 // stands in `formatting`, what is asked of a drive in `questions`, the reads in `reads`, the check of the
 // hidden tree (document 02, K1) in `tree_check`, an offer that enters a line and the hidden read through it
-// in `line_calls`; the writes are here.
+// in `line_calls`; the writes are here, and their inner form with a bound on the stores (document 02, K5), of
+// which the whole write is the one that is not cut.
+mod cuts; // the write, stopped after so many stores
 mod offers; // the hidden write that is offered: its refusal, and its turn
-mod write; // the write: with an offer or without one, or with a line of offers
+mod within; // the inner form: the write up to a bound, with an offer or without one, or with a line of offers
+mod write; // the whole write
 
+pub use cuts::CutWritten;
+pub use cuts::LineCutWritten;
+pub use cuts::write_cut;
+pub use cuts::write_line_cut;
 pub use formatting::format_drive;
 pub use line_calls::enters::Entered;
 pub use line_calls::enters::enter_line;

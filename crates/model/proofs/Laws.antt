@@ -35,6 +35,7 @@ pub mod RunSteps
 pub mod WriteRuns
 pub mod Formatting
 pub mod Calls
+pub mod HeaderStores
 pub mod LineCalls
 pub mod LineLengths
 pub mod Needs

@@ -14,6 +14,7 @@ pub mod OrderFigures
 pub mod TreeCheck
 pub mod LineFigures
 pub mod LineOfOffers
+pub mod WaitDrive
 pub mod WaitFigures
 pub mod WaitRows
 pub mod Waiting

@@ -15,3 +15,4 @@ pub mod Placing
 pub mod Turns
 pub mod Shown
 pub mod Check
+pub mod Agreed

@@ -1,2 +1,3 @@
 -- The promise and its figures, proved. Assumes nothing.
 pub mod RecoveryFigures
+pub mod Recovery

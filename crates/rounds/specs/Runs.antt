@@ -1,10 +1,11 @@
 -- What the rounds of a write need and do. Assumes nothing.
 use mathlib.Core.Path.{_≡_}
-use mathlib.Core.Bool.{true}
+use mathlib.Core.Bool.{true, cond}
 use mathlib.Core.Logic.{_⊎_}
 use mathlib.Core.List.{List, [], _∷_}
-use Prim.Native.Nat.{ℕ, _+_, _*_, _≤_, _<_}
-use lib.ListN.{length}
+use Prim.Native.Nat.{ℕ, _+_, _*_, _-_, _≤_, _<_}
+use lib.Dec.{ltb}
+use lib.ListN.{length, take}
 use Rattle.model.specs.Geometry.{Geometry, blockWidth}
 use Rattle.model.specs.Blocks.{Bytes, DiskAddress}
 use Rattle.model.specs.Layout.{Drive, mapEntry, isPlace}
@@ -41,10 +42,20 @@ pub record Runnable (g : Geometry) (disk : Bytes) (number head : ℕ) (content r
   pub random-enough : run .rounds * (g .height * g .blockSize) ≤ length random
   pub room-enough : next + length (run .trace) ≤ room
 
--- the run's stores are made, and its rounds and how far its turns came answered
-pub record RunMade (g : Geometry) (disk : Bytes) (list : List DiskAddress) (next : ℕ) (run : Run)
+-- a buffer of one block, and a bound that the list has not passed
+pub record RunLent (g : Geometry) (buffer : Bytes) (next bound : ℕ) : Type 0 where
+  pub whole : length buffer ≡ g .blockSize
+  pub bounded : next ≤ bound
+
+-- the run's stores are made up to the bound, and it answers whether some are left out; its rounds and how far
+-- its turns came, where none are, else no round and no turn
+pub record RunMade (g : Geometry) (disk : Bytes) (list : List DiskAddress) (next bound : ℕ) (run : Run)
     (turns : List Offer) (blocks : Bytes) (diskAfter : Bytes) (listAfter : List DiskAddress) (ran : Ran) :
     Type 0 where
-  pub made : Made (blockWidth g) (run .trace) disk list next diskAfter listAfter (ran .next)
-  pub rounds-are : ran .rounds ≡ run .rounds
-  pub state-is : stateOf g (ran .state) turns blocks ≡ run .state
+  pub made :
+      Made (blockWidth g) (take (bound - next) (run .trace)) disk list next diskAfter listAfter (ran .next)
+  pub cut-is : ran .«is_cut» ≡ ltb bound (next + length (run .trace))
+  pub rounds-are : ran .rounds ≡ cond (ran .«is_cut») 0 (run .rounds)
+  pub state-is :
+      stateOf g (ran .state) turns blocks ≡
+      cond (ran .«is_cut») (startState (hiddenWritesOf g blocks turns)) (run .state)

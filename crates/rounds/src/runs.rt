@@ -5,25 +5,27 @@ use layout::numbers::PublicNumber;
 use line::turns::first_of;
 use plans::states::State;
 use plans::states::state_after;
-ghost use mathlib.Core.Path.{_≡_};
 ghost use lib.ListN.{length};
 ghost use Rattle.layout.specs.Geometries.{geometryOf};
 ghost use Rattle.line.specs.Turns.{offersBy};
-ghost use Rattle.rounds.specs.Runs.{turnsRun, Runnable, RunMade};
+ghost use Rattle.rounds.specs.Runs.{turnsRun, Runnable, RunLent, RunMade};
 
-// The index after all stores in the list, how many rounds there were, and how far the turns came.
+// The index after all stores in the list, how many rounds there were, how far the turns came, and whether the
+// bound cut the run: then rounds and turns are told as if there had been none.
 pub struct Ran {
     pub next: usize,
     pub rounds: u32,
     pub state: State,
+    pub is_cut: bool,
 }
 
 // Rounds from a slot on, at most one for each slot, each with the first turn that is not placed yet. Round i
-// has the i-th k × B random bytes.
+// has the i-th k × B random bytes. The run ends where the list has come to the bound.
 pub fn do_rounds(
     disk: &mut [u8],
     list: &mut [u32],
     first: usize,
+    bound: usize,
     g: Geometry,
     number: PublicNumber,
     head: u32,
@@ -38,8 +40,8 @@ pub fn do_rounds(
         (offersBy (now numbers) (now places)) (now blocks) (turnsRun (geometryOf g) (now disk) (number .0)
         head (now content) (now random) (offersBy (now numbers) (now places)) (now blocks)) first
         (length (now list)) ⌝ }
-    requires { ⌜ length (now buffer) ≡ geometryOf g .blockSize ⌝ }
-    ensures { λ r. ⌜ RunMade (geometryOf g) (now (disk .entry)) (now (list .entry)) first (turnsRun
+    requires { ⌜ RunLent (geometryOf g) (now buffer) first bound ⌝ }
+    ensures { λ r. ⌜ RunMade (geometryOf g) (now (disk .entry)) (now (list .entry)) first bound (turnsRun
         (geometryOf g) (now (disk .entry)) (number .0) head (now (content .entry)) (now (random .entry))
         (offersBy (now (numbers .entry)) (now (places .entry))) (now (blocks .entry)))
         (offersBy (now (numbers .entry)) (now (places .entry))) (now (blocks .entry)) (now (disk .exit))
@@ -62,6 +64,7 @@ pub fn do_rounds(
             disk,
             list,
             next,
+            bound,
             g,
             number,
             slot,
@@ -72,6 +75,17 @@ pub fn do_rounds(
             buffer,
         );
         next = step.next;
+        if step.is_cut {
+            return Ran {
+                next,
+                rounds: 0,
+                state: State {
+                    placed: 0,
+                    met_damage: false,
+                },
+                is_cut: true,
+            };
+        }
         let turn = step.turn;
         reached = state_after(reached, turn);
         done += 1;
@@ -80,6 +94,7 @@ pub fn do_rounds(
                 next,
                 rounds: done,
                 state: reached,
+                is_cut: false,
             };
         }
         slot = (slot + 1) % slots;
@@ -88,6 +103,7 @@ pub fn do_rounds(
         next,
         rounds: done,
         state: reached,
+        is_cut: false,
     }
 }
 
@@ -96,6 +112,7 @@ pub fn do_rounds(
 pub fn run_write(
     disk: &mut [u8],
     list: &mut [u32],
+    bound: usize,
     g: Geometry,
     number: PublicNumber,
     head: u32,
@@ -109,7 +126,7 @@ pub fn run_write(
         (offersBy (now numbers) (now places)) (now blocks) (turnsRun (geometryOf g) (now disk) (number .0)
         head (now content) (now random) (offersBy (now numbers) (now places)) (now blocks)) 0
         (length (now list)) ⌝ }
-    ensures { λ r. ⌜ RunMade (geometryOf g) (now (disk .entry)) (now (list .entry)) 0 (turnsRun
+    ensures { λ r. ⌜ RunMade (geometryOf g) (now (disk .entry)) (now (list .entry)) 0 bound (turnsRun
         (geometryOf g) (now (disk .entry)) (number .0) head (now (content .entry)) (now (random .entry))
         (offersBy (now (numbers .entry)) (now (places .entry))) (now (blocks .entry)))
         (offersBy (now (numbers .entry)) (now (places .entry))) (now (blocks .entry)) (now (disk .exit))
@@ -121,6 +138,7 @@ pub fn run_write(
         disk,
         list,
         0,
+        bound,
         g,
         number,
         head,

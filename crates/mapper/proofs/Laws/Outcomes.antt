@@ -14,7 +14,7 @@ use Rattle.model.specs.Calls as model
 use Rattle.model.proofs.Laws.Offers.{goodOutcome}
 use Rattle.model.proofs.Laws.Offers.{offerOutcome-number, offerOutcome-size, offerOutcome-good}
 use Rattle.plans.specs.declared.states.State.{State}
-use Rattle.mapper.specs.Writes.{stateWith}
+use Rattle.mapper.specs.Within.{stateWith}
 
 -- one is left where fewer are placed than there were
 waits-left : (placed : ℕ) (writes : List HiddenWrite) → placed < length writes →

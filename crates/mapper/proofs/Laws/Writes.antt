@@ -1,18 +1,24 @@
--- Laws of a write: a refused one leaves all as it was; one that is not refused can be run with the turns of
--- what it brings, and its run is the model's write. Assumes nothing.
-use mathlib.Core.Path.{_≡_, refl, sym, ap, subst, _∙_}
+-- Laws of a write up to a bound: a refused one leaves all as it was; one that is not refused can be run with
+-- the turns of what it brings, and its run is the model's write, of which the stores before the bound are
+-- made. Assumes nothing.
+use mathlib.Core.Path.{_≡_, refl, sym, ap, ap₂, subst, _∙_}
 use mathlib.Core.Logic.{_≢_}
+use mathlib.Core.Bool.{Bool, true, false, cond}
 use mathlib.Core.List.{List, [], _∷_}
 use Prim.Native.Nat.{ℕ, _+_, _*_, _^_, _≤_, _<_}
-use native.Mathlib.Nat.{mul-assoc}
+use native.Mathlib.Nat.{mul-assoc, zero-add, sub-zero}
 use native.Mathlib.Omega.{arith}
-use lib.ListN.{length}
+use lib.Dec.{ltb}
+use lib.ListN.{length, take, length-take}
+use lib.Seq.{take-nil}
+use borrow.Author.Tests.{le-ltb}
 use Rattle.laws.specs.Lists.{over}
-use Rattle.laws.proofs.Cases.{cond-cases}
+use Rattle.laws.proofs.Cases.{cond-false, cond-cases}
 use Rattle.laws.proofs.Lists.{over-nil}
 use Rattle.laws.proofs.Members.{All}
 use Rattle.model.specs.Geometry.{Geometry, blockWidth}
 use Rattle.model.specs.Blocks.{Bytes, DiskAddress}
+use Rattle.model.specs.Stores.{Trace, apply, addresses}
 use Rattle.model.specs.Layout.{geometryIn, headIn, roundSlot, isOneBlock, mapEntry}
 use Rattle.model.specs.HiddenHalf.{HiddenWrite, HiddenState}
 use Rattle.model.specs.Rounds.{Run, runFrom}
@@ -20,7 +26,8 @@ use Rattle.model.specs.Refusals.{roundCount, writeStoreCount, writeRefusal}
 use Rattle.model.specs.Line.{Offer, hiddenWritesOf}
 use Rattle.model.specs.Calls as model
 use Rattle.model.proofs.Laws.Runs.{rounds-ran, length-ran}
-use Rattle.model.proofs.Laws.Stores.{apply-nil, addresses-take}
+use Rattle.model.proofs.Laws.Stores.{apply-nil}
+use Rattle.model.proofs.Laws.Traces.{addresses-nil}
 use Rattle.model.proofs.Laws.Refusals.{Accepted, accepted-of-refusal}
 use Rattle.model.proofs.Laws.Accepted.{AcceptedWrite, accepted-of-write, driveRefusal-of-write, GoodWrite}
 use Rattle.model.proofs.Laws.Accepted.{offeredWrites-good}
@@ -33,12 +40,25 @@ use Rattle.model.proofs.Laws.RoundSearch.{stores-small}
 use Rattle.model.proofs.Laws.WriteRuns.{writeRun-ran}
 use Rattle.model.proofs.Refusals.Circle.{roundCount-le}
 use Rattle.model.proofs.Volumes.Placed.{placed-le}
+use Rattle.recovery_model.specs.Cuts.{isCut}
+use Rattle.stores.specs.Made.{Made}
 use Rattle.stores.proofs.Laws.Made.{disk-after, list-after, next-after}
 use Rattle.rounds.specs.declared.runs.Ran.{Ran}
 use Rattle.rounds.specs.Runs.{turnsRun, TurnsLent, Runnable, RunMade}
-use Rattle.mapper.specs.declared.write.Written.{Written}
+use Rattle.mapper.specs.declared.within.Bounded.{Bounded}
 use Rattle.mapper.specs.declared.write.Outcome.the-variants.{NotTried}
-use Rattle.mapper.specs.Writes.{DoneAnswered, WriteAnswered}
+use Rattle.mapper.specs.Within.{DoneAnswered, BoundedAnswered}
+
+-- ---- choices by one test ----
+
+module _ {A B : Type 0} (f : A → B) where
+  cond-after : (b : Bool) (x y : A) → f (cond b x y) ≡ cond b (f x) (f y)
+  cond-after true x y = refl
+  cond-after false x y = refl
+
+  cond-inside : (b : Bool) (x y : A) (z : B) → cond b z (f (cond b x y)) ≡ cond b z (f y)
+  cond-inside true x y z = refl
+  cond-inside false x y z = refl
 
 -- ---- refused ----
 
@@ -49,24 +69,27 @@ module _ (disk : Bytes) (number : ℕ) (content random : Bytes) (list : List Dis
       model.refusedWrite (writeRefusal disk number content (length random) (length list))
   refused offered = written-refused disk number content random (length list) offered (λ z. some (is ∙ z))
 
-  list-kept : model.writtenList (model.refusedWrite 0) list ≡ list
-  list-kept =
-      ap (λ (addresses : List DiskAddress). over 0 addresses list) (addresses-take [] 0)
-      ∙ over-nil 0 list (omega arith)
-
   pub block-refused :
-      (offered : model.Offered) →
-      WriteAnswered (model.written disk number content random (length list) offered) disk list disk list
-      (record { answer = fault; rounds = 0; stores = 0; outcome = NotTried })
-  block-refused offered =
+      (offered : model.Offered) (bound : ℕ) →
+      BoundedAnswered (model.written disk number content random (length list) offered) bound disk list disk
+      list (record { answer = fault; rounds = 0; stores = 0; outcome = NotTried; «is_cut» = false })
+  block-refused offered bound =
+      let nothing : take bound (model.refusedWrite 0 .trace) ≡ [] = take-nil bound in
+      let whole : ltb bound 0 ≡ false = le-ltb bound 0 (omega arith) in
       rw (refused offered)
       (record {
         answered = is;
-        rounds-are = refl;
-        stores-are = refl;
-        outcome-is = refl;
-        stored = sym (apply-nil (blockWidth (geometryIn disk)) disk);
-        listed = sym list-kept;
+        rounds-are = sym (cond-false 0 0 whole);
+        stores-are = sym (ap length nothing);
+        outcome-is = sym (cond-false _ _ whole);
+        cut-is = sym whole;
+        stored =
+            sym (apply-nil (blockWidth (geometryIn disk)) disk)
+            ∙ ap (λ (xs : Trace). apply (blockWidth (geometryIn disk)) xs disk) (sym nothing);
+        listed =
+            sym (over-nil 0 list (omega arith))
+            ∙ ap (λ (xs : List DiskAddress). over 0 xs list) (sym addresses-nil)
+            ∙ ap (λ (xs : Trace). over 0 (addresses xs) list) (sym nothing);
       })
 
 -- ---- the turns' blocks ----
@@ -161,26 +184,42 @@ module _ (disk : Bytes) (number : ℕ) (content random : Bytes) (list : List Dis
       Runnable (geometryIn disk) disk number k content random offers blocks theirs 0 (length list))
       (sym first) runnable-theirs))
 
-  module _ (diskAfter : Bytes) (listAfter : List DiskAddress) (ran : Ran)
-      (done : RunMade g disk list 0 ours offers blocks diskAfter listAfter ran) where
-    done-theirs : RunMade (geometryIn disk) disk list 0 theirs offers blocks diskAfter listAfter ran
+  module _ {bound : ℕ} (diskAfter : Bytes) (listAfter : List DiskAddress) (ran : Ran)
+      (done : RunMade g disk list 0 bound ours offers blocks diskAfter listAfter ran) where
+    done-theirs : RunMade (geometryIn disk) disk list 0 bound theirs offers blocks diskAfter listAfter ran
     done-theirs =
         subst (λ (h : Geometry).
-        RunMade h disk list 0 theirs offers blocks diskAfter listAfter ran) same (rw run-is at done)
+        RunMade h disk list 0 bound theirs offers blocks diskAfter listAfter ran) same (rw run-is at done)
+
+    made : Made (blockWidth (geometryIn disk)) (take bound (theirs .trace)) disk list 0 diskAfter listAfter
+        (ran .next)
+    made = rw sub-zero at (done-theirs .made)
+
+    cut-is : ran .«is_cut» ≡ ltb bound (length (theirs .trace))
+    cut-is = done-theirs .cut-is ∙ ap (ltb bound) (zero-add (length (theirs .trace)))
+
+    placed-theirs : ran .state .placed ≡ cond (ran .«is_cut») 0 (theirs .state .placed)
+    placed-theirs =
+        ap (λ (state : HiddenState). state .placed) (done-theirs .state-is)
+        ∙ cond-after (λ (state : HiddenState). state .placed) (ran .«is_cut») _ (theirs .state)
 
     pub placed-is :
-        ran .state .placed ≡ model.written disk number content random (length list) offered .placed
+        let result = model.written disk number content random (length list) offered in
+        ran .state .placed ≡ cond (isCut bound result) 0 (result .placed)
     placed-is =
         rw (written-done disk number content random (length list) offered accepted)
-        (ap (λ (state : HiddenState). state .placed) (done-theirs .state-is))
+        (placed-theirs ∙ ap (λ (b : Bool). cond b 0 (theirs .state .placed)) cut-is)
 
     writes-count : length (hiddenWritesOf (geometryIn disk) blocks offers) ≡ length offers
     writes-count = length-hiddenWritesOf (geometryIn disk) blocks offers
 
     pub placed-most : ran .state .placed ≤ length offers
     placed-most =
+        let result = model.written disk number content random (length list) offered in
         let most = placed-le disk number content random (length list) offered in
-        omega (arith, placed-is, most, writes-count, ap length writes-are)
+        rw placed-is
+        (cond-cases (λ (n : ℕ). n ≤ length offers) (isCut bound result) (λ e. omega arith)
+        (λ e. omega (arith, most, writes-count, ap length writes-are)))
 
     pub next-fits : ran .next < 2 ^ 32
     next-fits =
@@ -191,25 +230,30 @@ module _ (disk : Bytes) (number : ℕ) (content random : Bytes) (list : List Dis
         cond-cases (λ (n : ℕ). rounds * (g .height + 3) + n < 2 ^ 32)
         (isOneBlock g (mapEntry g disk number) (roundSlot g (headIn disk) rounds))
         (λ e. omega arith) (λ e. omega arith) in
-        omega (arith, next-after (done-theirs .made), stores-are)
+        omega (arith, next-after made, length-take bound (theirs .trace), stores-are)
 
     pub block-done :
-        (bad count : ℕ) → bad ≡ model.offerRefusal g offered → length offers ≡ count → (answer : Written) →
+        (bad count : ℕ) → bad ≡ model.offerRefusal g offered → length offers ≡ count → (answer : Bounded) →
         DoneAnswered bad ran count answer →
-        WriteAnswered (model.written disk number content random (length list) offered) disk list diskAfter
-        listAfter answer
+        BoundedAnswered (model.written disk number content random (length list) offered) bound disk list
+        diskAfter listAfter answer
     block-done bad count judged counted answer said =
         let m = done-theirs in
         rw (written-done disk number content random (length list) offered accepted)
         (record {
           answered = said .answered;
-          rounds-are = said .rounds-are ∙ m .rounds-are;
-          stores-are = omega (arith, said .stores-are, next-after (m .made));
+          rounds-are =
+              said .rounds-are ∙ m .rounds-are ∙ ap (λ (b : Bool). cond b 0 (theirs .rounds)) cut-is;
+          stores-are = omega (arith, said .stores-are, next-after made);
           outcome-is =
               said .outcome-is (hiddenWritesOf (geometryIn disk) blocks offers) (writes-count ∙ counted)
-              ∙ ap (model.offerOutcome bad) (m .state-is)
-              ∙ ap (λ (n : ℕ). model.offerOutcome n (theirs .state))
+              ∙ ap (λ (state : HiddenState).
+              cond (ran .«is_cut») model.notTried (model.offerOutcome bad state)) (m .state-is)
+              ∙ cond-inside (model.offerOutcome bad) (ran .«is_cut») _ (theirs .state) model.notTried
+              ∙ ap₂ (λ (b : Bool) (n : ℕ).
+              cond b model.notTried (model.offerOutcome n (theirs .state))) cut-is
               (judged ∙ ap (λ (h : Geometry). model.offerRefusal h offered) same);
-          stored = disk-after (m .made);
-          listed = list-after (m .made);
+          cut-is = said .cut-is ∙ cut-is;
+          stored = disk-after made;
+          listed = list-after made;
         })

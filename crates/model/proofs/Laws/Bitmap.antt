@@ -2,18 +2,18 @@
 -- slot's own bit is set or cleared and after another one. Assumes nothing.
 use mathlib.Core.Path.{_≡_, refl, sym, ap, _∙_, ap₂}
 use mathlib.Core.Logic.{_≢_, ⊎-elim}
-use mathlib.Core.Bool.{Bool}
+use mathlib.Core.Bool.{Bool, false}
 use Prim.Native.Nat.{ℕ, _+_, _*_, _/_, _<_, _%_}
 use native.Mathlib.Nat.{mod-lt, div-add-mod', mul-div-cancel, div-lt-iff-lt-mul}
 use native.Mathlib.Omega.{arith}
 use lib.ListN.{length}
 use Rattle.laws.specs.Bits.{bitAt, setBit}
 use Rattle.laws.proofs.Cases.{eq-cases}
-use Rattle.laws.proofs.Bits.{length-setBit, bitAt-setBit-same, bitAt-setBit-other}
+use Rattle.laws.proofs.Bits.{length-setBit, bitAt-setBit-same, bitAt-setBit-other, bitAt-zeros}
 use Rattle.laws.proofs.Division.{ceilDiv-covers}
 use Rattle.model.specs.Geometry.{Geometry, Fits, blockCount, mapBlocks, areaBlocks, bitmapBlocks}
 use Rattle.model.specs.Geometry.{slotWidth, blockWidth, rootAddress}
-use Rattle.model.specs.Blocks.{Bytes, blockAt, setBlock, DiskAddress}
+use Rattle.model.specs.Blocks.{Bytes, blockAt, setBlock, zeroBlock, DiskAddress}
 use Rattle.model.specs.Layout.{areaPlace, bitAddress, bitPlace, isAllocated, bitmapWith}
 use Rattle.model.specs.Invariants.{bitmapBit}
 use Rattle.model.proofs.Laws.Geometry.{bitAddress-lt, slot-place-lt}
@@ -59,6 +59,15 @@ pub bitmapBit-block :
     bitmapBit g disk place ≡ bitmapBit g other place
 unfolding bitmapBit
 bitmapBit-block g disk other place e = ap (bitAt (place % (8 * g .blockSize))) e
+
+-- a bitmap block of zeros has none
+pub bitmapBit-zeros :
+    (g : Geometry) (disk : Bytes) (place : ℕ) →
+    blockAt (blockWidth g) disk (blockOfBit g place) ≡ zeroBlock (g .blockSize) →
+    bitmapBit g disk place ≡ false
+unfolding bitmapBit
+bitmapBit-zeros g disk place e =
+    ap (bitAt (place % (8 * g .blockSize))) e ∙ bitAt-zeros (place % (8 * g .blockSize)) (g .blockSize)
 
 -- ---- places ----
 

@@ -1,15 +1,16 @@
--- Laws of blocks, over their width: lengths, read after write at the same and at another address, one block
--- written twice. Assumes nothing.
+-- Laws of blocks, over their width: two disks by their blocks, lengths, read after write at the same and at
+-- another address, one block written twice. Assumes nothing.
 use mathlib.Core.Path.{_≡_, refl, sym, ap, _∙_}
 use mathlib.Core.Logic.{_≢_, ⊎-elim}
-use Prim.Native.Nat.{ℕ, suc, _+_, _*_, _≤_, _<_}
-use native.Mathlib.Nat.{mul-le-mul-right}
+use Prim.Native.Nat.{ℕ, suc, _+_, _*_, _/_, _%_, _≤_, _<_}
+use native.Mathlib.Nat.{mul-le-mul-right, div-add-mod', mod-lt, div-lt-iff-lt-mul}
 use native.Mathlib.Omega.{arith}
-use lib.ListN.{length}
+use lib.ListN.{length, getD, drop}
+use lib.Seq.{ext-getD, getD-take, getD-drop}
 use Rattle.laws.specs.Lists.{part, over}
 use Rattle.laws.proofs.Cases.{lt-cases}
 use Rattle.laws.proofs.Lists.{length-part, length-over, part-over-same, part-over-before, part-over-after}
-use Rattle.laws.proofs.Lists.{over-again}
+use Rattle.laws.proofs.Lists.{over-again, part-is}
 use Rattle.model.specs.Blocks.{Bytes, DiskAddress, blockAt, setBlock}
 
 -- ---- equations ----
@@ -24,6 +25,35 @@ pub setBlock-is :
     setBlock width disk address block ≡ over (address * width) block disk
 unfolding setBlock
 setBlock-is width disk address block = refl
+
+-- ---- two disks by their blocks ----
+
+-- a byte of a block is one of the disk's
+getD-blockAt :
+    (width : ℕ) (disk : Bytes) (address : DiskAddress) (index : ℕ) → index < width →
+    getD (blockAt width disk address) index 0 ≡ getD disk (address * width + index) 0
+getD-blockAt width disk address index h =
+    ap (λ (bytes : Bytes). getD bytes index 0)
+    (blockAt-is width disk address ∙ part-is (address * width) width disk)
+    ∙ getD-take width (drop (address * width) disk) index 0 h ∙ getD-drop (address * width) disk index 0
+
+pub blocks-ext :
+    (width count : ℕ) (disk other : Bytes) → 0 < width → length disk ≡ count * width →
+    length other ≡ count * width →
+    ((address : DiskAddress) → address < count → blockAt width disk address ≡ blockAt width other address) →
+    disk ≡ other
+blocks-ext width count disk other some whole whole-other same =
+    ext-getD 0 disk other (whole ∙ sym whole-other) (λ i h. byte i (rw whole at h))
+  where
+    byte : (i : ℕ) → i < count * width → getD disk i 0 ≡ getD other i 0
+    byte i h =
+        let address : ℕ = i / width in
+        let index : ℕ = i % width in
+        let e : address * width + index ≡ i = div-add-mod' i width in
+        let l : index < width = mod-lt i some in
+        ap (λ (n : ℕ). getD disk n 0) (sym e) ∙ sym (getD-blockAt width disk address index l)
+        ∙ ap (λ (bytes : Bytes). getD bytes index 0) (same address (div-lt-iff-lt-mul some .1 h))
+        ∙ getD-blockAt width other address index l ∙ ap (λ (n : ℕ). getD other n 0) e
 
 module _ (width : ℕ) (disk : Bytes) (count : ℕ) (whole : length disk ≡ count * width) where
   -- ---- lengths ----

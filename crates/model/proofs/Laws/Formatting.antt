@@ -11,10 +11,8 @@ use lib.ListN.{length, length-append, length-replicate, getD}
 use borrow.Author.Tests.{eq-eqb, ne-eqb}
 use Rattle.laws.specs.Lists.{part, over}
 use Rattle.laws.specs.Numbers.{numberOf}
-use Rattle.laws.specs.Bits.{bitAt}
 use Rattle.laws.proofs.Cases.{cond-true, cond-false}
 use Rattle.laws.proofs.Lists.{part-part, length-over, part-over-same, part-zeros, part-append-rest}
-use Rattle.laws.proofs.Bits.{bitAt-zeros}
 use Rattle.model.specs.Geometry.{Geometry, Fits, fanout, bitmapBlocks, rootAddress, areaStart}
 use Rattle.model.specs.Geometry.{blockWidth, blockCount, driveSize, isGeometry}
 use Rattle.model.specs.Blocks.{Bytes, DiskAddress, blockAt, entryAt, packed, zeroBlock}
@@ -24,7 +22,7 @@ use Rattle.model.specs.Calls.{headerBlock, freshFront, formatted}
 use Rattle.model.specs.Invariants.{bitmapBit}
 use Rattle.model.proofs.Laws.Geometry.{mapAddress-lt}
 use Rattle.model.proofs.Laws.Entries.{length-packed, entryAt-replicate, entryAt-packed}
-use Rattle.model.proofs.Laws.Bitmap.{blockOfBit, blockOfBit-lt}
+use Rattle.model.proofs.Laws.Bitmap.{blockOfBit, blockOfBit-lt, bitmapBit-zeros}
 use Rattle.model.proofs.Laws.PublicMap.{mapEntry-is}
 use Rattle.model.proofs.Laws.Refusals.{Sized, sized-of-refusal, refusal-of-accepted}
 
@@ -159,9 +157,7 @@ module _ (disk : Bytes) (g : Geometry) (good : formatRefusal disk g ≡ 0) where
 
   pub bitmapBit-formatted :
       (place : ℕ) → place < bitmapBlocks g * (8 * g .blockSize) → bitmapBit g (formatted disk g) place ≡ false
-  unfolding bitmapBit
   bitmapBit-formatted place h =
-      ap (bitAt (place % (8 * g .blockSize)))
+      bitmapBit-zeros g (formatted disk g) place
       (blockAt-formatted-zeros (blockOfBit g place) (omega arith)
       (omega (arith, blockOfBit-lt g fits-formatted place h)))
-      ∙ bitAt-zeros (place % (8 * g .blockSize)) (g .blockSize)

@@ -1,15 +1,16 @@
 -- Laws of all stores of map and bitmap that a round makes: where they go, that they are whole, and what they
 -- leave in a map block and in a bitmap block. Assumes nothing.
-use mathlib.Core.Path.{_≡_, sym, _∙_}
+use mathlib.Core.Path.{_≡_, sym, ap, _∙_}
 use mathlib.Core.Logic.{_≢_, inl, inr}
 use mathlib.Core.Bool.{cond}
 use mathlib.Core.List.{[], _∷_}
-use Prim.Native.Nat.{ℕ, _+_, _*_, _≤_, _<_}
+use Prim.Native.Nat.{ℕ, suc, _+_, _*_, _≤_, _<_}
 use native.Mathlib.Omega.{arith}
-use lib.ListN.{length}
+use lib.ListN.{length, take}
+use lib.Seq.{take-length}
 use borrow.Author.Tests.{eq-eqb}
 use Rattle.laws.proofs.Cases.{cond-cases}
-use Rattle.laws.proofs.Members.{All, all-map}
+use Rattle.laws.proofs.Members.{All, all-map, all-take}
 use Rattle.model.specs.Geometry.{Geometry, Fits, mapBlocks, rootAddress, blockCount, blockWidth}
 use Rattle.model.specs.Blocks.{Bytes, DiskAddress, blockAt}
 use Rattle.model.specs.Layout.{slotStart, slotOf, bitAddress, isOneBlock, mapAddress, mapEntry}
@@ -20,7 +21,7 @@ use Rattle.model.proofs.Laws.Geometry.{mapAddress-lt, bitAddress-lt, bi
 use Rattle.model.proofs.Laws.Places.{OldPlace}
 use Rattle.model.proofs.Laws.PublicMap.{length-mapBlockWith, mapped}
 use Rattle.model.proofs.Laws.Stores.{Stored, lastAt, lastAt-append, lastAt-other, lastAt-outside}
-use Rattle.model.proofs.Laws.Stores.{blockAt-apply}
+use Rattle.model.proofs.Laws.Stores.{addresses-take, blockAt-apply}
 use Rattle.model.proofs.Laws.PublicHalf.{addresses-bitStores, withBits, bitStores-stored}
 
 -- an address of the bitmap
@@ -80,20 +81,34 @@ module _ (g : Geometry) (f : Fits g) (disk : Bytes) (whole : length disk ≡ blo
   mapStores-stored writePublic =
       (mapStore-stored, bitStores-stored g f disk whole slot inside (mapEntry g disk number) old)
 
+  -- what the first of them leave in a map block, whichever bits are stored
+  pub lastAt-take-mapStores-map :
+      (count other : ℕ) → other < g .publics →
+      lastAt (take (suc count) (mapStores writePublic g disk number slot)) (mapAddress g other)
+      (blockAt (blockWidth g) disk (mapAddress g other)) ≡
+      blockAt (blockWidth g) (mapped g f disk whole number counted (slotStart g slot)) (mapAddress g other)
+  unfolding mapStores apply
+  lastAt-take-mapStores-map count other h =
+      lastAt-append (mapStore g disk number slot ∷ []) (take count bits) (mapAddress g other) _
+      ∙ lastAt-outside (take count bits) (mapAddress g other) _
+      (rw (addresses-take bits count)
+      (all-take (λ (a : ℕ). mapAddress g other ≢ a) count (addresses bits)
+      (all-map (InBitmap g) (λ (a : ℕ). mapAddress g other ≢ a) (addresses bits)
+      (λ a l e. omega (arith, mapAddress-lt g f other h)) bits-inBitmap)))
+      ∙ sym (blockAt-apply (blockWidth g) (blockCount g) (mapStore g disk number slot ∷ []) disk
+      (mapAddress g other) whole (mapStore-stored, tt))
+
   -- what they leave in a map block
   pub lastAt-mapStores-map :
       (other : ℕ) → other < g .publics →
       lastAt (mapStores writePublic g disk number slot) (mapAddress g other)
       (blockAt (blockWidth g) disk (mapAddress g other)) ≡
       blockAt (blockWidth g) (mapped g f disk whole number counted (slotStart g slot)) (mapAddress g other)
-  unfolding mapStores apply
+  unfolding mapStores
   lastAt-mapStores-map other h =
-      lastAt-append (mapStore g disk number slot ∷ []) bits (mapAddress g other) _
-      ∙ lastAt-outside bits (mapAddress g other) _
-      (all-map (InBitmap g) (λ (a : ℕ). mapAddress g other ≢ a) (addresses bits)
-      (λ a l e. omega (arith, mapAddress-lt g f other h)) bits-inBitmap)
-      ∙ sym (blockAt-apply (blockWidth g) (blockCount g) (mapStore g disk number slot ∷ []) disk
-      (mapAddress g other) whole (mapStore-stored, tt))
+      ap (λ (xs : Trace). lastAt (mapStore g disk number slot ∷ xs) (mapAddress g other)
+      (blockAt (blockWidth g) disk (mapAddress g other))) (sym (take-length bits))
+      ∙ lastAt-take-mapStores-map (length bits) other h
 
   -- what they leave in a bitmap block
   pub lastAt-mapStores-bit :

@@ -59,7 +59,7 @@ unfolding addressesFrom
 length-addressesFrom address zero = refl
 length-addressesFrom address (suc count) = ap suc (length-addressesFrom (suc address) count)
 
-length-slotAddresses : (g : Geometry) (slot : ℕ) → length (slotAddresses g slot) ≡ g .height + 2
+pub length-slotAddresses : (g : Geometry) (slot : ℕ) → length (slotAddresses g slot) ≡ g .height + 2
 length-slotAddresses g slot =
     length-append (addressesFrom (slotStart g slot) (suc (g .height))) (rootAddress g ∷ [])
     ∙ omega (arith, length-addressesFrom (slotStart g slot) (suc (g .height)))

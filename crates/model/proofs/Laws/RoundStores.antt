@@ -1,12 +1,12 @@
 -- Laws of the stores of one round, for any hidden half that stores the slot's hidden blocks and the root:
 -- their addresses, and that they are whole and inside the disk. Assumes nothing.
-use mathlib.Core.Path.{_≡_, refl, ap, _∙_, subst}
+use mathlib.Core.Path.{_≡_, refl, ap, ap₂, _∙_, subst}
 use mathlib.Core.Logic.{_≢_, _⊎_, inl, inr}
 use mathlib.Core.List.{List, [], _∷_, _++_}
-use Prim.Native.Nat.{ℕ, zero, suc, _+_, _*_, _≤_, _<_}
+use Prim.Native.Nat.{ℕ, zero, suc, _+_, _*_, _-_, _≤_, _<_}
 use native.Mathlib.Numerals.{add-one}
 use native.Mathlib.Omega.{arith}
-use lib.ListN.{length, take}
+use lib.ListN.{length, take, drop}
 use Rattle.laws.proofs.Members.{All, all-append, all-map, Distinct}
 use Rattle.model.specs.Geometry.{Geometry, Fits, rootAddress, blockCount, blockWidth}
 use Rattle.model.specs.Blocks.{Bytes, DiskAddress, blockAt}
@@ -55,6 +55,22 @@ take-addressesFrom address (suc place) zero h = absurd (omega arith)
 take-addressesFrom address (suc place) (suc count) h =
     ap {B = List ℕ} (λ (rest : List ℕ). address ∷ rest)
     (take-addressesFrom (suc address) place count (omega arith))
+
+pub drop-addressesFrom :
+    (address place count : ℕ) →
+    drop place (addressesFrom address count) ≡ addressesFrom (address + place) (count - place)
+unfolding addressesFrom
+drop-addressesFrom address zero count =
+    let e : address ≡ address + 0 = omega arith in
+    let q : count ≡ count - 0 = omega arith in
+    ap₂ addressesFrom e q
+drop-addressesFrom address (suc place) zero =
+    let q : 0 ≡ 0 - suc place = omega arith in
+    ap (addressesFrom (address + suc place)) q
+drop-addressesFrom address (suc place) (suc count) =
+    let e : suc address + place ≡ address + suc place = omega arith in
+    let q : count - place ≡ suc count - suc place = omega arith in
+    drop-addressesFrom (suc address) place count ∙ ap₂ addressesFrom e q
 
 -- an address of a slot's hidden blocks, or the root
 abbrev pub HiddenAddress : Geometry → (slot : ℕ) → DiskAddress → Type 0

@@ -5,7 +5,7 @@ use mathlib.Core.Logic.{_≢_, _⊎_, inl, inr}
 use mathlib.Core.Bool.{Bool, cond}
 use mathlib.Core.List.{List, [], _∷_, _++_}
 use Prim.Native.Nat.{ℕ, zero, suc, _*_, _<_}
-use lib.ListN.{length, getD, take}
+use lib.ListN.{length, getD, take, drop}
 use lib.Dec.{eqb}
 use borrow.Author.Tests.{eq-eqb, ne-eqb}
 use Rattle.laws.proofs.Cases.{eq-cases}
@@ -48,6 +48,12 @@ addresses-take xs zero = refl
 addresses-take [] (suc count) = refl
 addresses-take (x ∷ xs) (suc count) =
     ap {B = List ℕ} (λ (rest : List ℕ). x .address ∷ rest) (addresses-take xs count)
+
+pub addresses-drop : (xs : Trace) (count : ℕ) → addresses (drop count xs) ≡ drop count (addresses xs)
+unfolding addresses
+addresses-drop xs zero = refl
+addresses-drop [] (suc count) = refl
+addresses-drop (x ∷ xs) (suc count) = addresses-drop xs count
 
 pub getD-addresses : (xs : Trace) (index : ℕ) →
     getD (addresses xs) index 0 ≡ getD xs index (store 0 []) .address

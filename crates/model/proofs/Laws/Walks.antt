@@ -1,5 +1,5 @@
 -- Laws of walks: a walk by its first step, in a leaf and above one, and that an address where a walk ends is
--- on the drive. Assumes nothing.
+-- some slot's data block, so on the drive. Assumes nothing.
 use mathlib.Core.Path.{_≡_, refl, ap, _∙_}
 use mathlib.Core.Bool.{Bool, true, false, cond}
 use Prim.Native.Nat.{ℕ, zero, suc, _<_}
@@ -7,10 +7,10 @@ use native.Mathlib.Omega.{arith}
 use lib.Dec.{eqb}
 use Rattle.model.specs.Geometry.{Geometry, blockCount, blockWidth}
 use Rattle.model.specs.Blocks.{Bytes, DiskAddress, blockAt, entryAt}
-use Rattle.model.specs.Layout.{isWellFormed, levelPlace}
+use Rattle.model.specs.Layout.{isWellFormed}
 use Rattle.model.specs.HiddenTree.{branchAt, walkFrom, Walk, ended, passing, End, found, unmapped}
 use Rattle.model.specs.HiddenTree.{damaged}
-use Rattle.model.proofs.Laws.Slots.{slotBlock-of}
+use Rattle.model.proofs.Laws.Slots.{formed-inside}
 
 -- ---- a walk by its first step ----
 
@@ -41,31 +41,38 @@ module _ (g : Geometry) (disk : Bytes) (number : ℕ) where
 
 -- ---- where a walk ends ----
 
--- an address that a walk ends at is on the drive
-pub found-inside :
+-- an address that a walk ends at is some slot's data block
+pub found-formed :
     (g : Geometry) (disk : Bytes) (number level : ℕ) (node : Bytes) (address : DiskAddress) →
-    found address ≡ walkFrom g disk number level node .end → address < blockCount g
-found-inside g disk number zero node address e =
+    found address ≡ walkFrom g disk number level node .end → isWellFormed g 0 address ≡ true
+found-formed g disk number zero node address e =
     let entry = entryAt (branchAt g number 0) node in
-    by (eqb entry 0) (isWellFormed g 0 entry) entry
-    (λ f. slotBlock-of g (levelPlace g 0) entry f .address-inside)
+    by (eqb entry 0) (isWellFormed g 0 entry) entry (λ f. f)
     (e ∙ ap (λ (w : Walk). w .end) (walkFrom-zero g disk number node))
   where
-    by : (isZero isFormed : Bool) (entry : DiskAddress) → (isFormed ≡ true → entry < blockCount g) →
-        found address ≡ stepBy isZero isFormed entry → address < blockCount g
-    by true isFormed entry inside h = absurd (let z : _≡_ {A = ℕ} 0 1 = cc in omega arith)
-    by false true entry inside h = let same : address ≡ entry = cc in omega (arith, inside refl)
-    by false false entry inside h = absurd (let z : _≡_ {A = ℕ} 0 1 = cc in omega arith)
-found-inside g disk number (suc level) node address e =
+    by : (isZero isFormed : Bool) (entry : DiskAddress) → (isFormed ≡ true → isWellFormed g 0 entry ≡ true) →
+        found address ≡ stepBy isZero isFormed entry → isWellFormed g 0 address ≡ true
+    by true isFormed entry formed h = absurd (let z : _≡_ {A = ℕ} 0 1 = cc in omega arith)
+    by false true entry formed h = let same : address ≡ entry = cc in rw same (formed refl)
+    by false false entry formed h = absurd (let z : _≡_ {A = ℕ} 0 1 = cc in omega arith)
+found-formed g disk number (suc level) node address e =
     let entry = entryAt (branchAt g number (suc level)) node in
     let below = blockAt (blockWidth g) disk entry in
     by (eqb entry 0) (isWellFormed g (suc level) entry) (passing node (walkFrom g disk number level below))
-    (λ h. found-inside g disk number level below address h)
+    (λ h. found-formed g disk number level below address h)
     (e ∙ ap (λ (w : Walk). w .end) (walkFrom-suc g disk number level node))
   where
-    by : (isZero isFormed : Bool) (rest : Walk) → (found address ≡ rest .end → address < blockCount g) →
+    by : (isZero isFormed : Bool) (rest : Walk) →
+        (found address ≡ rest .end → isWellFormed g 0 address ≡ true) →
         found address ≡ walkByStep isZero isFormed (ended g node (suc level)) rest .end →
-        address < blockCount g
-    by true isFormed rest inside h = absurd (let z : _≡_ {A = ℕ} 0 1 = cc in omega arith)
-    by false true rest inside h = inside h
-    by false false rest inside h = absurd (let z : _≡_ {A = ℕ} 0 1 = cc in omega arith)
+        isWellFormed g 0 address ≡ true
+    by true isFormed rest formed h = absurd (let z : _≡_ {A = ℕ} 0 1 = cc in omega arith)
+    by false true rest formed h = formed h
+    by false false rest formed h = absurd (let z : _≡_ {A = ℕ} 0 1 = cc in omega arith)
+
+-- so it is on the drive
+pub found-inside :
+    (g : Geometry) (disk : Bytes) (number level : ℕ) (node : Bytes) (address : DiskAddress) →
+    found address ≡ walkFrom g disk number level node .end → address < blockCount g
+found-inside g disk number level node address e =
+    formed-inside g 0 address (found-formed g disk number level node address e)

@@ -38,7 +38,7 @@ sound-of-pass disk e =
     sound-of-passes g (fits-of-accepted g disk refl (accepted-of-pass disk e)) disk
     (passed-after-drive disk (treeChecks g disk) (numbered-met g disk (metEntries g disk)) e)
 
-pass-of-sound : (g : Geometry) (disk : Bytes) → HiddenSound g disk → treeRefusal disk ≡ 0
+pub pass-of-sound : (g : Geometry) (disk : Bytes) → HiddenSound g disk → treeRefusal disk ≡ 0
 unfolding treeRefusal
 pass-of-sound g disk sound =
     let stated = geometryIn disk in

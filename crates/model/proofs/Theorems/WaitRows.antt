@@ -18,11 +18,12 @@ use Rattle.model.specs.Line.{Offer, leftAfter, isWaitingIn, waitingFor}
 use Rattle.model.specs.Calls.{Written, one, inLine, lineLeft}
 use Rattle.model.specs.Promises.Figures.{filled}
 use Rattle.model.specs.Promises.LineFigures.{threeBlocks}
-use Rattle.model.specs.Promises.WaitFigures.{nines, offeredFrom, sevenLive, sixFive}
+use Rattle.model.specs.Promises.WaitFigures.{nines, sevenLive, sixFive}
 use Rattle.model.specs.Promises.Waiting.{PublicHalf, halfRefusal, halfWritten, halfDisk, StillOffered}
 use Rattle.model.specs.Promises.Waiting.{offeredWithin, offeredThen, StillWaiting, waitsWithin}
 use Rattle.model.specs.Promises.Waiting.{waitsThen}
 use Rattle.model.proofs.Theorems.Computing.{computing}
+use Rattle.model.proofs.Theorems.WaitDrive.{sevenBytes, on-sevenLive}
 
 -- the writes of the figures
 abbrev half : PublicHalf
@@ -51,8 +52,8 @@ offer-row (suc times) disk e =
     (and-right (eqb (offerWritten disk .rounds) 1) _ rest)))
 
 pub one-row : StillOffered (nines 3) sevenLive 7
-unfolding computing offeredFrom offerWaits
-one-row = offer-row 7 sevenLive refl
+unfolding computing offerWaits
+one-row = on-sevenLive (λ disk. StillOffered (nines 3) disk 7) (offer-row 7 sevenBytes refl)
 
 -- ---- hidden 5 in the line with each write ----
 
@@ -99,5 +100,5 @@ line-row (suc times) line disk e =
     (and-right (eqb (lineWritten line disk .rounds) 1) _ last)))
 
 pub second-row : StillWaiting 5 sevenLive sixFive 14
-unfolding computing offeredFrom lineWaits
-second-row = line-row 14 sixFive sevenLive refl
+unfolding computing lineWaits
+second-row = on-sevenLive (λ disk. StillWaiting 5 disk sixFive 14) (line-row 14 sixFive sevenBytes refl)

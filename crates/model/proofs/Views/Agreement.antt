@@ -1,14 +1,14 @@
 -- Two disks that agree on what every address shows of its block, and two traces side by side: the same
 -- addresses, whole blocks, contents that show the same. Over what an address shows, the width of a block and
 -- their number. Assumes nothing.
-use mathlib.Core.Path.{_≡_, sym, _∙_}
+use mathlib.Core.Path.{_≡_, refl, sym, ap₂, _∙_}
 use mathlib.Core.Logic.{_≢_, _⊎_, inl, inr}
-use mathlib.Core.List.{[], _∷_, _++_}
-use Prim.Native.Nat.{ℕ, _*_, _<_}
-use lib.ListN.{length}
+use mathlib.Core.List.{List, [], _∷_, _++_}
+use Prim.Native.Nat.{ℕ, zero, suc, _*_, _<_}
+use lib.ListN.{length, take}
 use Rattle.laws.proofs.Cases.{eq-cases}
 use Rattle.model.specs.Blocks.{Bytes, DiskAddress, blockAt, setBlock}
-use Rattle.model.specs.Stores.{Store, Trace, apply}
+use Rattle.model.specs.Stores.{Store, Trace, apply, addresses}
 use Rattle.model.proofs.Laws.Blocks.{length-setBlock, blockAt-setBlock-same, blockAt-setBlock-other}
 
 module _ (shows : DiskAddress → Bytes → Bytes) (width count : ℕ) where
@@ -36,6 +36,19 @@ module _ (shows : DiskAddress → Bytes → Bytes) (width count : ℕ) where
   pub along-append : {xs ys us vs : Trace} → Along xs ys → Along us vs → Along (xs ++ us) (ys ++ vs)
   along-append none k = k
   along-append (more b h) k = more b (along-append h k)
+
+  -- the first so many of each
+  pub along-take :
+      {xs ys : Trace} (count : ℕ) → Along xs ys → Along (take count xs) (take count ys)
+  along-take zero h = none
+  along-take (suc count) none = none
+  along-take (suc count) (more b h) = more b (along-take count h)
+
+  pub along-addresses : {xs ys : Trace} → Along xs ys → addresses xs ≡ addresses ys
+  unfolding addresses
+  along-addresses none = refl
+  along-addresses (more b h) =
+      ap₂ {C = List ℕ} (λ (a : ℕ) (rest : List ℕ). a ∷ rest) (b .same-address) (along-addresses h)
 
   -- ---- disks after them ----
 

@@ -1,8 +1,8 @@
 -- One write side by side on two drives that show the same: with the same public part they are refused alike,
--- and the two drives that they leave show the same, whatever is offered and whatever the random bytes are.
--- Assumes nothing.
-use mathlib.Core.Path.{_≡_, sym, ap, ap₂, _∙_, subst}
-use mathlib.Core.Logic.{_≢_, ⊎-elim}
+-- their stores are side by side, and the two drives that they leave show the same, whatever is offered and
+-- whatever the random bytes are. Assumes nothing.
+use mathlib.Core.Path.{_≡_, sym, ap₂, _∙_, subst}
+use mathlib.Core.Logic.{⊎-elim}
 use mathlib.Core.List.{List}
 use Prim.Native.Nat.{ℕ}
 use native.Mathlib.Omega.{arith}
@@ -17,13 +17,12 @@ use Rattle.model.specs.Refusals.{writeRefusal}
 use Rattle.model.specs.Calls.{Offered, offeredWrites, startState, writeRun, written, writtenDisk}
 use Rattle.model.specs.View.{shownOf}
 use Rattle.model.specs.Simulator.{Simulator, simulatedAnswer}
-use Rattle.model.proofs.Laws.Stores.{apply-nil}
 use Rattle.model.proofs.Laws.Refusals.{Accepted, accepted-of-refusal}
 use Rattle.model.proofs.Laws.Accepted.{AcceptedWrite, accepted-of-write}
 use Rattle.model.proofs.Laws.Ready.{Ready}
 use Rattle.model.proofs.Laws.WriteRuns.{ready-of-write}
 use Rattle.model.proofs.Laws.Calls.{written-done, written-refused}
-use Rattle.model.proofs.Views.Agreement.{agree-apply}
+use Rattle.model.proofs.Views.Agreement.{none, agree-apply}
 use Rattle.model.proofs.Views.Shown.{ShowSame, TraceSame}
 use Rattle.model.proofs.Views.Answers.{writeLengths, simulatedAnswer-write}
 use Rattle.model.proofs.Views.Follows.{written-follows}
@@ -33,7 +32,7 @@ use Rattle.model.proofs.Views.Drives.{Twins, geometryIn-twins, trackerO
 
 module _ (disk other : Bytes) (twins : Twins disk other) (number : ℕ) (content random others : Bytes)
     (same-random : length random ≡ length others) (room : ℕ) where
-  writeRefusal-twins :
+  pub writeRefusal-twins :
       writeRefusal disk number content (length random) room ≡
       writeRefusal other number content (length others) room
   writeRefusal-twins =
@@ -95,27 +94,38 @@ module _ (disk other : Bytes) (twins : Twins disk other) (number : ℕ) (content
         (startState (offeredWrites g offerOther)) (twins .show-same)
         (ready-of-write disk number content random room offer free) ready-other)
 
-    -- the disks that the two runs leave
-    final-alike :
-        ShowSame g (apply (blockWidth g) (run .trace) disk)
-        (apply (blockWidth (geometryIn other)) (runOther .trace) other)
-    final-alike =
-        subst (λ (h : Geometry). ShowSame g (apply (blockWidth g) (run .trace) disk)
-        (apply (blockWidth h) (runOther .trace) other))
-        (geometryIn-twins disk other twins)
-        (agree-apply (shownOf g) (g .blockSize) (blockCount g) trace-alike (twins .show-same))
+  -- the stores of the two writes, refused or not, are side by side
+  pub written-twins :
+      (offer offerOther : Offered) →
+      TraceSame (geometryIn disk) (written disk number content random room offer .trace)
+      (written other number content others room offerOther .trace)
+  written-twins offer offerOther =
+      ⊎-elim
+      (λ e.
+      rw (
+        written-done disk number content random room offer e,
+        written-done other number content others room offerOther (sym writeRefusal-twins ∙ e),
+      )
+      (trace-alike offer offerOther e))
+      (λ ne.
+      rw (
+        written-refused disk number content random room offer ne,
+        written-refused other number content others room offerOther (λ e. ne (writeRefusal-twins ∙ e)),
+      )
+      none)
+      (eq-cases (writeRefusal disk number content (length random) room) 0)
 
 module _ (disk other : Bytes) (twins : Twins disk other) (number : ℕ) (content random others : Bytes)
     (same-random : length random ≡ length others) (list lists : List DiskAddress)
     (same-room : length list ≡ length lists) (offer offerOther : Offered) where
-  -- the drives that the two writes leave
+  -- the drives that the two writes leave, the second of them with a list of this length lent
   abbrev after : Bytes
   after = writtenDisk (written disk number content random (length list) offer) disk
 
-  abbrev afterOther : Bytes
-  afterOther = writtenDisk (written other number content others (length lists) offerOther) other
+  abbrev afterOther : (room : ℕ) → Bytes
+  afterOther room = writtenDisk (written other number content others room offerOther) other
 
-  pub writtenDisk-twins : Twins after afterOther
+  pub writtenDisk-twins : Twins after (afterOther (length lists))
   writtenDisk-twins =
       let here = written-follows disk (twins .accepted) number content random list offer in
       let there = written-follows other (twins .other-accepted) number content others lists offerOther in
@@ -123,37 +133,18 @@ module _ (disk other : Bytes) (twins : Twins disk other) (number : ℕ) (content
         accepted = here .accepted-after;
         other-accepted = there .accepted-after;
         show-same =
-            subst (λ (g : Geometry). ShowSame g after afterOther) (sym (here .geometry-after))
-            (⊎-elim done refused
-            (eq-cases (writeRefusal disk number content (length random) (length list)) 0));
+            subst (λ (g : Geometry). ShowSame g after (afterOther (length lists)))
+            (sym (here .geometry-after))
+            (subst (λ (room : ℕ). ShowSame (geometryIn disk) after (afterOther room)) same-room same-after);
       }
     where
-      refusals :
-          writeRefusal disk number content (length random) (length list) ≡
-          writeRefusal other number content (length others) (length lists)
-      refusals =
-          writeRefusal-twins disk other twins number content random others same-random (length list)
-          ∙ ap (writeRefusal other number content (length others)) same-room
-
-      done :
-          writeRefusal disk number content (length random) (length list) ≡ 0 →
-          ShowSame (geometryIn disk) after afterOther
-      done e =
-          rw (
-            written-done disk number content random (length list) offer e,
-            written-done other number content others (length lists) offerOther (sym refusals ∙ e),
-          )
-          (final-alike disk other twins number content random others same-random
-          (length list) offer offerOther e)
-
-      refused :
-          writeRefusal disk number content (length random) (length list) ≢ 0 →
-          ShowSame (geometryIn disk) after afterOther
-      refused ne =
-          rw (
-            written-refused disk number content random (length list) offer ne,
-            written-refused other number content others (length lists) offerOther (λ e. ne (refusals ∙ e)),
-            apply-nil (blockWidth (geometryIn disk)) disk,
-            apply-nil (blockWidth (geometryIn other)) other,
-          )
-          (twins .show-same)
+      same-after : ShowSame (geometryIn disk) after (afterOther (length list))
+      same-after =
+          let g = geometryIn disk in
+          subst (λ (h : Geometry). ShowSame g after (apply (blockWidth h)
+          (written other number content others (length list) offerOther .trace) other))
+          (geometryIn-twins disk other twins)
+          (agree-apply (shownOf g) (g .blockSize) (blockCount g)
+          (written-twins disk other twins number content random others same-random (length list) offer
+          offerOther)
+          (twins .show-same))

@@ -84,7 +84,7 @@ module _ (g : Geometry) (f : Fits g) (disk other : Bytes) (same : ShowSame g dis
   isAllocated-alike slot h =
       isAllocated-block g disk other slot (below-alike (bitAddress g slot) (bitAddress-lt g f slot h))
 
-  bitStore-alike :
+  pub bitStore-alike :
       (slot : ℕ) (isSet : Bool) → slot < g .slots →
       StoreSame g (bitStore g disk slot isSet) (bitStore g other slot isSet)
   unfolding bitmapWith

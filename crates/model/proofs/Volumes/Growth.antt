@@ -19,7 +19,7 @@ use Rattle.model.proofs.Laws.Rounds.{blockAt-round-place-other}
 use Rattle.model.proofs.Laws.Ready.{Ready, ready-round}
 use Rattle.model.proofs.Tree.Ghost.{Tree, Ghost, valueOf}
 use Rattle.model.proofs.Tree.Stored.{StoredBy}
-use Rattle.model.proofs.Tree.Turns.{Turn, still, places, hiddenHalf-turns}
+use Rattle.model.proofs.Tree.Turns.{Turn, still, places, Turned, hiddenHalf-turns}
 use Rattle.model.proofs.Volumes.Progress.{Progress, progress-then}
 use Rattle.model.specs.Promises.ReadAfterWrite.{shownAfter}
 
@@ -44,7 +44,7 @@ grew-then g disk middle final tree state between result one rest =
           (valueOf g final (rest .grown)) (one .progress) (rest .progress);
     }
 
--- one round's turn as progress
+-- one turn as progress
 progress-of-turn :
     (g : Geometry) → Fits g → (state result : HiddenState) (old new : ℕ → Option Bytes) →
     Turn g state result old new → Progress g state result old new
@@ -71,6 +71,19 @@ progress-of-turn g f state result old new (places write later e q now same) =
           (eq-cases (write .number) number);
     }
 
+-- a half's turn is growth
+pub grew-of-turned :
+    (g : Geometry) → Fits g → (disk final : Bytes) (tree : Tree) (state result : HiddenState) →
+    Turned g disk final tree state result → Grew g disk final tree state result
+grew-of-turned g f disk final tree state result turned =
+    record {
+      grown = turned .grown;
+      ghost = turned .ghost;
+      progress =
+          progress-of-turn g f state result (valueOf g disk tree) (valueOf g final (turned .grown))
+          (turned .turn);
+    }
+
 -- ---- one round ----
 
 module _ (g : Geometry) (f : Fits g) (number : ℕ) (counted : number < g .publics) (content : Bytes)
@@ -95,13 +108,6 @@ module _ (g : Geometry) (f : Fits g) (number : ℕ) (counted : number < g .publi
       (choice : PublicChoice) (tree : Tree) → Ghost g disk tree →
       Grew g disk (after choice) tree state (part .state)
   round-grew choice tree ghost =
-      let turned =
-      hiddenHalf-turns g f disk tree (ready .whole) ghost slot (ready .here) state random (ready .good)
-      (after choice) (stored choice) in
-      record {
-        grown = turned .grown;
-        ghost = turned .ghost;
-        progress =
-            progress-of-turn g f state (part .state) (valueOf g disk tree)
-            (valueOf g (after choice) (turned .grown)) (turned .turn);
-      }
+      grew-of-turned g f disk (after choice) tree state (part .state)
+      (hiddenHalf-turns g f disk tree (ready .whole) ghost slot (ready .here) state random (ready .good)
+      (after choice) (stored choice))

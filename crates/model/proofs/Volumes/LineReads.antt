@@ -1,5 +1,6 @@
--- Reads through a line on a drive whose hidden volume is sound: what they show, and that a write with the
--- line changes none of them, since what it places leaves the line. Assumes nothing.
+-- Reads through a line on a drive whose hidden volume is sound: what they show, that what a write places is
+-- none of a number under which nothing waits, and that a write with the line changes none of them, since what
+-- it places leaves the line. Assumes nothing.
 use mathlib.Core.Path.{_≡_, refl, sym, ap, ap₂, subst, _∙_}
 use mathlib.Core.Bool.{Bool, true, false, cond}
 use mathlib.Core.List.{List, [], _∷_}
@@ -8,6 +9,7 @@ use Prim.Native.Nat.{ℕ, zero, suc, _<_}
 use lib.Dec.{eqb}
 use lib.ListN.{length, take, drop}
 use borrow.Author.Tests.{eqb-true}
+use Rattle.laws.proofs.Cases.{none-is-not-some}
 use Rattle.laws.proofs.Members.{All}
 use Rattle.model.specs.Geometry.{Geometry, Fits}
 use Rattle.model.specs.Blocks.{Bytes, blockAt}
@@ -22,6 +24,7 @@ use Rattle.model.specs.Promises.ReadAfterWrite.{shownAfter, Sound}
 use Rattle.model.proofs.Laws.Accepted.{AcceptedHidden}
 use Rattle.model.proofs.Laws.Lines.{goodOffers-good}
 use Rattle.model.proofs.Laws.LineTurns.{NoneTwice, apart-turns, turns-left}
+use Rattle.model.proofs.Laws.Offers.{offeredWrites-inLine}
 use Rattle.model.proofs.Laws.LineWaits.{goodBlock-good, waitingFor-turns, waitingFor-without-same}
 use Rattle.model.proofs.Laws.LineCalls.{lineRead-disk, lineReadRefusal-waiting, lineRead-waiting}
 use Rattle.model.proofs.Tree.Ghost.{Tree, Ghost, valueOf}
@@ -99,6 +102,40 @@ module _ (g : Geometry) (blocks : Bytes) (number : ℕ) (blank : Bytes) where
           ∙ sym (ap (λ (waits : Option Bytes). orElse waits (orElse old blank))
           (goodBlock-good g blocks offer (good .0)))
       by false e = refl
+
+-- ---- a number under which nothing waits ----
+
+module _ (g : Geometry) (blocks : Bytes) (number count : ℕ) (old : Option Bytes) where
+  -- it is none of the turns'
+  unwaited-shown :
+      (count : ℕ) (xs : List Offer) → All (λ (offer : Offer). lineOfferRefusal g blocks offer ≡ 0) xs →
+      waitingFor g blocks xs number ≡ none →
+      shownAfter (take count (hiddenWritesOf g blocks xs)) number old ≡ old
+  unfolding shownAfter hiddenWritesOf waitingFor
+  unwaited-shown zero xs good e = refl
+  unwaited-shown (suc count) [] good e = refl
+  unwaited-shown (suc count) (offer ∷ xs) good e =
+      by (eqb (offer .number) number) e (unwaited-shown count xs (good .1))
+    where
+      block : Bytes
+      block = blockAt (g .blockSize) blocks (offer .place)
+
+      by : (isSame : Bool) →
+          cond isSame (goodBlock g blocks offer) (waitingFor g blocks xs number) ≡ none →
+          (waitingFor g blocks xs number ≡ none →
+          shownAfter (take count (hiddenWritesOf g blocks xs)) number old ≡ old) →
+          shownAfter (take count (hiddenWritesOf g blocks xs)) number (cond isSame (some block) old) ≡ old
+      by true e later = none-is-not-some block (sym e ∙ goodBlock-good g blocks offer (good .0))
+      by false e later = later e
+
+  -- so what a write with the line places leaves it as it was
+  pub shownAfter-unwaited :
+      (line : List Offer) → waitingFor g blocks line number ≡ none →
+      shownAfter (take count (offeredWrites g (inLine blocks line))) number old ≡ old
+  shownAfter-unwaited line e =
+      ap (λ writes. shownAfter (take count writes) number old) (offeredWrites-inLine g blocks line)
+      ∙ unwaited-shown count (turns g blocks line) (goodOffers-good g blocks (firstOffers line))
+      (sym (waitingFor-turns g blocks number line) ∙ e)
 
 -- ---- a write with a line ----
 

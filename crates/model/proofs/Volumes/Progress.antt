@@ -25,6 +25,10 @@ pub record Progress (g : Geometry) (state result : HiddenState) (old new : ℕ �
   pub damage-is : result .metDamage ≡ state .metDamage
   pub shows : (number : ℕ) → number < g .hidden → new number ≡ shownAfter done number (old number)
 
+pub shownAfter-nil : (number : ℕ) (before : Option Bytes) → shownAfter [] number before ≡ before
+unfolding shownAfter
+shownAfter-nil number before = refl
+
 shownAfter-append :
     (xs ys : List HiddenWrite) (number : ℕ) (before : Option Bytes) →
     shownAfter (xs ++ ys) number before ≡ shownAfter ys number (shownAfter xs number before)

@@ -21,6 +21,22 @@ abbrev pub publicValue : Geometry → (disk : Bytes) → (number : ℕ) → Opti
 publicValue g disk number =
     cond (eqb (mapEntry g disk number) 0) none (some (blockAt (blockWidth g) disk (mapEntry g disk number)))
 
+-- two disks on which a number has one entry, with one block there
+pub publicValue-ext :
+    (g : Geometry) (disk other : Bytes) (number : ℕ) → mapEntry g other number ≡ mapEntry g disk number →
+    (mapEntry g disk number ≢ 0 →
+    blockAt (blockWidth g) other (mapEntry g disk number) ≡
+    blockAt (blockWidth g) disk (mapEntry g disk number)) →
+    publicValue g other number ≡ publicValue g disk number
+publicValue-ext g disk other number e same = ⊎-elim
+    (λ z.
+    cond-true _ _ (eq-eqb (mapEntry g other number) 0 (e ∙ z))
+    ∙ sym (cond-true _ _ (eq-eqb (mapEntry g disk number) 0 z)))
+    (λ ne.
+    ap (λ (entry : DiskAddress). cond (eqb entry 0) none (some (blockAt (blockWidth g) other entry))) e
+    ∙ ap (λ (block : Bytes). cond (eqb (mapEntry g disk number) 0) none (some block)) (same ne))
+    (eq-cases (mapEntry g disk number) 0)
+
 -- ---- after a write ----
 
 module _ (g : Geometry) (f : Fits g) (disk after : Bytes) (number slot : ℕ) (content : Bytes)
@@ -105,21 +121,10 @@ module _ (g : Geometry) (f : Fits g) (disk after : Bytes) (number slot : ℕ) (c
 
   pub publicValue-other :
       (other : ℕ) → other < g .publics → other ≢ number → publicValue g after other ≡ publicValue g disk other
-  publicValue-other other h ne = ⊎-elim unplaced placed (eq-cases (mapEntry g disk other) 0)
-    where
-      e : mapEntry g after other ≡ mapEntry g disk other
-      e = wrote .map-other other h ne
-
-      unplaced : mapEntry g disk other ≡ 0 → publicValue g after other ≡ publicValue g disk other
-      unplaced z =
-          cond-true _ _ (eq-eqb (mapEntry g after other) 0 (e ∙ z))
-          ∙ sym (cond-true _ _ (eq-eqb (mapEntry g disk other) 0 z))
-
-      placed : mapEntry g disk other ≢ 0 → publicValue g after other ≡ publicValue g disk other
-      placed p =
-          let place = place-at other h p in
-          ap (λ (entry : DiskAddress). cond (eqb entry 0) none (some (blockAt (blockWidth g) after entry))) e
-          ∙ ap (λ (block : Bytes). cond (eqb (mapEntry g disk other) 0) none (some block))
-          (ap (blockAt (blockWidth g) after) (place .entry-is)
-          ∙ wrote .block-other (home other) (home-not-new other h p)
-          ∙ ap (blockAt (blockWidth g) disk) (sym (place .entry-is)))
+  publicValue-other other h ne =
+      publicValue-ext g disk after other (wrote .map-other other h ne)
+      (λ p.
+      let place = place-at other h p in
+      ap (blockAt (blockWidth g) after) (place .entry-is)
+      ∙ wrote .block-other (home other) (home-not-new other h p)
+      ∙ ap (blockAt (blockWidth g) disk) (sym (place .entry-is)))

@@ -28,7 +28,7 @@ use Rattle.model.proofs.Volumes.Writes.{finalDisk, Leaves, fits-of-acce
 use Rattle.model.proofs.Volumes.Lists.{Carries}
 
 -- what is shown, told in two ways, stays so under hidden writes that are placed
-carries-placed :
+pub carries-placed :
     (writes : List HiddenWrite) (number : ℕ) (old before : Option Bytes) (blank otherwise : Bytes) →
     orElse old blank ≡ orElse before otherwise →
     orElse (shownAfter writes number old) blank ≡ orElse (shownAfter writes number before) otherwise

@@ -89,7 +89,7 @@ module _ (g : Geometry) where
       by placeHidden [] = omega arith
       by placeHidden (first ∷ later) = omega arith
 
-  runFrom-placed :
+  pub runFrom-placed :
       (most number : ℕ) (content : Bytes) (slot : ℕ) (random disk : Bytes) (state : HiddenState) →
       state .placed ≤ runFrom most g number content slot random disk state .state .placed
   unfolding runFrom

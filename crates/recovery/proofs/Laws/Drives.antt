@@ -15,8 +15,8 @@ use Rattle.layout.specs.Drives.{RefusedBy, OpenedWith}
 use Rattle.recovery_model.specs.Recovery.{usedEntries, areStarts, mapChecks, recoveryRefusal}
 use Rattle.recovery_model.specs.Recovery.{withMarks, withoutBits, recovered}
 use Rattle.recovery_model.proofs.Laws.StepDisks.{usedEntries-same, sameMap-withoutBits, starts-of-mapChecks}
-use Rattle.recovery_model.proofs.Laws.StepDisks.{recoveryRefusal-drive, recoveryRefusal-map, recovered-good}
-use Rattle.recovery_model.proofs.Laws.StepDisks.{recovered-refused}
+use Rattle.recovery_model.proofs.Laws.StepDisks.{recoveryRefusal-drive, recoveryRefusal-map}
+use Rattle.recovery_model.proofs.Laws.Recovery.{recovered-refused, recovered-done}
 use Rattle.recovery.specs.Windows.{Started}
 use Rattle.recovery.specs.Drives.{MendedAs, RecoveredAs}
 
@@ -77,9 +77,7 @@ module _ (disk : Bytes) where
     mended-stored z =
         mended .stored
         ∙ cond-true _ disk (eq-eqb (firstOf (mapChecks g disk)) 0 (sym refusal-is ∙ z))
-        ∙ ap (λ (stated : Geometry). withMarks stated (usedEntries stated disk) (withoutBits stated disk))
-        (opened .same)
-        ∙ sym (recovered-good disk z)
+        ∙ sym (recovered-done g disk (sym (opened .same)) z)
 
     refused-stored : recoveryRefusal disk ≢ 0 → after ≡ recovered disk
     refused-stored ne =

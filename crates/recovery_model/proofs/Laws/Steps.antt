@@ -73,18 +73,6 @@ module _ (g : Geometry) (disk : Bytes) where
       let z : 0 + number ≡ number = omega arith in
       ap (usedFrom g disk 0) e ∙ rw z at (usedFrom-append 0 number (g .publics - number))
 
-pub usedFrom-same :
-    (g : Geometry) (disk other : Bytes) (number count : ℕ) →
-    ((at : ℕ) → at < number + count → mapEntry g disk at ≡ mapEntry g other at) →
-    usedFrom g disk number count ≡ usedFrom g other number count
-unfolding usedFrom
-usedFrom-same g disk other number zero same = refl
-usedFrom-same g disk other number (suc count) same =
-    rw (
-      same number (omega arith),
-      usedFrom-same g disk other (suc number) count (λ at h. same at (omega arith)),
-    )
-
 -- ---- every entry is block A of a slot ----
 
 module _ (g : Geometry) where
@@ -104,7 +92,8 @@ module _ (g : Geometry) where
   unfolding areStarts
   areStarts-append [] rest = refl
   areStarts-append (entry ∷ front) rest =
-      rw (areStarts-append front rest) (sym (and-assoc (isSlotBlock g 0 entry) (areStarts g front) (areStarts g rest)))
+      rw (areStarts-append front rest)
+      (sym (and-assoc (isSlotBlock g 0 entry) (areStarts g front) (areStarts g rest)))
 
   -- of one entry: a 0 passes, any other is to be one
   pub areStarts-zero : (entry : DiskAddress) → entry ≡ 0 → areStarts g (unlessZero entry []) ≡ true

@@ -4,7 +4,8 @@ use Rattle.laws.proofs.Lists.{same-of-isSame}
 use Rattle.model.proofs.Theorems.Computing.{computing}
 use Rattle.recovery_model.specs.Recovery.{usedFrom, areStarts, areApart, mapChecks, recoveryRefusal}
 use Rattle.recovery_model.specs.Recovery.{withoutBits, withMarks, recovered}
-use Rattle.recovery_model.specs.Promises.RecoveryFigures.{RecoveryFigures, pulledAt, withMap, withBitmap}
+use Rattle.recovery_model.specs.Promises.RecoveryFigures.{RecoveryFigures, pulledAt, withMap}
+use Rattle.recovery_model.specs.Promises.RecoveryFigures.{withBitmap}
 
 pub recovery-figures : RecoveryFigures
 unfolding computing usedFrom areStarts areApart mapChecks recoveryRefusal withoutBits withMarks recovered
@@ -16,6 +17,11 @@ recovery-figures =
       placed-nine = refl;
       hidden-old = refl;
       hidden-new = refl;
+      line-placed-thirteen = refl;
+      line-placed-fourteen = refl;
+      first-new = refl;
+      second-old = refl;
+      second-new = refl;
       public-old = refl;
       six-before = refl;
       public-new = refl;

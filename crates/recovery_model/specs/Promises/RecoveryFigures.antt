@@ -8,10 +8,11 @@ use lib.ListN.{replicate}
 use Rattle.model.specs.Blocks.{Bytes, setBlock}
 use Rattle.model.specs.Stores.{addresses}
 use Rattle.model.specs.Refusals.{publicReadRefusal}
-use Rattle.model.specs.Calls.{publicRead, hiddenRead, Written}
+use Rattle.model.specs.Calls.{publicRead, hiddenRead, Offered, inLine, Written}
 use Rattle.model.specs.Promises.Figures.{fresh, filled}
 use Rattle.model.specs.Promises.Limits.{small4, oneOffer, withHead}
 use Rattle.model.specs.Promises.TreeFigures.{fiveLines}
+use Rattle.model.specs.Promises.LineFigures.{twoWait}
 use Rattle.model.specs.Promises.Waiting.{PublicHalf, halfWritten}
 use Rattle.recovery_model.specs.Cuts.{cutDisk, cutList, placedWithin}
 use Rattle.recovery_model.specs.Recovery.{recoveryRefusal, recovered}
@@ -29,6 +30,16 @@ pulledAt bound = cutDisk bound pulled fiveLines
 
 abbrev pub placedAt : (bound : ℕ) → ℕ
 placedAt bound = placedWithin bound pulledHalf fiveLines (oneOffer 0 8)
+
+-- the same write with a line in the place of the offer: hidden 0, data 8, then hidden 1, data 9
+abbrev pub pulledLine : Offered
+pulledLine = inLine (filled 8 ++ filled 9) twoWait
+
+abbrev pub linePulledAt : (bound : ℕ) → Bytes
+linePulledAt bound = cutDisk bound (halfWritten pulledHalf fiveLines pulledLine) fiveLines
+
+abbrev pub linePlacedAt : (bound : ℕ) → ℕ
+linePlacedAt bound = placedWithin bound pulledHalf fiveLines pulledLine
 
 -- a fresh drive with these map entries and every bit of the bitmap set
 abbrev pub withMap : (first second third fourth : ℕ) → Bytes
@@ -55,6 +66,12 @@ pub record RecoveryFigures : Type 0 where
   pub placed-nine : placedAt 9 ≡ 1
   pub hidden-old : hiddenRead (recovered (pulledAt 8)) 0 (filled 0) ≡ filled 5
   pub hidden-new : hiddenRead (recovered (pulledAt 9)) 0 (filled 0) ≡ filled 8
+  -- of a line hidden 1 is placed too, in round 3, whose root is store 14
+  pub line-placed-thirteen : linePlacedAt 13 ≡ 1
+  pub line-placed-fourteen : linePlacedAt 14 ≡ 2
+  pub first-new : hiddenRead (recovered (linePulledAt 13)) 0 (filled 0) ≡ filled 8
+  pub second-old : hiddenRead (recovered (linePulledAt 13)) 1 (filled 0) ≡ filled 2
+  pub second-new : hiddenRead (recovered (linePulledAt 14)) 1 (filled 0) ≡ filled 9
   -- the map block is store 15; until its bits are stored public 0 is refused
   pub public-old : publicRead (recovered (pulledAt 14)) 0 (filled 0) ≡ filled 2
   pub six-before : publicReadRefusal (pulledAt 15) 0 (filled 0) ≡ 6

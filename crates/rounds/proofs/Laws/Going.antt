@@ -67,12 +67,13 @@ module _ (g : Geometry) (number : ℕ) (content random : Bytes) (turns : List Of
             (stateOf g none-yet turns blocks))) e z;
       }
 
--- the loop's invariant: that, and a buffer as long as it was
+-- the loop's invariant: that, a bound that the list has not passed, and a buffer as long as it was
 pub record Looping (g : Geometry) (number : ℕ) (content random : Bytes) (turns : List Offer) (blocks : Bytes)
-    (run : Run) (disk : Bytes) (list : List DiskAddress) (first : ℕ) (buffer diskNow : Bytes)
+    (run : Run) (disk : Bytes) (list : List DiskAddress) (first bound : ℕ) (buffer diskNow : Bytes)
     (listNow : List DiskAddress) (bufferNow : Bytes) (slot next : ℕ) (state : State) (done : ℕ) : Type 0
   where
     pub going :
         Going g number content random turns blocks run disk list first diskNow listNow slot next state done
+    pub bounded : next ≤ bound
     pub disk-kept : length diskNow ≡ length disk
     pub buffer-kept : length bufferNow ≡ length buffer

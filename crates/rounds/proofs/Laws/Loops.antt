@@ -8,6 +8,7 @@ use native.Mathlib.Nat.{mul-le-mul-right, add-mul}
 use native.Mathlib.Omega.{arith}
 use lib.ListN.{length, drop, length-append, length-drop}
 use lib.Seq.{drop-drop}
+use borrow.Author.Tests.{ltb-false}
 use Rattle.laws.proofs.Cases.{cond-true, cond-false}
 use Rattle.model.specs.Geometry.{Geometry, blockWidth}
 use Rattle.model.specs.Blocks.{Bytes, DiskAddress}
@@ -36,6 +37,7 @@ use Rattle.rounds.specs.declared.rounds.Step.{Step}
 use Rattle.plans.specs.States.{waitingBy, stateAfter, stateOf}
 use Rattle.rounds.specs.Rounds.{choiceAt, roundAt, RoundReady, RoundLent, RoundDone}
 use Rattle.rounds.specs.Runs.{Runnable}
+use Rattle.rounds.proofs.Laws.Bounds.{made-whole}
 use Rattle.rounds.proofs.Laws.Going.{Going}
 use Rattle.rounds.proofs.Laws.Waiting.{behind, waiting-first, first-lent, waiting-whole, turned-is}
 use Rattle.rounds.proofs.Laws.Waiting.{placed-after}
@@ -53,13 +55,13 @@ module _ {g : Geometry} {number head : ℕ} {content random : Bytes} {turns : Li
     abbrev randomNow : Bytes
     randomNow = drop (done * (g .height * g .blockSize)) random
 
-    abbrev round : Trace
-    round = roundAt g diskNow number slot content randomNow stateNow
+    abbrev pub roundNow : Trace
+    roundNow = roundAt g diskNow number slot content randomNow stateNow
 
-    abbrev rest : Run
-    rest =
+    abbrev pub restNow : Run
+    restNow =
         restBy (choiceAt g diskNow slot stateNow) (g .slots - (done + 1)) g number content (nextSlot g slot)
-        (drop (g .height * g .blockSize) randomNow) (apply (blockWidth g) round diskNow)
+        (drop (g .height * g .blockSize) randomNow) (apply (blockWidth g) roundNow diskNow)
         (hiddenHalf g diskNow slot randomNow stateNow .state)
 
     pub going-over :
@@ -72,14 +74,8 @@ module _ {g : Geometry} {number head : ℕ} {content random : Bytes} {turns : Li
         ∙ ap (after (going .front) done) (runFrom-zero g number content slot randomNow diskNow stateNow)
         ∙ after-stopped (going .front) done stateNow
 
-    pub made-over : g .slots ≤ done → Made (blockWidth g) (run .trace) disk list first diskNow listNow next
-    made-over h =
-        subst (λ (r : Run). Made (blockWidth g) (r .trace) disk list first diskNow listNow next)
-        (sym (going-over h))
-        (going .made)
-
     module _ (more : done < g .slots) where
-      run-round : run ≡ after (going .front ++ round) (done + 1) rest
+      pub run-round : run ≡ after (going .front ++ roundNow) (done + 1) restNow
       run-round =
           let e : g .slots - done ≡ suc (g .slots - (done + 1)) = omega arith in
           going .run-is
@@ -87,11 +83,11 @@ module _ {g : Geometry} {number head : ℕ} {content random : Bytes} {turns : Li
           stateNow)) e
           ∙ ap (after (going .front) done)
           (runFrom-suc (g .slots - (done + 1)) g number content slot randomNow diskNow stateNow)
-          ∙ after-round (going .front) done round rest
+          ∙ after-round (going .front) done roundNow restNow
 
       pub random-from : done * (g .height * g .blockSize) + g .height * g .blockSize ≤ length random
       random-from =
-          let counts : run .rounds ≡ done + 1 + rest .rounds = ap (λ (r : Run). r .rounds) run-round in
+          let counts : run .rounds ≡ done + 1 + restNow .rounds = ap (λ (r : Run). r .rounds) run-round in
           let few : done + 1 ≤ run .rounds = omega arith in
           omega (
             arith,
@@ -100,15 +96,15 @@ module _ {g : Geometry} {number head : ℕ} {content random : Bytes} {turns : Li
             ready .random-enough,
           )
 
-      round-room : next + length round ≤ length listNow
+      pub round-room : next + length roundNow ≤ length listNow
       round-room =
-          let longs : length (run .trace) ≡ length ((going .front ++ round) ++ rest .trace) =
+          let longs : length (run .trace) ≡ length ((going .front ++ roundNow) ++ restNow .trace) =
           ap (λ (r : Run). length (r .trace)) run-round in
           omega (
             arith,
             longs,
-            length-append (going .front ++ round) (rest .trace),
-            length-append (going .front) round,
+            length-append (going .front ++ roundNow) (restNow .trace),
+            length-append (going .front) roundNow,
             next-after (going .made),
             going .list-kept,
             ready .room-enough,
@@ -123,14 +119,15 @@ module _ {g : Geometry} {number head : ℕ} {content random : Bytes} {turns : Li
             stateNow .waiting ≡ waitingBy g blocks waiting (behind g blocks turns (state .placed))
         round-waits = rw taken (waiting-first g blocks turns (state .placed))
 
-        pub round-lent : {buffer : Bytes} → length buffer ≡ g .blockSize →
-            RoundLent g diskNow buffer listNow next number slot content randomNow waiting blocks
-        round-lent whole =
+        pub round-lent : {buffer : Bytes} {bound : ℕ} → length buffer ≡ g .blockSize → next ≤ bound →
+            RoundLent g diskNow buffer listNow next bound number slot content randomNow waiting blocks
+        round-lent whole bounded =
             record {
               state = stateNow;
               later = behind g blocks turns (state .placed);
               waits = round-waits;
               lent = record { drive = going .drive; whole = whole; room = round-room };
+              bounded = bounded;
             }
 
         pub round-ready : RoundReady g diskNow number slot content randomNow waiting blocks
@@ -162,16 +159,27 @@ module _ {g : Geometry} {number head : ℕ} {content random : Bytes} {turns : Li
             hides = hides;
           }
 
-      module _ {diskAfter : Bytes} {listAfter : List DiskAddress} {step : Step}
-          (stepped : RoundDone g diskNow listNow next number slot content randomNow
-          (behind g blocks turns (state .placed)) stateNow diskAfter listAfter step) {reached : State}
+      -- a round that is not cut
+      module _ {bound : ℕ} {diskAfter : Bytes} {listAfter : List DiskAddress} {step : Step}
+          (stepped : RoundDone g diskNow listNow next bound number slot content randomNow
+          (behind g blocks turns (state .placed)) stateNow diskAfter listAfter step)
+          (uncut : step .«is_cut» ≡ false) {reached : State}
           (moved : reached ≡ stateAfter state (step .turn)) where
-        made-round : Made (blockWidth g) (going .front ++ round) disk list first diskAfter listAfter
+        inside : next + length roundNow ≤ bound
+        inside = ltb-false bound (next + length roundNow) (sym (stepped .cut-is) ∙ uncut)
+
+        whole-round : Made (blockWidth g) roundNow diskNow listNow next diskAfter listAfter (step .next)
+        whole-round = made-whole (stepped .made) inside
+
+        pub next-bounded : step .next ≤ bound
+        next-bounded = omega (arith, next-after whole-round, inside)
+
+        pub made-round : Made (blockWidth g) (going .front ++ roundNow) disk list first diskAfter listAfter
             (step .next)
         made-round =
-            made-then (going .front) round
+            made-then (going .front) roundNow
             (omega (arith, round-room, next-after (going .made), going .list-kept)) (going .made)
-            (stepped .made)
+            whole-round
 
         state-done : stateOf g reached turns blocks ≡ hiddenHalf g diskNow slot randomNow stateNow .state
         state-done =
@@ -183,24 +191,16 @@ module _ {g : Geometry} {number head : ℕ} {content random : Bytes} {turns : Li
         pub run-ends :
             step .«goes_on» ≡ false →
             run ≡ record {
-              trace = going .front ++ round;
+              trace = going .front ++ roundNow;
               rounds = done + 1;
               state = stateOf g reached turns blocks;
             }
         run-ends e =
             run-round
-            ∙ ap (after (going .front ++ round) (done + 1)) (cond-false _ _ (sym (stepped .goes-on) ∙ e))
-            ∙ after-stopped (going .front ++ round) (done + 1) _
-            ∙ ap (λ (s : HiddenState). record { trace = going .front ++ round; rounds = done + 1; state = s })
-            (sym state-done)
-
-        pub made-ends :
-            step .«goes_on» ≡ false → Made (blockWidth g) (run .trace) disk list first diskAfter listAfter
-            (step .next)
-        made-ends e =
-            subst (λ (r : Run). Made (blockWidth g) (r .trace) disk list first diskAfter listAfter
-            (step .next))
-            (sym (run-ends e)) made-round
+            ∙ ap (after (going .front ++ roundNow) (done + 1)) (cond-false _ _ (sym (stepped .goes-on) ∙ e))
+            ∙ after-stopped (going .front ++ roundNow) (done + 1) _
+            ∙ ap (λ (s : HiddenState).
+            record { trace = going .front ++ roundNow; rounds = done + 1; state = s }) (sym state-done)
 
         -- another round follows
         pub going-next :
@@ -211,29 +211,29 @@ module _ {g : Geometry} {number head : ℕ} {content random : Bytes} {turns : Li
             let on : goesOn (choiceAt g diskNow slot stateNow) ≡ true = sym (stepped .goes-on) ∙ e in
             let kept = keep-of-goesOn (choiceAt g diskNow slot stateNow) on in
             record {
-              front = going .front ++ round;
+              front = going .front ++ roundNow;
               made = made-round;
               within = omega arith;
               drive =
-                  drive-made g (stepped .made) (going .drive)
+                  drive-made g whole-round (going .drive)
                   (round-stored this-round (choiceAt g diskNow slot stateNow));
               inside = nextSlot-lt g slot (going .drive .fits);
               placed =
-                  subst (λ (d : Bytes). Placed g d number) (sym (disk-after (stepped .made)))
+                  subst (λ (d : Bytes). Placed g d number) (sym (disk-after whole-round))
                   (subst (λ (choice : PublicChoice).
                   Placed g (apply (blockWidth g) (roundTrace choice g diskNow number slot content
                   (hiddenHalf g diskNow slot randomNow stateNow .trace)) diskNow) number) (sym kept)
                   (placed-kept this-round));
               few = rw moved (omega (arith, placed-after state (step .turn), going .few));
-              list-kept = length-made-list (stepped .made) round-room ∙ going .list-kept;
+              list-kept = length-made-list whole-round round-room ∙ going .list-kept;
               run-is =
                   run-round
-                  ∙ ap (after (going .front ++ round) (done + 1)) (cond-true _ _ on ∙ rest-same);
+                  ∙ ap (after (going .front ++ roundNow) (done + 1)) (cond-true _ _ on ∙ rest-same);
             }
           where
             rest-same :
                 runFrom (g .slots - (done + 1)) g number content (nextSlot g slot)
-                (drop (g .height * g .blockSize) randomNow) (apply (blockWidth g) round diskNow)
+                (drop (g .height * g .blockSize) randomNow) (apply (blockWidth g) roundNow diskNow)
                 (hiddenHalf g diskNow slot randomNow stateNow .state) ≡
                 runFrom (g .slots - (done + 1)) g number content (nextSlot g slot)
                 (drop ((done + 1) * (g .height * g .blockSize)) random) diskAfter
@@ -250,6 +250,6 @@ module _ {g : Geometry} {number head : ℕ} {content random : Bytes} {turns : Li
                 ap₂ (λ (xs ds : Bytes).
                 runFrom (g .slots - (done + 1)) g number content (nextSlot g slot) xs ds
                 (hiddenHalf g diskNow slot randomNow stateNow .state)) dropped
-                (sym (disk-after (stepped .made)))
+                (sym (disk-after whole-round))
                 ∙ ap (runFrom (g .slots - (done + 1)) g number content (nextSlot g slot)
                 (drop ((done + 1) * (g .height * g .blockSize)) random) diskAfter) (sym state-done)

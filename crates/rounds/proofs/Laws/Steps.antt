@@ -1,10 +1,12 @@
--- Laws of a round by its plan: the planned round can be stored, its stores are the model's round, and what it
--- answers. Assumes nothing.
+-- Laws of a round by its plan: the planned round can be stored, its stores are the model's round, of which
+-- those are made that the bound leaves room for, and what it answers. Assumes nothing.
 use mathlib.Core.Path.{_≡_, sym, ap, ap₂, _∙_}
 use mathlib.Core.List.{List, [], _∷_, _++_}
-use Prim.Native.Nat.{ℕ}
-use lib.ListN.{length}
-use Rattle.model.specs.Geometry.{Geometry, blockWidth}
+use Prim.Native.Nat.{ℕ, _+_, _-_, _≤_, min}
+use native.Mathlib.Omega.{arith}
+use lib.Dec.{ltb}
+use lib.ListN.{length, take}
+use Rattle.model.specs.Geometry.{Geometry, Fits, blockWidth}
 use Rattle.model.specs.Blocks.{Bytes, DiskAddress}
 use Rattle.model.specs.Stores.{Trace}
 use Rattle.model.specs.Table as model
@@ -21,12 +23,15 @@ use Rattle.plans.specs.PublicPlans.{PublicPlanned}
 use Rattle.plans.specs.States.{waitingBy, turned}
 use Rattle.plans.specs.Plans.{Planned}
 use Rattle.round_stores.specs.declared.planned.PlannedRound.{PlannedRound}
-use Rattle.round_stores.specs.Planned.{plannedTrace, Storable}
-use Rattle.rounds.specs.Rounds.{choiceAt, roundAt, RoundReady}
+use Rattle.round_stores.specs.Planned.{plannedTrace, plannedCount, Storable}
+use Rattle.round_stores.proofs.Laws.Planned.{length-plannedTrace}
+use Rattle.rounds.specs.Rounds.{choiceAt, roundAt, StoresReady, RoundReady}
+use Rattle.rounds.proofs.Laws.Bounds.{take-counted, ltb-counted}
 
 -- a round whose halves are planned
 pub record Begun (g : Geometry) (disk : Bytes) (number slot : ℕ) (content random : Bytes) (first : First)
     (blocks : Bytes) (plans : Plans) (public : PublicPlan) : Type 0 where
+  pub fits : Fits g
   pub ready : RoundReady g disk number slot content random first blocks
   pub planned : Planned g disk slot first plans
   pub public-planned : PublicPlanned g disk number slot (plans .choice) public
@@ -37,7 +42,7 @@ module _ {g : Geometry} {disk : Bytes} {number slot : ℕ} {content random : Byt
   abbrev round : PlannedRound
   round = record { slot = slot; public = public; hidden = plans .plan }
 
-  pub step-storable : Storable g round content blocks random
+  step-storable : Storable g round content blocks random
   step-storable =
       record {
         placed =
@@ -76,19 +81,34 @@ module _ {g : Geometry} {disk : Bytes} {number slot : ℕ} {content random : Byt
         (hiddenTrace (plans .plan) g disk slot blocks random ++ (xs ++ (headerStore g disk slot ∷ []))))
         (sym (begun .public-planned .chosen)) (begun .public-planned .stores-are)
 
-    pub step-lent :
-        {buffer : Bytes} {list : List DiskAddress} {next : ℕ} →
-        LentFor g disk buffer list next (length (roundAt g disk number slot content random state)) →
-        LentFor g disk buffer list next (length (plannedTrace round g disk content blocks random))
-    step-lent lent = rw round-is at lent
+    counted : length (roundAt g disk number slot content random state) ≡ plannedCount g round
+    counted =
+        ap length round-is
+        ∙ length-plannedTrace g (begun .fits) round disk content blocks random
 
-    pub step-made :
-        {list entered : List DiskAddress} {next last : ℕ} {after : Bytes} →
-        Made (blockWidth g) (plannedTrace round g disk content blocks random) disk list next after entered
-        last →
-        Made (blockWidth g) (roundAt g disk number slot content random state) disk list next after entered
-        last
-    step-made made = rw round-is made
+    module _ (next bound : ℕ) {count : ℕ} (fewer : count ≡ min (plannedCount g round) (bound - next)) where
+      pub step-ready :
+          {buffer : Bytes} {list : List DiskAddress} →
+          LentFor g disk buffer list next (length (roundAt g disk number slot content random state)) →
+          StoresReady g disk buffer list next round count content blocks random
+      step-ready lent =
+          record { lent = rw round-is at lent; storable = step-storable; count-most = omega arith }
+
+      pub step-made :
+          {list entered : List DiskAddress} {last : ℕ} {after : Bytes} →
+          Made (blockWidth g) (take count (plannedTrace round g disk content blocks random)) disk list next
+          after entered last →
+          Made (blockWidth g) (take (bound - next) (roundAt g disk number slot content random state)) disk
+          list next after entered last
+      step-made made =
+          rw (← take-counted (roundAt g disk number slot content random state) next bound counted fewer)
+          (rw round-is made)
+
+      pub step-cut :
+          next ≤ bound →
+          ltb count (plannedCount g round) ≡
+          ltb bound (next + length (roundAt g disk number slot content random state))
+      step-cut = ltb-counted (roundAt g disk number slot content random state) next bound counted fewer
 
     pub step-state : turned (plans .turn) later state ≡ hiddenHalf g disk slot random state .state
     step-state = sym (ap (λ (h : HiddenHalf). h .state) half-is)

@@ -9,7 +9,7 @@ use native.Mathlib.Nat.{suc-mul, mul-le-mul-right}
 use native.Mathlib.Numerals.{add-one}
 use native.Mathlib.Omega.{arith}
 use lib.ListN.{length, getD, take}
-use lib.Seq.{take-suc, take-all, length-take-le}
+use lib.Seq.{take-suc, length-take-le}
 use Rattle.laws.proofs.Members.{All, all-append}
 use Rattle.model.specs.Geometry.{Geometry, blockCount, blockWidth}
 use Rattle.model.specs.Blocks.{Bytes, DiskAddress}
@@ -45,20 +45,18 @@ pub none-so-far :
 none-so-far g trace disk list first room =
     record { within = omega arith; made = made-nothing (blockWidth g) disk list first room; stored = tt }
 
-pub all-made :
+pub made-so-far :
     {g : Geometry} {trace : Trace} {disk diskNow : Bytes} {list listNow : List DiskAddress}
-    {first place next : ℕ} → SoFar g trace disk list first diskNow listNow place next → length trace ≤ place →
-    Made (blockWidth g) trace disk list first diskNow listNow next
-all-made {g} {trace} {disk} {diskNow} {list} {listNow} {first} {place} {next} so h =
-    subst (λ (xs : Trace). Made (blockWidth g) xs disk list first diskNow listNow next)
-    (take-all place trace h)
-    (so .made)
+    {first place next count : ℕ} → SoFar g trace disk list first diskNow listNow place next → place ≡ count →
+    Made (blockWidth g) (take count trace) disk list first diskNow listNow next
+made-so-far so e = rw (← e) (so .made)
 
--- what holds whenever the loop's test is reached: so many stores are made, and what is lent is as long as it
--- was
-pub record Storing (g : Geometry) (trace : Trace) (disk : Bytes) (list : List DiskAddress) (first : ℕ)
-    (buffer : Bytes) (diskNow : Bytes) (listNow : List DiskAddress) (bufferNow : Bytes) (place next : ℕ) :
-    Type 0 where
+-- what holds whenever the loop's test is reached: so many stores are made, no more than are asked for, and
+-- what is lent is as long as it was
+pub record Storing (g : Geometry) (trace : Trace) (count : ℕ) (disk : Bytes) (list : List DiskAddress)
+    (first : ℕ) (buffer : Bytes) (diskNow : Bytes) (listNow : List DiskAddress) (bufferNow : Bytes)
+    (place next : ℕ) : Type 0 where
+  pub asked : place ≤ count
   pub so-far : SoFar g trace disk list first diskNow listNow place next
   pub disk-kept : length diskNow ≡ length disk
   pub list-kept : length listNow ≡ length list

@@ -1,15 +1,25 @@
--- `write_line` meets its contract: with an empty line it is the write with nothing offered. Assumes nothing.
-use mathlib.Core.Path.{sym, _∙_}
+-- `write_line` meets its contract: the list has room for all stores of a write that is not refused, so the
+-- list's length as the bound leaves none out. Assumes nothing.
+use lib.ListN.{length}
 use borrow.Author.Needs.{needs}
-use Rattle.mapper.proofs.Laws.LineWrites.{line-empty}
+use Rattle.model.specs.Calls.{inLine, written}
+use Rattle.model.proofs.Refusals.Writes.{stores-written-le}
+use Rattle.line.specs.Offers.{lineOf}
+use Rattle.mapper.proofs.Laws.Uncut.{line-uncut}
 use Rattle.mapper.proofs.write.write_line.Statement.{statement}
 use Rattle.mapper.proofs.write.write_line.Tie as tie
 
-held-requires : tie.Need-held-requires
-held-requires c κs = search needs
+abbrev doneOf : tie.After-left → tie.After-line-within
+doneOf c = c .before .before .before .before .before
 
-write-turns-requires : tie.Need-write-turns-requires
-write-turns-requires c κs = search needs
+abbrev lentOf : tie.After-line-within → tie.After-slice-known2
+lentOf c = c .before .before .before
+
+abbrev startOf : tie.After-slice-known2 → tie.Start
+startOf c = c .before .before .before .before .before
+
+line-within-requires : tie.Need-line-within-requires
+line-within-requires c κs = search needs
 
 same-length : tie.Need-same-length
 same-length c = search needs
@@ -18,37 +28,15 @@ same-length-2 : tie.Need-same-length-2
 same-length-2 c = search needs
 
 returns : tie.Need-returns
-returns c = search needs
-
-write-block-requires : tie.Need-write-block-requires
-write-block-requires c κs = search needs
-
-same-length-3 : tie.Need-same-length-3
-same-length-3 c = search needs
-
-same-length-4 : tie.Need-same-length-4
-same-length-4 c = search needs
-
-returns-2 : tie.Need-returns-2
-returns-2 c =
-    let done = c .before .before .before .before in
-    let empty = done .before .before .before in
-    let held = empty .before in
-    let a = held .before .before .before .before .before .before .args in
-    line-empty (a .disk .now) (a .number .0) (a .content .now) (a .random .now) (a .list .now) (a .line)
-    (a .blocks .now) (sym (held .held .ensures) ∙ empty .if1 .left) (done .write-block .last .0)
-    (done .write-block .last .1 .1 .1 .1 .1 .1 .1 .0) (done .write-block .result) (done .write-block .ensures)
+returns c =
+    let done = doneOf c in
+    let a = startOf (lentOf done) .args in
+    let offered = inLine (a .blocks .now) (lineOf (a .line)) in
+    let room = length (a .list .now) in
+    line-uncut
+    (written (a .disk .now) (a .number .0) (a .content .now) (a .random .now) room offered) room
+    (stores-written-le (a .disk .now) (a .number .0) (a .content .now) (a .random .now) room offered)
+    (done .line-within .result) (done .line-within .ensures)
 
 pub write-line-spec : {M : Type 1} → statement M
-write-line-spec =
-    tie.close
-    (tie.spec
-    held-requires
-    write-turns-requires
-    same-length
-    same-length-2
-    returns
-    write-block-requires
-    same-length-3
-    same-length-4
-    returns-2)
+write-line-spec = tie.close (tie.spec line-within-requires same-length same-length-2 returns)

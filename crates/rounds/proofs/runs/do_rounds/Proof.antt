@@ -1,6 +1,6 @@
 -- `do_rounds` meets its contract. Invariant: the rounds done and the rest of the run from here are the whole
--- run, and the buffer is as long as it was. The measure is the slots left. Assumes nothing.
-use mathlib.Core.Path.{refl, sym, ap, subst, _∙_}
+-- run, no round was cut, and the buffer is as long as it was. The measure is the slots left. Assumes nothing.
+use mathlib.Core.Path.{refl, sym, subst, _∙_}
 use mathlib.Core.List.{List}
 use Prim.Native.Nat.{ℕ, _+_, _*_, _-_, _^_, _≤_}
 use native.Mathlib.Nat.{mul-le-mul}
@@ -12,7 +12,6 @@ use Rattle.laws.proofs.Lists.{take-drop}
 use Rattle.model.specs.Geometry.{Geometry}
 use Rattle.model.specs.Blocks.{Bytes}
 use Rattle.model.specs.HiddenHalf.{HiddenWrite, HiddenState}
-use Rattle.model.specs.Rounds.{Run}
 use Rattle.model.specs.Line.{Offer}
 use Rattle.layout.specs.Geometries.{geometryOf}
 use Rattle.line.specs.Turns.{offersBy}
@@ -21,21 +20,22 @@ use Rattle.rounds.specs.Rounds.{RoundReady, RoundLent, RoundDone}
 use Rattle.rounds.specs.Runs.{turnsRun}
 use Rattle.rounds.proofs.Laws.Waiting.{behind}
 use Rattle.rounds.proofs.Laws.Going.{Looping, going-none}
-use Rattle.rounds.proofs.Laws.Loops.{going-over, made-over, random-from, round-waits, round-lent}
-use Rattle.rounds.proofs.Laws.Loops.{round-ready, run-ends, made-ends, going-next}
+use Rattle.rounds.proofs.Laws.Loops.{going-over, random-from, round-waits, round-lent}
+use Rattle.rounds.proofs.Laws.Loops.{round-ready, run-ends, made-round, next-bounded, going-next}
+use Rattle.rounds.proofs.Laws.Cuts.{run-done, run-cut}
 use Rattle.rounds.proofs.runs.do_rounds.Statement.{statement}
 use Rattle.rounds.proofs.runs.do_rounds.Tie as tie
 
 abbrev Inv-loop : tie.InvT-loop
-Inv-loop disk₀ list₀ first g number head content random numbers places blocks buffer₀ slots width slot₀
-    next₀ reached₀ done₀ disk list buffer slot next reached done =
+Inv-loop disk₀ list₀ first bound g number head content random numbers places blocks buffer₀ slots width
+    slot₀ next₀ reached₀ done₀ disk list buffer slot next reached done =
     Looping (geometryOf g) (number .0) content random (offersBy numbers places) blocks
     (turnsRun (geometryOf g) disk₀ (number .0) head content random (offersBy numbers places) blocks) disk₀
-    list₀ first buffer₀ disk list buffer slot next reached done
+    list₀ first bound buffer₀ disk list buffer slot next reached done
 
 abbrev μ-loop : tie.MeasureT-loop
-μ-loop disk₀ list₀ first g number head content random numbers places blocks buffer₀ slots width slot₀
-    next₀ reached₀ done₀ disk list buffer slot next reached done = slots - done
+μ-loop disk₀ list₀ first bound g number head content random numbers places blocks buffer₀ slots width
+    slot₀ next₀ reached₀ done₀ disk list buffer slot next reached done = slots - done
 
 -- ---- places ----
 
@@ -75,12 +75,15 @@ at-entries c = c .before .before .before
 abbrev at-round : tie.After-slice-known6 Inv-loop μ-loop → tie.After-do-round Inv-loop μ-loop
 at-round c = at-entries c .before .before .before
 
--- the state that it leaves is told
+-- it is not cut, and the state that it leaves is told
 abbrev at-moved : tie.After-struct-known3 Inv-loop μ-loop → tie.After-state-after Inv-loop μ-loop
 at-moved c = c .before
 
+abbrev at-uncut : tie.After-struct-known3 Inv-loop μ-loop → tie.Else1 Inv-loop μ-loop
+at-uncut c = at-moved c .before
+
 abbrev round-of : tie.After-struct-known3 Inv-loop μ-loop → tie.After-do-round Inv-loop μ-loop
-round-of c = at-round (at-moved c .before)
+round-of c = at-round (at-uncut c .before)
 
 -- ---- what is known there ----
 
@@ -106,9 +109,9 @@ stepped :
     (c : tie.After-do-round Inv-loop μ-loop) →
     let s = start-of (at-turn c) .args in
     let l = at-turn c .loop in
-    RoundDone (shape-of (at-turn c)) (l .disk) (l .list) (l .next) (s .number .0) (l .slot) (s .content .now)
-    (drop (from-of (at-turn c)) (s .random .now)) (later-of (at-turn c)) (state-of (at-turn c))
-    (c .do-round .last .0) (c .do-round .last .1 .0) (c .do-round .result)
+    RoundDone (shape-of (at-turn c)) (l .disk) (l .list) (l .next) (s .bound) (s .number .0) (l .slot)
+    (s .content .now) (drop (from-of (at-turn c)) (s .random .now)) (later-of (at-turn c))
+    (state-of (at-turn c)) (c .do-round .last .0) (c .do-round .last .1 .0) (c .do-round .result)
 stepped c =
     let s = start-of (at-turn c) .args in
     let l = at-turn c .loop in
@@ -116,9 +119,9 @@ stepped c =
     let waits = round-waits (start-of (at-turn c) .pre .0) (l .inv .going) (at-test c .loop-test .taken)
     (first .ensures) in
     subst (λ (bytes : Bytes).
-    RoundDone (shape-of (at-turn c)) (l .disk) (l .list) (l .next) (s .number .0) (l .slot) (s .content .now)
-    bytes (later-of (at-turn c)) (state-of (at-turn c)) (c .do-round .last .0) (c .do-round .last .1 .0)
-    (c .do-round .result))
+    RoundDone (shape-of (at-turn c)) (l .disk) (l .list) (l .next) (s .bound) (s .number .0) (l .slot)
+    (s .content .now) bytes (later-of (at-turn c)) (state-of (at-turn c)) (c .do-round .last .0)
+    (c .do-round .last .1 .0) (c .do-round .result))
     (take-drop (from-of (at-turn c)) (s .random .now))
     (c .do-round .ensures (later-of (at-turn c)) (state-of (at-turn c)) waits)
 
@@ -150,6 +153,7 @@ loop-holds c =
           going-none (geometryOf (s .g)) (s .number .0) (s .content .now) (s .random .now)
           (offersBy (s .numbers .now) (s .places .now)) (s .blocks .now) (s .disk .now) (s .head)
           (s .list .now) (s .first) (at-start c .pre .0);
+      bounded = at-start c .pre .1 .bounded;
       disk-kept = refl;
       buffer-kept = refl;
     }
@@ -189,65 +193,94 @@ do-round-requires c κs =
     let first = at-first c .first-of in
     let e = sym (take-drop (from-of turn) (s .args .random .now)) in (
       subst (λ (bytes : Bytes).
-          RoundLent (shape-of turn) (l .disk) (l .buffer) (l .list) (l .next) (s .args .number .0) (l .slot)
-          (s .args .content .now) bytes (first .result) (s .args .blocks .now)) e
+          RoundLent (shape-of turn) (l .disk) (l .buffer) (l .list) (l .next) (s .args .bound)
+          (s .args .number .0) (l .slot) (s .args .content .now) bytes (first .result)
+          (s .args .blocks .now)) e
           (round-lent (s .pre .0) (l .inv .going) (test .loop-test .taken) (first .ensures)
-          (l .inv .buffer-kept ∙ s .pre .1)),
+          (l .inv .buffer-kept ∙ s .pre .1 .whole) (l .inv .bounded)),
       subst (λ (bytes : Bytes).
           RoundReady (shape-of turn) (l .disk) (s .args .number .0) (l .slot) (s .args .content .now) bytes
           (first .result) (s .args .blocks .now)) e
           (round-ready (s .pre .0) (l .inv .going) (test .loop-test .taken) (first .ensures)),
     )
 
+-- ---- a round that is cut ----
+
+same-length : tie.Need-same-length Inv-loop μ-loop
+same-length c =
+    let round = at-round (c .before) in
+    omega (arith, round .do-round .kept .0, at-turn round .loop .inv .disk-kept)
+
+same-length-2 : tie.Need-same-length-2 Inv-loop μ-loop
+same-length-2 c =
+    let round = at-round (c .before) in
+    omega (arith, round .do-round .kept .1 .0, at-turn round .loop .inv .going .list-kept)
+
+same-length-3 : tie.Need-same-length-3 Inv-loop μ-loop
+same-length-3 c =
+    let round = at-round (c .before) in
+    omega (
+      arith,
+      round .do-round .kept .1 .1 .1 .1 .1 .1 .1 .1 .1 .1 .1 .0,
+      at-turn round .loop .inv .buffer-kept,
+    )
+
+returns : tie.Need-returns Inv-loop μ-loop
+returns c =
+    let round = at-round (c .before) in
+    let inv = at-turn round .loop .inv in
+    run-cut (start-of (at-turn round) .pre .0) (inv .going) (at-test round .loop-test .taken) (inv .bounded)
+    (stepped round) (c .if1 .taken)
+
+-- ---- the last round ----
+
 state-after-requires : tie.Need-state-after-requires Inv-loop μ-loop
 state-after-requires c κs =
-    let turn = at-turn (at-round c) in
+    let turn = at-turn (at-round (c .before)) in
     let f = start-of turn .pre .0 .drive .fits in
     omega (arith, turn .loop .inv .going .few, turn .loop .inv .going .within, f .blocks-high)
 
 add-done : tie.Need-add-done Inv-loop μ-loop
 add-done c = omega arith
 
--- ---- the last round ----
-
-same-length : tie.Need-same-length Inv-loop μ-loop
-same-length c =
+same-length-4 : tie.Need-same-length-4 Inv-loop μ-loop
+same-length-4 c =
     let round = round-of (c .before) in
     omega (arith, round .do-round .kept .0, at-turn round .loop .inv .disk-kept)
 
-same-length-2 : tie.Need-same-length-2 Inv-loop μ-loop
-same-length-2 c =
+same-length-5 : tie.Need-same-length-5 Inv-loop μ-loop
+same-length-5 c =
     let round = round-of (c .before) in
     omega (arith, round .do-round .kept .1 .0, at-turn round .loop .inv .going .list-kept)
 
-same-length-3 : tie.Need-same-length-3 Inv-loop μ-loop
-same-length-3 c =
+same-length-6 : tie.Need-same-length-6 Inv-loop μ-loop
+same-length-6 c =
     let round = round-of (c .before) in
     omega (
       arith,
-      round .do-round .kept .1 .1 .1 .1 .1 .1 .1 .1 .1 .1 .0,
+      round .do-round .kept .1 .1 .1 .1 .1 .1 .1 .1 .1 .1 .1 .0,
       at-turn round .loop .inv .buffer-kept,
     )
 
-returns : tie.Need-returns Inv-loop μ-loop
-returns c =
+returns-2 : tie.Need-returns-2 Inv-loop μ-loop
+returns-2 c =
     let round = round-of (c .before) in
     let ready = start-of (at-turn round) .pre .0 in
     let going = at-turn round .loop .inv .going in
     let more = at-test round .loop-test .taken in
-    let e = not-true (round .do-round .result .«goes_on») (c .if1 .taken) in
+    let uncut = at-uncut (c .before) .if1 .left in
     let moved = at-moved (c .before) .state-after .ensures in
-    let ended = run-ends ready going more (stepped round) moved e in
-    record {
-      made = made-ends ready going more (stepped round) moved e;
-      rounds-are = sym (ap (λ (r : Run). r .rounds) ended);
-      state-is = sym (ap (λ (r : Run). r .state) ended);
-    }
+    let e = not-true (round .do-round .result .«goes_on») (c .if2 .taken) in
+    run-done (run-ends ready going more (stepped round) uncut moved e)
+    (made-round ready going more (stepped round) uncut moved)
+    (next-bounded ready going more (stepped round) uncut moved)
 
 -- ---- another round ----
 
 add-slot : tie.Need-add-slot Inv-loop μ-loop
-add-slot c = omega arith
+add-slot c =
+    let turn = at-turn (round-of (c .before)) in
+    omega (arith, turn .loop .inv .going .inside, start-of turn .pre .0 .drive .fits .blocks-high)
 
 rem-slot : tie.Need-rem-slot Inv-loop μ-loop
 rem-slot c = omega arith
@@ -260,41 +293,42 @@ loop-again c =
     let round = round-of (c .before) in
     let kept = round .do-round .kept in
     let inv = at-turn round .loop .inv in
+    let ready = start-of (at-turn round) .pre .0 in
+    let more = at-test round .loop-test .taken in
+    let uncut = at-uncut (c .before) .if1 .left in
+    let moved = at-moved (c .before) .state-after .ensures in
     record {
       going =
-          going-next (start-of (at-turn round) .pre .0) (inv .going) (at-test round .loop-test .taken)
-          (stepped round) (at-moved (c .before) .state-after .ensures)
-          (not-false (round .do-round .result .«goes_on») (c .if1 .left));
-      disk-kept = kept .0 ∙ inv .disk-kept;
-      buffer-kept = kept .1 .1 .1 .1 .1 .1 .1 .1 .1 .1 .0 ∙ inv .buffer-kept;
+          going-next ready (inv .going) more (stepped round) uncut moved
+          (not-false (round .do-round .result .«goes_on») (c .if2 .left));
+      bounded = next-bounded ready (inv .going) more (stepped round) uncut moved;
+      disk-kept = omega (arith, kept .0, inv .disk-kept);
+      buffer-kept = omega (arith, kept .1 .1 .1 .1 .1 .1 .1 .1 .1 .1 .1 .0, inv .buffer-kept);
     }
 
 -- ---- every slot passed ----
 
-same-length-4 : tie.Need-same-length-4 Inv-loop μ-loop
-same-length-4 c = omega (arith, c .before .loop .inv .disk-kept)
+same-length-7 : tie.Need-same-length-7 Inv-loop μ-loop
+same-length-7 c = omega (arith, c .before .loop .inv .disk-kept)
 
-same-length-5 : tie.Need-same-length-5 Inv-loop μ-loop
-same-length-5 c = omega (arith, c .before .loop .inv .going .list-kept)
+same-length-8 : tie.Need-same-length-8 Inv-loop μ-loop
+same-length-8 c = omega (arith, c .before .loop .inv .going .list-kept)
 
-same-length-6 : tie.Need-same-length-6 Inv-loop μ-loop
-same-length-6 c = omega (arith, c .before .loop .inv .buffer-kept)
+same-length-9 : tie.Need-same-length-9 Inv-loop μ-loop
+same-length-9 c = omega (arith, c .before .loop .inv .buffer-kept)
 
-returns-2 : tie.Need-returns-2 Inv-loop μ-loop
-returns-2 c =
+returns-3 : tie.Need-returns-3 Inv-loop μ-loop
+returns-3 c =
     let ready = start-of (c .before) .pre .0 in
-    let going = c .before .loop .inv .going in
-    let over = going-over ready going (c .loop-test .left) in
-    record {
-      made = made-over ready going (c .loop-test .left);
-      rounds-are = sym (ap (λ (r : Run). r .rounds) over);
-      state-is = sym (ap (λ (r : Run). r .state) over);
-    }
+    let inv = c .before .loop .inv in
+    let over = c .loop-test .left in
+    run-done (going-over ready (inv .going) over) (inv .going .made) (inv .bounded)
 
 pub do-rounds-spec : {M : Type 1} → statement M
 do-rounds-spec =
     tie.close
     (tie.spec Inv-loop μ-loop cast-width cast-width-2 mul-width loop-holds cast-from mul-from
-    first-of-requires sub-do-round part-do-round-start part-do-round-end do-round-requires
-    state-after-requires add-done same-length same-length-2 same-length-3 returns add-slot rem-slot
-    loop-less loop-again same-length-4 same-length-5 same-length-6 returns-2)
+    first-of-requires sub-do-round part-do-round-start part-do-round-end do-round-requires same-length
+    same-length-2 same-length-3 returns state-after-requires add-done same-length-4 same-length-5
+    same-length-6 returns-2 add-slot rem-slot loop-less loop-again same-length-7 same-length-8 same-length-9
+    returns-3)

@@ -2,6 +2,7 @@
 -- drive's own length of a block. Assumes nothing.
 use mathlib.Core.Path.{_≡_, sym}
 use Prim.Native.Nat.{ℕ}
+use native.Mathlib.Omega.{arith}
 use borrow.Author.Needs.{needs}
 use lib.ListN.{length, replicate, take}
 use lib.Seq.{length-take-le}
@@ -39,7 +40,8 @@ slice-aggregate-do-rounds : tie.Need-slice-aggregate-do-rounds
 slice-aggregate-do-rounds c = sym (buffer-long (knownOf c))
 
 do-rounds-requires : tie.Need-do-rounds-requires
-do-rounds-requires c κs = (startOf (knownOf c) .pre, buffer-long (knownOf c))
+do-rounds-requires c κs =
+    (startOf (knownOf c) .pre, record { whole = buffer-long (knownOf c); bounded = omega arith })
 
 same-length : tie.Need-same-length
 same-length c = search needs

@@ -2,8 +2,8 @@
 -- what is left. Assumes nothing.
 use Rattle.mapper.proofs.Laws.Outcomes.{outcome-number, outcome-size, outcome-placed, outcome-damaged}
 use Rattle.mapper.proofs.Laws.Outcomes.{outcome-waiting, outcome-none}
-use Rattle.mapper.proofs.write.outcome_of.Statement.{statement}
-use Rattle.mapper.proofs.write.outcome_of.Tie as tie
+use Rattle.mapper.proofs.within.outcome_of.Statement.{statement}
+use Rattle.mapper.proofs.within.outcome_of.Tie as tie
 
 -- ---- the places on the way, each named from a later one ----
 

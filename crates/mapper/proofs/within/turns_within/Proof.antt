@@ -1,5 +1,5 @@
--- `write_turns` meets its contract: a refused write leaves disk, list and line, another one is run with the
--- turns of the line. Assumes nothing.
+-- `turns_within` meets its contract: a refused write leaves disk, list and line, another one is run up to the
+-- bound with the turns of the line. Assumes nothing.
 use mathlib.Core.Path.{_≡_, sym}
 use Prim.Native.Nat.{ℕ, _≤_}
 use native.Mathlib.Omega.{arith}
@@ -19,8 +19,8 @@ use Rattle.line.specs.Offers.{lineOf}
 use Rattle.line.specs.Turns.{turnsIn}
 use Rattle.mapper.proofs.Laws.Writes.{runnable}
 use Rattle.mapper.proofs.Laws.LineWrites.{line-refused, brought-in-line, line-fits, line-done}
-use Rattle.mapper.proofs.write.write_turns.Statement.{statement}
-use Rattle.mapper.proofs.write.write_turns.Tie as tie
+use Rattle.mapper.proofs.within.turns_within.Statement.{statement}
+use Rattle.mapper.proofs.within.turns_within.Tie as tie
 
 -- ---- the places on the way, each named from a later one ----
 
@@ -142,8 +142,8 @@ run-write-requires c κs =
     (inLine (a .blocks .now) (lineOf (a .line))) (a .blocks .now) (o .accepted) g (o .same) (head .result)
     (head .ensures) (turnsIn (turnsOf found))
     (brought-in-line (a .disk .now) (a .number .0) (a .content .now) (a .random .now) (a .list .now)
-    (a .line) (a .blocks .now) (o .accepted) g (o .same) (head .result) (head .ensures) (turnsOf found)
-    (found .turns-of .ensures))
+    (a .line) (a .blocks .now) (a .bound) (o .accepted) g (o .same) (head .result) (head .ensures)
+    (turnsOf found) (found .turns-of .ensures))
 
 answer-line-requires : tie.Need-answer-line-requires
 answer-line-requires c κs =
@@ -154,9 +154,9 @@ answer-line-requires c κs =
     let head = headOf found .head-in in
     let ran = run .run-write in
     line-fits (a .disk .now) (a .number .0) (a .content .now) (a .random .now) (a .list .now) (a .line)
-    (a .blocks .now) (o .accepted) (shapeOf (readOf (headOf found))) (o .same) (head .result) (head .ensures)
-    (turnsOf found) (found .turns-of .ensures) (numbers-whole found) (places-whole found) (ran .last .0)
-    (ran .last .1 .0) (ran .result) (ran .ensures)
+    (a .blocks .now) (a .bound) (o .accepted) (shapeOf (readOf (headOf found))) (o .same) (head .result)
+    (head .ensures) (turnsOf found) (found .turns-of .ensures) (numbers-whole found) (places-whole found)
+    (ran .last .0) (ran .last .1 .0) (ran .result) (ran .ensures)
 
 same-length : tie.Need-same-length
 same-length c = search needs
@@ -172,7 +172,7 @@ returns c =
     let told = opened-refused (refusalOf s) (a .disk .now) (opening .open-write .result)
     (opening .open-write .ensures) (c .before .fault .given .1) in
     line-refused (a .disk .now) (a .number .0) (a .content .now) (a .random .now) (a .list .now) (a .line)
-    (a .blocks .now) _ (told .fault-is) (told .fault-some)
+    (a .blocks .now) (a .bound) _ (told .fault-is) (told .fault-some)
 
 same-length-3 : tie.Need-same-length-3
 same-length-3 c = search needs
@@ -189,12 +189,12 @@ returns-2 c =
     let head = headOf found .head-in in
     let ran = run .run-write in
     line-done (a .disk .now) (a .number .0) (a .content .now) (a .random .now) (a .list .now) (a .line)
-    (a .blocks .now) (o .accepted) (shapeOf (readOf (headOf found))) (o .same) (head .result) (head .ensures)
-    (turnsOf found) (found .turns-of .ensures) (numbers-whole found) (places-whole found) (ran .last .0)
-    (ran .last .1 .0) (ran .result) (ran .ensures) (c .answer-line .result) (c .answer-line .ensures)
+    (a .blocks .now) (a .bound) (o .accepted) (shapeOf (readOf (headOf found))) (o .same) (head .result)
+    (head .ensures) (turnsOf found) (found .turns-of .ensures) (numbers-whole found) (places-whole found)
+    (ran .last .0) (ran .last .1 .0) (ran .result) (ran .ensures) (c .answer-line .result) (c .answer-line .ensures)
 
-pub write-turns-spec : {M : Type 1} → statement M
-write-turns-spec =
+pub turns-within-spec : {M : Type 1} → statement M
+turns-within-spec =
     tie.close
     (tie.spec
     open-write-requires

@@ -7,8 +7,8 @@ use lib.Seq.{length-take-le}
 use borrow.Author.Needs.{needs}
 use Rattle.line.specs.Offers.{lineOf}
 use Rattle.line.proofs.Laws.Turns.{left-of-turns}
-use Rattle.mapper.proofs.write.answer_line.Statement.{statement}
-use Rattle.mapper.proofs.write.answer_line.Tie as tie
+use Rattle.mapper.proofs.within.answer_line.Statement.{statement}
+use Rattle.mapper.proofs.within.answer_line.Tie as tie
 
 -- turns are two runs of 16 numbers
 numbers-whole : (s : tie.Start) → length (s .args .turns .numbers) ≡ 16

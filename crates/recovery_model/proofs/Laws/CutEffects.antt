@@ -1,0 +1,158 @@
+-- What the first stores of a round leave of header, map and public blocks (document 02, K5): the geometry, a
+-- head inside, the public block of every marked slot, and the map as it was until the map block is stored.
+-- Assumes nothing.
+use mathlib.Core.Path.{_≡_, sym, ap, _∙_, subst}
+use mathlib.Core.Logic.{_≢_, _⊎_, inl, inr, ⊎-elim}
+use mathlib.Core.List.{[]}
+use Prim.Native.Nat.{ℕ, suc, _-_, _≤_, _<_}
+use native.Mathlib.Omega.{arith}
+use lib.ListN.{length, take}
+use lib.Seq.{take-nil}
+use Rattle.laws.proofs.Cases.{eq-cases}
+use Rattle.model.specs.Geometry.{Geometry, blockWidth}
+use Rattle.model.specs.Blocks.{Bytes, blockAt, entryAt, setEntry}
+use Rattle.model.specs.Layout.{headIn, slotStart, nextSlot, mapAddress, mapEntry}
+use Rattle.model.specs.Stores.{Store, Trace}
+use Rattle.model.specs.Table.{PublicChoice, keepPublic, writePublic}
+use Rattle.model.specs.Rounds.{mapStores}
+use Rattle.model.proofs.Laws.Geometry.{slotStart-lt}
+use Rattle.model.proofs.Laws.Entries.{entryAt-setEntry-same, entryAt-setEntry-other, entryAt-header}
+use Rattle.model.proofs.Laws.Slots.{nextSlot-lt}
+use Rattle.model.proofs.Laws.PublicMap.{mapEntry-block, mapped, mapEntry-mapped-same, mapEntry-mapped-other}
+use Rattle.model.proofs.Laws.Stores.{lastAt, lastAt-nil}
+use Rattle.model.proofs.Laws.Traces.{publicStore-keep, publicStore-write, mapStores-keep}
+use Rattle.model.proofs.Laws.MapStores.{lastAt-take-mapStores-map}
+use Rattle.model.proofs.Laws.RoundStores.{header-fits, Round, old-of-round}
+use Rattle.recovery_model.proofs.Laws.CutRounds.{cutRound, header-cutRound, map-cutRound}
+use Rattle.recovery_model.proofs.Laws.CutRounds.{blockAt-cutRound-start-same}
+use Rattle.recovery_model.proofs.Laws.CutRounds.{blockAt-cutRound-start-other}
+
+module _ {g : Geometry} {disk : Bytes} {number slot : ℕ} {content : Bytes} {hidden : Trace}
+    (round : Round g disk number slot content hidden) where
+  -- ---- header ----
+
+  module _ (choice : PublicChoice) (count : ℕ) where
+    abbrev cut : Bytes
+    cut = cutRound round choice count
+
+    -- the header block as it was, or with the head at the next slot
+    abbrev HeaderCases : Type 0
+    HeaderCases =
+        (blockAt (blockWidth g) cut 0 ≡ blockAt (blockWidth g) disk 0) ⊎
+        (blockAt (blockWidth g) cut 0 ≡ setEntry 5 (nextSlot g slot) (blockAt (blockWidth g) disk 0))
+
+    in-header : (read : Bytes) (i : ℕ) → i < 6 → entryAt i read ≡ entryAt i (blockAt (blockWidth g) read 0)
+    in-header read i h = entryAt-header (g .blockSize) read i (omega (arith, round .fits .size-low))
+
+    -- the five numbers of the geometry stay
+    pub entryAt-cutRound : (i : ℕ) → i < 5 → entryAt i cut ≡ entryAt i disk
+    entryAt-cutRound i h =
+        in-header cut i (omega arith) ∙ by (header-cutRound round choice count)
+        ∙ sym (in-header disk i (omega arith))
+      where
+        by :
+            HeaderCases →
+            entryAt i (blockAt (blockWidth g) cut 0) ≡ entryAt i (blockAt (blockWidth g) disk 0)
+        by (inl e) = ap (entryAt i) e
+        by (inr e) =
+            ap (entryAt i) e
+            ∙ entryAt-setEntry-other 5 (nextSlot g slot) (blockAt (blockWidth g) disk 0)
+            (header-fits g (round .fits) disk (round .whole)) i (omega arith)
+
+    -- the head stays inside
+    pub headIn-cutRound : headIn disk < g .slots → headIn cut < g .slots
+    headIn-cutRound h = by (header-cutRound round choice count)
+      where
+        by : HeaderCases → headIn cut < g .slots
+        by (inl e) =
+            subst (λ (head : ℕ). head < g .slots)
+            (in-header disk 5 (omega arith) ∙ ap (entryAt 5) (sym e) ∙ sym (in-header cut 5 (omega arith))) h
+        by (inr e) =
+            subst (λ (head : ℕ). head < g .slots)
+            (sym (in-header cut 5 (omega arith) ∙ ap (entryAt 5) e
+            ∙ entryAt-setEntry-same 5 (nextSlot g slot) (blockAt (blockWidth g) disk 0)
+            (header-fits g (round .fits) disk (round .whole))
+            (omega (arith, nextSlot-lt g slot (round .fits), round .fits .blocks-high))))
+            (nextSlot-lt g slot (round .fits))
+
+    -- ---- map ----
+
+    -- no store of it is made
+    map-none :
+        take (count - length hidden) (mapStores choice g disk number slot) ≡ [] → (other : ℕ) →
+        other < g .publics → mapEntry g cut other ≡ mapEntry g disk other
+    map-none none other h =
+        mapEntry-block g cut disk other
+        (map-cutRound round choice count other h
+        ∙ ap (λ (xs : Trace).
+        lastAt xs (mapAddress g other) (blockAt (blockWidth g) disk (mapAddress g other))) none
+        ∙ lastAt-nil (mapAddress g other) _)
+
+    -- before the map block it is as it was
+    pub mapEntry-cut-before :
+        count ≤ length hidden → (other : ℕ) → other < g .publics →
+        mapEntry g cut other ≡ mapEntry g disk other
+    mapEntry-cut-before few =
+        let none : count - length hidden ≡ 0 = omega arith in
+        map-none (ap (λ (made : ℕ). take made (mapStores choice g disk number slot)) none)
+
+  -- a kept round stores none
+  pub mapEntry-cut-kept :
+      (count other : ℕ) → other < g .publics →
+      mapEntry g (cutRound round keepPublic count) other ≡ mapEntry g disk other
+  mapEntry-cut-kept count =
+      map-none keepPublic count
+      (ap (take (count - length hidden)) (mapStores-keep g disk slot number)
+      ∙ take-nil (count - length hidden))
+
+  -- from the map block on it has the new entry
+  module _ (count : ℕ) (many : length hidden < count) where
+    abbrev entered : Bytes
+    entered = mapped g (round .fits) disk (round .whole) number (round .counted) (slotStart g slot)
+
+    mapEntry-entered :
+        (other : ℕ) → other < g .publics →
+        mapEntry g (cutRound round writePublic count) other ≡ mapEntry g entered other
+    mapEntry-entered other h =
+        let more : count - length hidden ≡ suc (count - length hidden - 1) = omega arith in
+        mapEntry-block g (cutRound round writePublic count) entered other
+        (map-cutRound round writePublic count other h
+        ∙ ap (λ (made : ℕ). lastAt (take made (mapStores writePublic g disk number slot)) (mapAddress g other)
+        (blockAt (blockWidth g) disk (mapAddress g other))) more
+        ∙ lastAt-take-mapStores-map g (round .fits) disk (round .whole) slot (round .inside) number
+        (round .counted) (old-of-round round) (count - length hidden - 1) other h)
+
+    pub mapEntry-cut-same : mapEntry g (cutRound round writePublic count) number ≡ slotStart g slot
+    mapEntry-cut-same =
+        mapEntry-entered number (round .counted)
+        ∙ mapEntry-mapped-same g (round .fits) disk (round .whole) number (round .counted) (slotStart g slot)
+        (omega (arith, slotStart-lt g slot (round .inside), round .fits .blocks-high))
+
+    pub mapEntry-cut-other :
+        (other : ℕ) → other < g .publics → other ≢ number →
+        mapEntry g (cutRound round writePublic count) other ≡ mapEntry g disk other
+    mapEntry-cut-other other h ne =
+        mapEntry-entered other h
+        ∙ mapEntry-mapped-other g (round .fits) disk (round .whole) number (round .counted)
+        (slotStart g slot) other ne
+
+  -- ---- public blocks ----
+
+  -- a kept round leaves them all
+  pub blockAt-cut-kept :
+      (count other : ℕ) →
+      blockAt (blockWidth g) (cutRound round keepPublic count) (slotStart g other) ≡
+      blockAt (blockWidth g) disk (slotStart g other)
+  blockAt-cut-kept count other = ⊎-elim
+      (λ e.
+      rw e
+      (blockAt-cutRound-start-same round keepPublic count
+      ∙ ap (λ (x : Store). x .content) (publicStore-keep g disk slot content)))
+      (blockAt-cutRound-start-other round keepPublic count other) (eq-cases other slot)
+
+  -- a last round has the call's data in the slot
+  pub blockAt-cut-last :
+      (count : ℕ) → blockAt (blockWidth g) (cutRound round writePublic count) (slotStart g slot) ≡ content
+  blockAt-cut-last count =
+      blockAt-cutRound-start-same round writePublic count
+      ∙ ap (λ (x : Store). x .content) (publicStore-write g disk slot content)

@@ -30,9 +30,9 @@ module _ (g : Geometry) (entry : DiskAddress) (start : areStarts g (unlessZero e
 
 pub entry-marked :
     (g : Geometry) (entry : DiskAddress) (disk : Bytes) → entry ≢ 0 → (slot : ℕ) → slot ≡ slotOf g entry →
-    withMark g slot disk ≡ withMarks g (unlessZero entry []) disk
-entry-marked g entry disk some slot e =
-    ap (λ (at : ℕ). withMark g at disk) e ∙ sym (withMarks-some g entry disk some)
+    (after : Bytes) → after ≡ withMark g slot disk → after ≡ withMarks g (unlessZero entry []) disk
+entry-marked g entry disk some slot e after marked =
+    marked ∙ ap (λ (at : ℕ). withMark g at disk) e ∙ sym (withMarks-some g entry disk some)
 
 -- ---- the entries of the numbers before one ----
 

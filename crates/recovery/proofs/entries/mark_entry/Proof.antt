@@ -1,6 +1,6 @@
 -- `recovery::entries::mark_entry` meets its contract: a 0 marks nothing, any other entry is the start of one
 -- of the slots. Assumes nothing.
-use mathlib.Core.Path.{sym, _∙_}
+use mathlib.Core.Path.{sym}
 use native.Mathlib.Omega.{arith}
 use borrow.Author.Needs.{needs}
 use Rattle.layout.specs.Geometries.{geometryOf}
@@ -54,9 +54,9 @@ returns-2 : tie.Need-returns-2
 returns-2 c =
     let found = slotOf c in
     let a = startOf (someOf found) .args in
-    c .before .before .mark-slot .ensures
-    ∙ entry-marked (geometryOf (a .g)) (a .entry .0) (a .disk .now) (someOf found .if1 .left)
-    (found .slot-of .result) (found .slot-of .ensures)
+    let marked = c .before .before .mark-slot in
+    entry-marked (geometryOf (a .g)) (a .entry .0) (a .disk .now) (someOf found .if1 .left)
+    (found .slot-of .result) (found .slot-of .ensures) (marked .last .0) (marked .ensures)
 
 pub mark-entry-spec : {M : Type 1} → statement M
 mark-entry-spec =

@@ -1,8 +1,8 @@
 // A public number's place: refusals 4 to 6.
 use layout::bitmap::is_allocated;
 use layout::geometry::Geometry;
-use layout::geometry::area_start;
-use layout::geometry::slot_width;
+use layout::geometry::slot_of;
+use layout::levels::is_slot_start;
 use layout::numbers::DiskAddress;
 use layout::numbers::PublicNumber;
 use layout::public_map::map_entry;
@@ -17,21 +17,10 @@ pub fn is_place(disk: &[u8], g: Geometry, entry: DiskAddress) -> bool
     requires { ⌜ Drive (geometryOf g) (now disk) ⌝ }
     ensures { λ r. ⌜ r ≡ isPlace (geometryOf g) (now (disk .entry)) (entry .0) ⌝ }
 {
-    let start = area_start(g);
-    let first = start.0;
-    let at = entry.0;
-    let width = slot_width(g);
-    if at < first {
+    if !is_slot_start(g, entry) {
         return false;
     }
-    let place = at - first;
-    if g.slots * width <= place {
-        return false;
-    }
-    if place % width != 0 {
-        return false;
-    }
-    is_allocated(disk, g, place / width)
+    is_allocated(disk, g, slot_of(g, entry))
 }
 
 // 4 to 6 of a public number and the length of its data or blank, else 0.

@@ -3,17 +3,15 @@
 use mathlib.Core.Path.{_≡_, ap, _∙_, sym}
 use mathlib.Core.Logic.{_≢_, _⊎_, inl, inr}
 use mathlib.Core.Bool.{true, false, not, _||_}
-use Prim.Native.Nat.{ℕ, _<_, _*_, _-_, _/_, _%_, _≤_}
+use Prim.Native.Nat.{ℕ, _<_}
 use native.Mathlib.Omega.{arith}
-use native.Mathlib.Nat.{div-lt-iff-lt-mul}
 use lib.Dec.{eqb}
-use borrow.Author.Tests.{eq-eqb, ne-eqb, not-false}
+use borrow.Author.Tests.{ne-eqb, not-false}
 use Rattle.laws.proofs.Cases.{and-left, and-right, and-both, true-is-not-false, and-false-left}
-use Rattle.model.specs.Geometry.{Geometry, slotWidth, areaStart, blockCount}
+use Rattle.model.specs.Geometry.{Geometry, blockCount}
 use Rattle.model.specs.Blocks.{Bytes, DiskAddress}
 use Rattle.model.specs.Layout.{isAllocated, isPlace, isSlotBlock, mapEntry, slotOf, slotStart}
 use Rattle.model.proofs.Laws.Slots.{SlotBlock, isSlotBlock-slotStart, slotBlock-of, slotOf-slotStart}
-use Rattle.model.proofs.Laws.Slots.{isSlotBlock-below, isSlotBlock-past, isSlotBlock-inside}
 
 -- ---- an entry that is a place ----
 
@@ -54,39 +52,17 @@ isPlace-of-place g disk entry place =
     ap (isPlace g disk) (place .entry-is)
     ∙ isPlace-slotStart g disk (slotOf g entry) (place .slot-inside) (place .allocated)
 
--- ---- the test of an entry, by the start of the data area and a slot's width ----
+-- ---- the test of an entry, case by case ----
 
-module _ (g : Geometry) (disk : Bytes) (entry : DiskAddress) (start : ℕ) (e : start ≡ areaStart g)
-    (width : ℕ) (w : width ≡ slotWidth g) where
-  no-place : isSlotBlock g 0 entry ≡ false → false ≡ isPlace g disk entry
+module _ (g : Geometry) (disk : Bytes) (entry : DiskAddress) where
+  pub isPlace-no-start : isSlotBlock g 0 entry ≡ false → false ≡ isPlace g disk entry
   unfolding isPlace
-  no-place p = sym (and-false-left (isAllocated g disk (slotOf g entry)) p)
+  isPlace-no-start e = sym (and-false-left (isAllocated g disk (slotOf g entry)) e)
 
-  pub isPlace-below : entry < start → false ≡ isPlace g disk entry
-  isPlace-below h = no-place (isSlotBlock-below g 0 entry (omega arith))
-
-  module _ (low : start ≤ entry) where
-    pub isPlace-past : g .slots * width ≤ entry - start → false ≡ isPlace g disk entry
-    isPlace-past h = no-place (isSlotBlock-past g 0 entry (omega (arith, rw w at h)))
-
-    module _ (high : entry - start < g .slots * width) where
-      -- within the data area the place in the slot decides
-      at-front : isSlotBlock g 0 entry ≡ eqb ((entry - start) % width) 0
-      at-front = rw (w, e) (isSlotBlock-inside g 0 entry (omega arith) (omega (arith, rw w at high)))
-
-      pub isPlace-inside-slot : (entry - start) % width ≢ 0 → false ≡ isPlace g disk entry
-      isPlace-inside-slot f = no-place (at-front ∙ ne-eqb ((entry - start) % width) 0 f)
-
-      pub isPlace-front :
-          (entry - start) % width ≡ 0 →
-          isAllocated g disk ((entry - start) / width) ≡ isPlace g disk entry
-      unfolding isPlace
-      isPlace-front z =
-          let front = at-front ∙ eq-eqb ((entry - start) % width) 0 z in
-          rw (front, w, e)
-
-      pub slot-inside : (entry - start) / width < g .slots
-      slot-inside = let some : 0 < width = omega arith in div-lt-iff-lt-mul some .1 high
+  -- a slot's start is left to the slot's mark
+  pub isPlace-start : isSlotBlock g 0 entry ≡ true → isAllocated g disk (slotOf g entry) ≡ isPlace g disk entry
+  unfolding isPlace
+  isPlace-start e = rw e
 
 -- an entry that is not refused is on the drive
 pub place-inside :

@@ -1,14 +1,8 @@
 -- What a write that is cut came to, as C is told. Assumes nothing.
-use mathlib.Core.Bool.{cond}
-use Rattle.mapper.specs.declared.cuts.CutWritten.{CutWritten}
-use Rattle.mapper.specs.declared.cuts.LineCutWritten.{LineCutWritten}
+use mathlib.Core.Bool.{Bool, cond}
+use Prim.Native.Nat.{ℕ}
 use Rattle.answers_c.specs.declared.cuts.Cut.{Cut}
 
--- the mapper's numbers, and 1 where it is cut
-abbrev pub cutSaid : CutWritten → Cut
-cutSaid written =
-    record { answer = written .answer; stores = written .stores; cut = cond (written .«is_cut») 1 0 }
-
-abbrev pub lineCutSaid : LineCutWritten → Cut
-lineCutSaid written =
-    record { answer = written .answer; stores = written .stores; cut = cond (written .«is_cut») 1 0 }
+-- the mapper's numbers, and 1 where stores are left out
+abbrev pub cutSaid : (answer stores : ℕ) → (isCut : Bool) → Cut
+cutSaid answer stores isCut = record { answer = answer; stores = stores; cut = cond isCut 1 0 }

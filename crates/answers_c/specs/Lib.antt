@@ -5,3 +5,4 @@ pub mod Waits
 pub mod Enters
 pub mod Writes
 pub mod LineWrites
+pub mod Cuts

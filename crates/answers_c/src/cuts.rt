@@ -1,9 +1,7 @@
 // What a write that is cut came to, as C is told.
-use mapper::CutWritten;
-use mapper::LineCutWritten;
 ghost use mathlib.Core.Path.{_≡_};
 ghost use mathlib.Core.Bool.{cond};
-ghost use Rattle.answers_c.specs.Cuts.{cutSaid, lineCutSaid};
+ghost use Rattle.answers_c.specs.Cuts.{cutSaid};
 
 // 0 or the refusal, the stores that were made, and 1 where others were left out.
 #[repr(C)]
@@ -23,24 +21,13 @@ fn digit_of(holds: bool) -> u32
     0
 }
 
-// What the mapper's write told.
-pub fn cut_as(written: CutWritten) -> Cut
-    ensures { λ r. ⌜ r ≡ cutSaid written ⌝ }
+// What the mapper's write told, with a line or without one.
+pub fn cut_as(answer: u8, stores: u32, is_cut: bool) -> Cut
+    ensures { λ r. ⌜ r ≡ cutSaid answer stores «is_cut» ⌝ }
 {
     Cut {
-        answer: written.answer as u32,
-        stores: written.stores,
-        cut: digit_of(written.is_cut),
-    }
-}
-
-// Likewise of a write with a line, which C keeps as it was lent.
-pub fn line_cut_as(written: LineCutWritten) -> Cut
-    ensures { λ r. ⌜ r ≡ lineCutSaid written ⌝ }
-{
-    Cut {
-        answer: written.answer as u32,
-        stores: written.stores,
-        cut: digit_of(written.is_cut),
+        answer: answer as u32,
+        stores,
+        cut: digit_of(is_cut),
     }
 }

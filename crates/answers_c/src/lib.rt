@@ -7,3 +7,4 @@ pub mod waits; // how long an offer waits
 pub mod enters; // what entering a line came to
 pub mod writes; // what a write came to, with an offer or without one
 pub mod line_writes; // what a write with a line came to
+pub mod cuts; // what a write that is cut came to

@@ -5,3 +5,4 @@ pub mod LineEnters
 pub mod Needs
 pub mod Writes
 pub mod LineWrites
+pub mod Cuts

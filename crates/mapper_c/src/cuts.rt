@@ -1,7 +1,6 @@
 // The writes that are cut after so many stores (document 02, K5), for C.
 use answers_c::cuts::Cut;
 use answers_c::cuts::cut_as;
-use answers_c::cuts::line_cut_as;
 use layout::numbers::HiddenNumber;
 use layout::numbers::PublicNumber;
 use line::gathered::gather_line;
@@ -44,7 +43,7 @@ pub extern "C" fn pddm_write_cut(
         list,
         bound,
     );
-    cut_as(written)
+    cut_as(written.answer, written.stores, written.is_cut)
 }
 
 // Likewise with the line that two runs of numbers hand over, which stays as it is lent.
@@ -78,5 +77,5 @@ pub extern "C" fn pddm_write_line_cut(
         list,
         bound,
     );
-    line_cut_as(written)
+    cut_as(written.answer, written.stores, written.is_cut)
 }

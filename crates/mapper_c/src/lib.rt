@@ -8,5 +8,7 @@ mod line_enters; // an offer that enters a lent line
 mod needs; // the buffers that a write takes
 mod writes; // the write, with or without an offer
 mod line_writes; // the write with a lent line of offers
+mod cuts; // both writes, cut after so many stores
 mod waits; // how long an offer waits
 mod trees; // the check of the whole hidden tree
+mod recoveries; // the bitmap rebuilt from the public map

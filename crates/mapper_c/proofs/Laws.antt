@@ -4,3 +4,4 @@ pub mod LineFinds
 pub mod LineEnters
 pub mod Writes
 pub mod LineWrites
+pub mod Cuts

@@ -13,8 +13,8 @@ use Rattle.recovery_model.specs.Recovery.{recovered}
 pub record MendedAs (g : Geometry) (disk after : Bytes) (answer : ℕ) : Type 0 where
   pub answered : answer ≡ firstOf (mapChecks g disk)
   pub stored :
-      after ≡ cond (eqb (firstOf (mapChecks g disk)) 0) (withMarks g (usedEntries g disk) (withoutBits g disk))
-      disk
+      after ≡
+      cond (eqb (firstOf (mapChecks g disk)) 0) (withMarks g (usedEntries g disk) (withoutBits g disk)) disk
 
 -- any disk
 pub record RecoveredAs (disk after : Bytes) (answer : ℕ) : Type 0 where

@@ -1,5 +1,4 @@
--- Laws of what a recovery answers and leaves: 17 by the two tests of the map, a drive mended or left as it is,
--- and the call. Assumes nothing.
+-- Laws of what a recovery answers and leaves: a drive mended or left as it is, and the call. Assumes nothing.
 use mathlib.Core.Path.{_≡_, sym, ap, ap₂, subst, _∙_}
 use mathlib.Core.Logic.{_≢_, ⊎-elim}
 use mathlib.Core.List.{List}

@@ -3,7 +3,7 @@
 use mathlib.Core.Path.{_≡_, refl, sym, ap, _∙_}
 use mathlib.Core.Bool.{Bool, true, false, not, _&&_, _||_}
 use mathlib.Core.List.{List, [], _∷_}
-use Prim.Native.Nat.{ℕ, _+_, _≤_, _<_}
+use Prim.Native.Nat.{ℕ, _+_, _≤_}
 use native.Mathlib.Nat.{add-mul, mul-le-mul-right}
 use native.Mathlib.Omega.{arith}
 use Rattle.laws.proofs.Cases.{and-left, and-right, and-both}
@@ -15,7 +15,8 @@ use Rattle.recovery_model.specs.Recovery.{usedEntries, areApart, areStarts}
 use Rattle.recovery_model.proofs.Laws.Steps.{areStarts-cons, areApart-nil, areApart-cons}
 use Rattle.recovery.specs.Windows.{windowSlots, windowEnd, isWithin, areApartWithin, Started}
 use Rattle.recovery.specs.Windows.{isWindowApart}
-use Rattle.recovery.proofs.Laws.Windows.{within-joined, within-inside, areApartWithin-none, areApart-not}
+use Rattle.recovery.proofs.Laws.Windows.{within-joined, within-inside, areApartWithin-none}
+use Rattle.recovery.proofs.Laws.Windows.{areApart-not}
 
 -- ---- windows joined ----
 
@@ -64,30 +65,27 @@ areApartWithin-all g high h (entry ∷ later) e =
 
 -- the slots before one are looked at, and no two numbers share a place there
 pub record Swept (g : Geometry) (disk : Bytes) (first : ℕ) : Type 0 where
-  pub first-lt : first < g .slots + windowSlots
   pub apart : areApartWithin (areaStart g) (slotStart g first) (usedEntries g disk) ≡ true
 
 module _ (g : Geometry) (disk : Bytes) where
   pub swept-none : Swept g disk 0
   swept-none =
       record {
-        first-lt = omega arith;
         apart = areApartWithin-none (areaStart g) (slotStart g 0) (omega arith) (usedEntries g disk);
       }
 
   pub swept-next :
-      (first : ℕ) → Swept g disk first → first < g .slots → isWindowApart g disk first ≡ true →
+      (first : ℕ) → Swept g disk first → isWindowApart g disk first ≡ true →
       Swept g disk (first + windowSlots)
-  swept-next first before inside e =
+  swept-next first before e =
       let low = slotStart g first in
-      let next : windowEnd low (slotWidth g) ≡ slotStart g (first + windowSlots) =
+      let high = windowEnd low (slotWidth g) in
+      let next : high ≡ slotStart g (first + windowSlots) =
       omega (arith, add-mul first windowSlots (slotWidth g)) in
       record {
-        first-lt = omega arith;
         apart =
-            ap (λ (high : DiskAddress). areApartWithin (areaStart g) high (usedEntries g disk)) (sym next)
-            ∙ areApartWithin-joined (areaStart g) low (windowEnd low (slotWidth g)) (omega arith) (omega arith)
-            (usedEntries g disk)
+            ap (λ (to : DiskAddress). areApartWithin (areaStart g) to (usedEntries g disk)) (sym next)
+            ∙ areApartWithin-joined (areaStart g) low high (omega arith) (omega arith) (usedEntries g disk)
             ∙ and-both (before .apart) e;
       }
 

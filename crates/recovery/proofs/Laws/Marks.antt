@@ -10,7 +10,8 @@ use Rattle.laws.proofs.Cases.{and-left}
 use Rattle.model.specs.Geometry.{Geometry, mapBlocks, bitmapBlocks}
 use Rattle.model.specs.Blocks.{Bytes, DiskAddress}
 use Rattle.model.specs.Layout.{Drive, mapEntry}
-use Rattle.recovery_model.specs.Recovery.{unlessZero, usedFrom, usedEntries, areStarts, withMarks, withoutBits}
+use Rattle.recovery_model.specs.Recovery.{unlessZero, usedFrom, usedEntries, areStarts, withMarks}
+use Rattle.recovery_model.specs.Recovery.{withoutBits}
 use Rattle.recovery_model.proofs.Laws.Steps.{usedFrom-zero, usedFrom-end, usedEntries-split, areStarts-append}
 use Rattle.recovery_model.proofs.Laws.Steps.{start-of-areStarts, withMarks-nil, withMarks-append}
 use Rattle.recovery_model.proofs.Laws.StepDisks.{SameMap, sameMap-withMarks, bitmap-inside}

@@ -211,4 +211,5 @@ module _ (g : Geometry) (disk : Bytes) (started : Started g disk) (first : ℕ) 
             let next : number + 1 ≤ g .publics = omega arith in
             let low = slotStart g first in
             sym (ap (areApartWithin low (endOf g first)) (usedEntries-split g disk (number + 1) next)
-            ∙ areApartWithin-front low (endOf g first) (usedFrom g disk 0 (number + 1)) _ (apart-is ∙ ap not e))
+            ∙ areApartWithin-front low (endOf g first) (usedFrom g disk 0 (number + 1)) _
+            (apart-is ∙ ap not e))

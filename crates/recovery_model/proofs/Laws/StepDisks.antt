@@ -24,8 +24,9 @@ use Rattle.model.proofs.Laws.Refusals.{after-drive-stop, after-drive-pass}
 use Rattle.recovery_model.specs.Recovery.{usedEntries, areStarts, areApart, mapChecks, recoveryRefusal}
 use Rattle.recovery_model.specs.Recovery.{withMarks, withoutBits}
 use Rattle.recovery_model.proofs.Laws.Used.{usedFrom-same}
-use Rattle.recovery_model.proofs.Laws.Marks.{Elsewhere, length-withoutBits, blockAt-withoutBits-elsewhere}
-use Rattle.recovery_model.proofs.Laws.Marks.{length-withMarks, blockAt-withMarks-elsewhere}
+use Rattle.recovery_model.proofs.Laws.Marks.{Elsewhere, length-withMarks, length-withoutBits}
+use Rattle.recovery_model.proofs.Laws.Marks.{blockAt-withMarks-elsewhere}
+use Rattle.recovery_model.proofs.Laws.Marks.{blockAt-withoutBits-elsewhere}
 
 -- ---- a drive with the same map ----
 

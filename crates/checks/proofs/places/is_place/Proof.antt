@@ -1,5 +1,5 @@
--- `is_place` meets its contract: what is no slot's start is no place, and a slot's start is one where the slot
--- is allocated. Assumes nothing.
+-- `is_place` meets its contract: what is no slot's start is no place, and a slot's start is one where the
+-- slot is allocated. Assumes nothing.
 use mathlib.Core.Path.{_≡_, sym, ap, _∙_}
 use mathlib.Core.Bool.{true}
 use native.Mathlib.Omega.{arith}

@@ -1,5 +1,5 @@
--- `recovery::bits::set_marks` meets its contract. Invariant: the slots of the numbers before this one are marked,
--- and the map is as it was. The measure is the numbers left. Assumes nothing.
+-- `recovery::bits::set_marks` meets its contract. Invariant: the slots of the numbers before this one are
+-- marked, and the map is as it was. The measure is the numbers left. Assumes nothing.
 use mathlib.Core.Path.{_∙_, sym}
 use Prim.Native.Nat.{_-_}
 use borrow.Author.Needs.{needs}

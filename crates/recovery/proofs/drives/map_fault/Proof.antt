@@ -1,4 +1,5 @@
--- `recovery::drives::map_fault` meets its contract: the two tests of 17, one after the other. Assumes nothing.
+-- `recovery::drives::map_fault` meets its contract: the two tests of 17, one after the other. Assumes
+-- nothing.
 use mathlib.Core.Path.{_≡_, sym, _∙_}
 use mathlib.Core.Bool.{true}
 use borrow.Author.Needs.{needs}

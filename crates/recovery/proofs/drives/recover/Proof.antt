@@ -1,5 +1,5 @@
--- `recovery::drives::recover` meets its contract: a disk that is no drive is left as it is, a drive is mended.
--- Assumes nothing.
+-- `recovery::drives::recover` meets its contract: a disk that is no drive is left as it is, a drive is
+-- mended. Assumes nothing.
 use borrow.Author.Needs.{needs}
 use Rattle.model.specs.Blocks.{Bytes}
 use Rattle.model.specs.Refusals.{driveRefusal}

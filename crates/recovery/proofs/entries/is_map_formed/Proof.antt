@@ -1,5 +1,5 @@
--- `recovery::entries::is_map_formed` meets its contract. Invariant: every entry of a number before this one is
--- 0 or a slot's start. The measure is the numbers left. Assumes nothing.
+-- `recovery::entries::is_map_formed` meets its contract. Invariant: every entry of a number before this one
+-- is 0 or a slot's start. The measure is the numbers left. Assumes nothing.
 use Prim.Native.Nat.{_-_}
 use borrow.Author.Needs.{needs}
 use borrow.Author.Tests.{not-true, not-false}

@@ -1,5 +1,5 @@
--- `recovery::windows::is_map_apart` meets its contract. Invariant: no two numbers share a place in a slot before
--- this one. The measure is the slots left. Assumes nothing.
+-- `recovery::windows::is_map_apart` meets its contract. Invariant: no two numbers share a place in a slot
+-- before this one. The measure is the slots left. Assumes nothing.
 use mathlib.Core.Path.{sym, _∙_}
 use Prim.Native.Nat.{_-_}
 use borrow.Author.Needs.{needs}
@@ -53,7 +53,7 @@ loop-again c =
     let a = startOf at .args in
     let told = looked .is-window-apart in
     swept-next (geometryOf (a .g)) (a .disk .now) (at .loop .first) (at .loop .inv)
-    (looked .before .loop-test .taken) (sym (told .ensures) ∙ not-false (told .result) (c .if1 .left))
+    (sym (told .ensures) ∙ not-false (told .result) (c .if1 .left))
 
 returns-2 : tie.Need-returns-2 Inv-loop μ-loop
 returns-2 c =

@@ -1,14 +1,14 @@
 -- `recovery::windows::is_window_apart` meets its contract. Invariant: a slot's bit is 1 exactly if a number
--- before this one has its start, and no two before it share one in the window. The measure is the numbers left.
--- Assumes nothing.
+-- before this one has its start, and no two before it share one in the window. The measure is the numbers
+-- left. Assumes nothing.
 use Prim.Native.Nat.{_-_}
 use borrow.Author.Needs.{needs}
 use Rattle.model.specs.Geometry.{slotWidth}
 use Rattle.model.specs.Layout.{slotStart, mapEntry}
 use Rattle.layout.specs.Geometries.{geometryOf}
 use Rattle.recovery.specs.Windows.{Noted}
-use Rattle.recovery.proofs.Laws.Scans.{Scanning, window-of, scanning-none, scanning-next, scanning-shared}
-use Rattle.recovery.proofs.Laws.Scans.{scanning-all, noted-read}
+use Rattle.recovery.proofs.Laws.Scans.{Scanning, noted-read, window-of, scanning-none, scanning-next}
+use Rattle.recovery.proofs.Laws.Scans.{scanning-shared, scanning-all}
 use Rattle.recovery.proofs.windows.is_window_apart.Statement.{statement}
 use Rattle.recovery.proofs.windows.is_window_apart.Tie as tie
 

@@ -67,7 +67,7 @@ pub extern "C" fn pddm_write_line_cut(
         (now (disk .entry)) (now (list .entry)) (now (disk .exit)) (now (list .exit)) r ⌝ }
 {
     let line = gather_line(numbers, places, waiting);
-    let written = write_line_cut(
+    let carried = write_line_cut(
         disk,
         PublicNumber(number),
         content,
@@ -77,5 +77,5 @@ pub extern "C" fn pddm_write_line_cut(
         list,
         bound,
     );
-    cut_as(written.answer, written.stores, written.is_cut)
+    cut_as(carried.answer, carried.stores, carried.is_cut)
 }

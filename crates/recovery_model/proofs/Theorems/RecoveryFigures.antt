@@ -53,6 +53,7 @@ recovery-figures =
       leaf-entry = refl;
       data-entry = refl;
       root-entry = refl;
+      map-entry = refl;
       past-slots = refl;
       shared = refl;
       shared-around = refl;

@@ -144,10 +144,12 @@ pub record RecoveryFigures : Type 0 where
   pub three : recovered (withMap 4 7 13 0) ≡ withBitmap 9 2 (withMap 4 7 13 0)
   -- bit 255, the last of block 4, and bit 258, the third of block 5
   pub wide : recovered (wideWith (replicate 64 255)) ≡ wideWith (replicate 31 0 ++ (128 ∷ 4 ∷ replicate 31 0))
-  -- 17: a leaf's address, hidden data's, the root's, T, one entry twice; the last slot is none of them
+  -- 17: a leaf's address, hidden data's, the root's, the map's, T, one entry twice; the last slot is none of
+  -- them
   pub leaf-entry : recoveryRefusal (withMap 5 0 0 0) ≡ 17
-  pub data-entry : recoveryRefusal (withMap 4 0 6 0) ≡ 17
+  pub data-entry : recoveryRefusal (withMap 4 7 6 0) ≡ 17
   pub root-entry : recoveryRefusal (withMap 3 0 0 0) ≡ 17
+  pub map-entry : recoveryRefusal (withMap 1 0 0 0) ≡ 17
   pub past-slots : recoveryRefusal (withMap 16 0 0 0) ≡ 17
   pub shared : recoveryRefusal (withMap 4 0 4 0) ≡ 17
   pub shared-around : recoveryRefusal (withMap 4 7 4 0) ≡ 17

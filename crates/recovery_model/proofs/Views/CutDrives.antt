@@ -1,40 +1,27 @@
 -- One write side by side on two drives that show the same, each cut after equally many stores (document 02,
 -- K5): the answers are the same, and so are the addresses stored to, and the drives that they leave show the
 -- same, before a recovery and after it. Assumes nothing.
-use mathlib.Core.Path.{_≡_, refl, sym, _∙_, subst}
+use mathlib.Core.Path.{_≡_, sym, _∙_, subst}
 use Prim.Native.Nat.{ℕ}
 use lib.ListN.{length}
-use Rattle.laws.proofs.Members.{all-take}
 use Rattle.model.specs.Geometry.{Geometry, blockCount, blockWidth}
 use Rattle.model.specs.Blocks.{Bytes}
 use Rattle.model.specs.Layout.{geometryIn}
 use Rattle.model.specs.Stores.{apply}
-use Rattle.model.specs.Refusals.{driveRefusal}
 use Rattle.model.specs.Calls.{Offered, Written, written}
 use Rattle.model.specs.View.{shownOf, Alike}
 use Rattle.model.specs.Promises.Waiting.{PublicHalf, halfWritten}
 use Rattle.model.proofs.Laws.Calls.{answer-written}
-use Rattle.model.proofs.Laws.HeaderStores.{DriveOf, KeepsDrive, driveOf-apply, written-keeps}
+use Rattle.model.proofs.Laws.HeaderStores.{DriveOf}
 use Rattle.model.proofs.Views.Agreement.{agree-apply, along-take, along-addresses}
 use Rattle.model.proofs.Views.Shown.{TraceSame, ShowSame}
 use Rattle.model.proofs.Views.Drives.{Twins, twins-of-alike, alike-of-twins, geometryIn-twins}
 use Rattle.model.proofs.Views.SideWrites.{writeRefusal-twins, written-twins}
 use Rattle.recovery_model.specs.Cuts.{cutTrace, cutDisk}
 use Rattle.recovery_model.specs.Promises.Recovery.{CutAlike}
+use Rattle.recovery_model.proofs.Laws.Cuts.{driveOf-cutDisk}
 use Rattle.recovery_model.proofs.Views.RecoveredDrives.{DrivesAlike, twins-of-drives}
 use Rattle.recovery_model.proofs.Views.RecoveredDrives.{recoveryRefusal-alike, recovered-alike}
-
--- a cut write leaves a drive of the same geometry
-cutDisk-driveOf :
-    (disk : Bytes) → driveRefusal disk ≡ 0 → (number : ℕ) (content random : Bytes) (room : ℕ)
-    (offer : Offered) (bound : ℕ) →
-    DriveOf (geometryIn disk) (cutDisk bound (written disk number content random room offer) disk)
-cutDisk-driveOf disk accepted number content random room offer bound =
-    let result = written disk number content random room offer in
-    driveOf-apply (cutTrace bound result)
-    (all-take (KeepsDrive (geometryIn disk)) bound (result .trace)
-    (written-keeps disk number content random room offer))
-    (record { geometry = refl; accepted = accepted })
 
 module _ (disk other : Bytes) (twins : Twins disk other) (number : ℕ) (content random others : Bytes)
     (same-random : length random ≡ length others) (room : ℕ) (offer offerOther : Offered) (bound : ℕ) where
@@ -58,10 +45,10 @@ module _ (disk other : Bytes) (twins : Twins disk other) (number : ℕ) (content
   drives =
       let states = geometryIn-twins disk other twins in
       record {
-        here = cutDisk-driveOf disk (twins .accepted) number content random room offer bound;
+        here = driveOf-cutDisk disk (twins .accepted) number content random room offer bound;
         there =
             subst (λ (h : Geometry). DriveOf h (cutDisk bound resultOther other)) (sym states)
-            (cutDisk-driveOf other (twins .other-accepted) number content others room offerOther bound);
+            (driveOf-cutDisk other (twins .other-accepted) number content others room offerOther bound);
         same =
             subst (λ (h : Geometry). ShowSame g (cutDisk bound result disk)
             (apply (blockWidth h) (cutTrace bound resultOther) other)) states

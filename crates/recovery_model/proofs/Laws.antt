@@ -1,4 +1,5 @@
 -- The laws of this crate's definitions, a file for each idea. Assumes nothing.
+pub mod Cuts
 pub mod CutHalves
 pub mod CutRounds
 pub mod CutEffects

@@ -1,8 +1,8 @@
--- What the first stores of a round leave of header, map and public blocks (document 02, K5): the geometry, a
--- head inside, the public block of every marked slot, and the map as it was until the map block is stored.
--- Assumes nothing.
-use mathlib.Core.Path.{_≡_, sym, ap, _∙_, subst}
-use mathlib.Core.Logic.{_≢_, _⊎_, inl, inr, ⊎-elim}
+-- What the first stores of a round leave of map and public blocks (document 02, K5): the map as it was until
+-- the map block is stored, and the public block of every slot but the one that takes the data. Assumes
+-- nothing.
+use mathlib.Core.Path.{_≡_, ap, _∙_}
+use mathlib.Core.Logic.{_≢_, ⊎-elim}
 use mathlib.Core.List.{[]}
 use Prim.Native.Nat.{ℕ, suc, _-_, _≤_, _<_}
 use native.Mathlib.Omega.{arith}
@@ -10,72 +10,28 @@ use lib.ListN.{length, take}
 use lib.Seq.{take-nil}
 use Rattle.laws.proofs.Cases.{eq-cases}
 use Rattle.model.specs.Geometry.{Geometry, blockWidth}
-use Rattle.model.specs.Blocks.{Bytes, blockAt, entryAt, setEntry}
-use Rattle.model.specs.Layout.{headIn, slotStart, nextSlot, mapAddress, mapEntry}
+use Rattle.model.specs.Blocks.{Bytes, blockAt}
+use Rattle.model.specs.Layout.{slotStart, mapAddress, mapEntry}
 use Rattle.model.specs.Stores.{Store, Trace}
 use Rattle.model.specs.Table.{PublicChoice, keepPublic, writePublic}
 use Rattle.model.specs.Rounds.{mapStores}
 use Rattle.model.proofs.Laws.Geometry.{slotStart-lt}
-use Rattle.model.proofs.Laws.Entries.{entryAt-setEntry-same, entryAt-setEntry-other, entryAt-header}
-use Rattle.model.proofs.Laws.Slots.{nextSlot-lt}
 use Rattle.model.proofs.Laws.PublicMap.{mapEntry-block, mapped, mapEntry-mapped-same, mapEntry-mapped-other}
 use Rattle.model.proofs.Laws.Stores.{lastAt, lastAt-nil}
 use Rattle.model.proofs.Laws.Traces.{publicStore-keep, publicStore-write, mapStores-keep}
 use Rattle.model.proofs.Laws.MapStores.{lastAt-take-mapStores-map}
-use Rattle.model.proofs.Laws.RoundStores.{header-fits, Round, old-of-round}
-use Rattle.recovery_model.proofs.Laws.CutRounds.{cutRound, header-cutRound, map-cutRound}
+use Rattle.model.proofs.Laws.RoundStores.{Round, old-of-round}
+use Rattle.recovery_model.proofs.Laws.CutRounds.{cutRound, map-cutRound}
 use Rattle.recovery_model.proofs.Laws.CutRounds.{blockAt-cutRound-start-same}
 use Rattle.recovery_model.proofs.Laws.CutRounds.{blockAt-cutRound-start-other}
 
 module _ {g : Geometry} {disk : Bytes} {number slot : ℕ} {content : Bytes} {hidden : Trace}
     (round : Round g disk number slot content hidden) where
-  -- ---- header ----
+  -- ---- map ----
 
   module _ (choice : PublicChoice) (count : ℕ) where
     abbrev cut : Bytes
     cut = cutRound round choice count
-
-    -- the header block as it was, or with the head at the next slot
-    abbrev HeaderCases : Type 0
-    HeaderCases =
-        (blockAt (blockWidth g) cut 0 ≡ blockAt (blockWidth g) disk 0) ⊎
-        (blockAt (blockWidth g) cut 0 ≡ setEntry 5 (nextSlot g slot) (blockAt (blockWidth g) disk 0))
-
-    in-header : (read : Bytes) (i : ℕ) → i < 6 → entryAt i read ≡ entryAt i (blockAt (blockWidth g) read 0)
-    in-header read i h = entryAt-header (g .blockSize) read i (omega (arith, round .fits .size-low))
-
-    -- the five numbers of the geometry stay
-    pub entryAt-cutRound : (i : ℕ) → i < 5 → entryAt i cut ≡ entryAt i disk
-    entryAt-cutRound i h =
-        in-header cut i (omega arith) ∙ by (header-cutRound round choice count)
-        ∙ sym (in-header disk i (omega arith))
-      where
-        by :
-            HeaderCases →
-            entryAt i (blockAt (blockWidth g) cut 0) ≡ entryAt i (blockAt (blockWidth g) disk 0)
-        by (inl e) = ap (entryAt i) e
-        by (inr e) =
-            ap (entryAt i) e
-            ∙ entryAt-setEntry-other 5 (nextSlot g slot) (blockAt (blockWidth g) disk 0)
-            (header-fits g (round .fits) disk (round .whole)) i (omega arith)
-
-    -- the head stays inside
-    pub headIn-cutRound : headIn disk < g .slots → headIn cut < g .slots
-    headIn-cutRound h = by (header-cutRound round choice count)
-      where
-        by : HeaderCases → headIn cut < g .slots
-        by (inl e) =
-            subst (λ (head : ℕ). head < g .slots)
-            (in-header disk 5 (omega arith) ∙ ap (entryAt 5) (sym e) ∙ sym (in-header cut 5 (omega arith))) h
-        by (inr e) =
-            subst (λ (head : ℕ). head < g .slots)
-            (sym (in-header cut 5 (omega arith) ∙ ap (entryAt 5) e
-            ∙ entryAt-setEntry-same 5 (nextSlot g slot) (blockAt (blockWidth g) disk 0)
-            (header-fits g (round .fits) disk (round .whole))
-            (omega (arith, nextSlot-lt g slot (round .fits), round .fits .blocks-high))))
-            (nextSlot-lt g slot (round .fits))
-
-    -- ---- map ----
 
     -- no store of it is made
     map-none :

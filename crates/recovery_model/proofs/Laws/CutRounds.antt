@@ -1,7 +1,7 @@
 -- What the first stores of a round leave in each kind of block, its public block and so many after it, for
 -- any hidden half that stores the slot's hidden blocks and the root (document 02, K5): hidden blocks and
 -- root, public blocks, header, map. Assumes nothing.
-use mathlib.Core.Path.{_≡_, refl, sym, ap, _∙_}
+use mathlib.Core.Path.{_≡_, sym, ap, _∙_}
 use mathlib.Core.Logic.{_≢_, _⊎_, inl, inr}
 use mathlib.Core.List.{[], _∷_, _++_}
 use Prim.Native.Nat.{ℕ, zero, suc, _+_, _-_, _≤_, _<_}
@@ -11,15 +11,15 @@ use lib.Seq.{take-nil}
 use Rattle.laws.proofs.Joins.{take-append}
 use Rattle.laws.proofs.Members.{All, all-map, all-take}
 use Rattle.model.specs.Geometry.{Geometry, rootAddress, blockCount, blockWidth}
-use Rattle.model.specs.Blocks.{Bytes, DiskAddress, blockAt, setEntry}
-use Rattle.model.specs.Layout.{slotStart, slotOf, nextSlot, mapAddress}
+use Rattle.model.specs.Blocks.{Bytes, DiskAddress, blockAt}
+use Rattle.model.specs.Layout.{slotStart, slotOf, mapAddress}
 use Rattle.model.specs.Stores.{Store, Trace, apply, addresses}
 use Rattle.model.specs.Table.{PublicChoice}
 use Rattle.model.specs.Rounds.{publicStore, headerStore, mapStores, roundTrace}
 use Rattle.model.proofs.Laws.Geometry.{mapAddress-lt}
 use Rattle.model.proofs.Laws.Slots.{slotOf-slotStart, place-apart, slot-apart}
 use Rattle.model.proofs.Laws.Stores.{Stored, lastAt, lastAt-nil, lastAt-append, lastAt-same, lastAt-other}
-use Rattle.model.proofs.Laws.Stores.{lastAt-outside, addresses-take, length-apply, blockAt-apply}
+use Rattle.model.proofs.Laws.Stores.{lastAt-outside, addresses-take, blockAt-apply}
 use Rattle.model.proofs.Laws.Traces.{roundTrace-is}
 use Rattle.model.proofs.Laws.MapStores.{InFront, mapStores-inFront}
 use Rattle.model.proofs.Laws.RoundStores.{HiddenAddress, hides-addresses, publicStore-address}
@@ -75,9 +75,6 @@ module _ {g : Geometry} {disk : Bytes} {number slot : ℕ} {content : Bytes} {hi
   made-stored =
       all-take (Stored (blockWidth g) (blockCount g)) (suc count)
       (roundTrace choice g disk number slot content hidden) (round-stored round choice)
-
-  pub length-cutRound : length cutRound ≡ length disk
-  length-cutRound = length-apply (blockWidth g) (blockCount g) _ disk (round .whole) made-stored
 
   blockAt-cutRound :
       (address : DiskAddress) →
@@ -206,33 +203,6 @@ module _ {g : Geometry} {disk : Bytes} {number slot : ℕ} {content : Bytes} {hi
       start-only other
       ∙ public-apart (slotStart g other) _
       (λ e. ne (sym (slotOf-slotStart g other) ∙ ap (slotOf g) e ∙ slotOf-slotStart g slot))
-
-  -- ---- header ----
-
-  -- as it was, or with the head at the next slot
-  pub header-cutRound :
-      (blockAt (blockWidth g) cutRound 0 ≡ blockAt (blockWidth g) disk 0) ⊎
-      (blockAt (blockWidth g) cutRound 0 ≡ setEntry 5 (nextSlot g slot) (blockAt (blockWidth g) disk 0))
-  header-cutRound = by (count - length hidden - length (mapStores choice g disk number slot)) only
-    where
-      only : blockAt (blockWidth g) cutRound 0 ≡ lastAt madeHeader 0 (blockAt (blockWidth g) disk 0)
-      only =
-          blockAt-cutRound 0
-          ∙ ap (lastAt madeHeader 0)
-          (map-apart 0 _ (inl refl) ∙ hidden-apart 0 _ (front-apart 0 (omega arith))
-          ∙ public-apart 0 _ (λ e. omega arith))
-
-      by :
-          (made : ℕ) →
-          blockAt (blockWidth g) cutRound 0 ≡
-          lastAt (take made (headerStore g disk slot ∷ [])) 0 (blockAt (blockWidth g) disk 0) →
-          (blockAt (blockWidth g) cutRound 0 ≡ blockAt (blockWidth g) disk 0) ⊎
-          (blockAt (blockWidth g) cutRound 0 ≡ setEntry 5 (nextSlot g slot) (blockAt (blockWidth g) disk 0))
-      by zero e = inl (e ∙ lastAt-nil 0 _)
-      by (suc made) e =
-          inr (e
-          ∙ ap (λ (xs : Trace). lastAt (headerStore g disk slot ∷ xs) 0 (blockAt (blockWidth g) disk 0))
-          (take-nil made) ∙ lastAt-same (headerStore g disk slot) [] 0 _ refl ∙ lastAt-nil 0 _)
 
   -- ---- map ----
 

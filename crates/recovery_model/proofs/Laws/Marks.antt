@@ -19,7 +19,7 @@ use Rattle.model.specs.Layout.{slotOf, areaPlace, isSlotBlock, bitAddress, bitm
 use Rattle.model.specs.Invariants.{bitmapBit}
 use Rattle.model.proofs.Laws.Geometry.{bitAddress-lt}
 use Rattle.model.proofs.Laws.Blocks.{blockAt-is, length-setBlock, blockAt-setBlock-other}
-use Rattle.model.proofs.Laws.Slots.{slotBlock-of}
+use Rattle.model.proofs.Laws.Slots.{SlotBlock, slotBlock-of}
 use Rattle.model.proofs.Laws.Bitmap.{blockOfBit, blockOfBit-lt, bitmapBit-zeros, length-bitmapWith}
 use Rattle.model.proofs.Laws.Bitmap.{bitmapBit-marked-same, bitmapBit-marked-other}
 use Rattle.recovery_model.specs.Recovery.{areStarts, withoutBits, withMark, withMarks}
@@ -27,6 +27,24 @@ use Rattle.recovery_model.specs.Recovery.{areStarts, withoutBits, withMa
 -- an address outside the bitmap
 abbrev pub Elsewhere : Geometry → DiskAddress → Type 0
 Elsewhere g address = (address < 1 + mapBlocks g) ⊎ (rootAddress g ≤ address)
+
+-- ---- places that are all block A of a slot ----
+
+module _ (g : Geometry) (entry : DiskAddress) (later : List DiskAddress)
+    (good : areStarts g (entry ∷ later) ≡ true) where
+  pub areStarts-later : areStarts g later ≡ true
+  unfolding areStarts
+  areStarts-later = and-right (isSlotBlock g 0 entry) (areStarts g later) good
+
+  first-block : SlotBlock g 0 entry
+  unfolding areStarts
+  first-block = slotBlock-of g 0 entry (and-left (isSlotBlock g 0 entry) (areStarts g later) good)
+
+  pub slotOf-lt-of-areStarts : slotOf g entry < g .slots
+  slotOf-lt-of-areStarts = first-block .slot-inside
+
+  first-is : entry ≡ areaStart g + areaPlace g (slotOf g entry)
+  first-is = omega (arith, first-block .address-is)
 
 module _ (g : Geometry) (f : Fits g) where
   module _ (disk : Bytes) (whole : length disk ≡ blockCount g * g .blockSize) where
@@ -118,30 +136,15 @@ module _ (g : Geometry) (f : Fits g) where
 
   -- ---- the bits of given places set ----
 
-  module _ (entry : DiskAddress) (later : List DiskAddress) (good : areStarts g (entry ∷ later) ≡ true) where
-    first-start : isSlotBlock g 0 entry ≡ true
-    unfolding areStarts
-    first-start = and-left (isSlotBlock g 0 entry) (areStarts g later) good
-
-    later-starts : areStarts g later ≡ true
-    unfolding areStarts
-    later-starts = and-right (isSlotBlock g 0 entry) (areStarts g later) good
-
-    first-inside : slotOf g entry < g .slots
-    first-inside = slotBlock-of g 0 entry first-start .slot-inside
-
-    first-is : entry ≡ areaStart g + areaPlace g (slotOf g entry)
-    first-is = omega (arith, slotBlock-of g 0 entry first-start .address-is)
-
   pub length-withMarks :
       (entries : List DiskAddress) (disk : Bytes) → length disk ≡ blockCount g * g .blockSize →
       areStarts g entries ≡ true → length (withMarks g entries disk) ≡ length disk
   unfolding withMarks
   length-withMarks [] disk whole good = refl
   length-withMarks (entry ∷ later) disk whole good =
-      let e = length-withMark disk whole (slotOf g entry) (first-inside entry later good) in
-      length-withMarks later (withMark g (slotOf g entry) disk) (e ∙ whole) (later-starts entry later good)
-      ∙ e
+      let e = length-withMark disk whole (slotOf g entry) (slotOf-lt-of-areStarts g entry later good) in
+      length-withMarks later (withMark g (slotOf g entry) disk) (e ∙ whole)
+      (areStarts-later g entry later good) ∙ e
 
   pub blockAt-withMarks-elsewhere :
       (entries : List DiskAddress) (disk : Bytes) → length disk ≡ blockCount g * g .blockSize →
@@ -150,9 +153,10 @@ module _ (g : Geometry) (f : Fits g) where
   unfolding withMarks
   blockAt-withMarks-elsewhere [] disk whole good address h = refl
   blockAt-withMarks-elsewhere (entry ∷ later) disk whole good address h =
-      let inside = first-inside entry later good in
+      let inside = slotOf-lt-of-areStarts g entry later good in
       blockAt-withMarks-elsewhere later (withMark g (slotOf g entry) disk)
-      (length-withMark disk whole (slotOf g entry) inside ∙ whole) (later-starts entry later good) address h
+      (length-withMark disk whole (slotOf g entry) inside ∙ whole) (areStarts-later g entry later good)
+      address h
       ∙ blockAt-withMark-elsewhere disk whole (slotOf g entry) inside address h
 
   -- a bit is 1 if it was, or if it is that of one of them
@@ -169,14 +173,14 @@ module _ (g : Geometry) (f : Fits g) where
       by false = refl
   bitmapBit-withMarks (entry ∷ later) disk whole good place =
       bitmapBit-withMarks later (withMark g slot disk) (length-withMark disk whole slot inside ∙ whole)
-      (later-starts entry later good) place
+      (areStarts-later g entry later good) place
       ∙ ⊎-elim same different (eq-cases place (areaPlace g slot))
     where
       slot : ℕ
       slot = slotOf g entry
 
       inside : slot < g .slots
-      inside = first-inside entry later good
+      inside = slotOf-lt-of-areStarts g entry later good
 
       rest : Bool
       rest = isOneOf (areaStart g + place) later
@@ -189,7 +193,7 @@ module _ (g : Geometry) (f : Fits g) where
           (bitmapBit g (withMark g slot disk) place || rest) ≡
           (bitmapBit g disk place || (eqb (areaStart g + place) entry || rest))
       same e =
-          let at : areaStart g + place ≡ entry = omega (arith, first-is entry later good) in
+          let at : areaStart g + place ≡ entry = omega (arith, first-is g entry later good) in
           rw (eq-eqb (areaStart g + place) entry at)
           (ap (λ (isSet : Bool). isSet || rest)
           (ap (bitmapBit g (withMark g slot disk)) e ∙ bitmapBit-marked-same g f disk whole slot inside true)
@@ -199,7 +203,7 @@ module _ (g : Geometry) (f : Fits g) where
           (bitmapBit g (withMark g slot disk) place || rest) ≡
           (bitmapBit g disk place || (eqb (areaStart g + place) entry || rest))
       different ne =
-          let apart : areaStart g + place ≢ entry = λ e. ne (omega (arith, first-is entry later good)) in
+          let apart : areaStart g + place ≢ entry = λ e. ne (omega (arith, first-is g entry later good)) in
           rw (ne-eqb (areaStart g + place) entry apart)
           (ap (λ (isSet : Bool). isSet || rest)
           (bitmapBit-marked-other g f disk whole slot inside true place ne))

@@ -1,19 +1,14 @@
 -- Pulled plugs, proved (document 02, K5): a recovery, every cut of every write, and what an inspector sees of
 -- them. Assumes nothing.
-use mathlib.Core.Path.{_≡_, refl, ap}
-use mathlib.Core.List.{List}
-use Prim.Native.Nat.{ℕ, _≤_}
-use lib.ListN.{length}
-use lib.Seq.{take-all}
-use Rattle.laws.specs.Lists.{over}
-use Rattle.model.specs.Geometry.{Geometry, blockWidth}
-use Rattle.model.specs.Blocks.{Bytes, DiskAddress}
+use mathlib.Core.Path.{refl}
+use Prim.Native.Nat.{ℕ}
+use Rattle.model.specs.Geometry.{Geometry}
+use Rattle.model.specs.Blocks.{Bytes}
 use Rattle.model.specs.Layout.{geometryIn}
-use Rattle.model.specs.Stores.{Trace, apply, addresses}
-use Rattle.model.specs.Calls.{Offered, inLine, Written, writtenDisk, writtenList}
+use Rattle.model.specs.Calls.{Offered, inLine}
 use Rattle.model.specs.Promises.Waiting.{PublicHalf}
-use Rattle.recovery_model.specs.Cuts.{cutTrace, cutDisk, cutList}
 use Rattle.recovery_model.specs.Promises.Recovery.{Recoverable, Recovers, Recovery}
+use Rattle.recovery_model.proofs.Laws.Cuts.{cut-all}
 use Rattle.recovery_model.proofs.Laws.Recovery.{recovered-refused, rebuilt-recovered, recovered-again}
 use Rattle.recovery_model.proofs.Refusals.Map.{answers-recovery}
 use Rattle.recovery_model.proofs.Volumes.Leaves.{cut-leaves}
@@ -22,21 +17,6 @@ use Rattle.recovery_model.proofs.Volumes.Recovers.{recovers-of-leaves}
 use Rattle.recovery_model.proofs.Volumes.LineCuts.{lineRead-recovered}
 use Rattle.recovery_model.proofs.Views.CutDrives.{cut-alike}
 use Rattle.recovery_model.proofs.Theorems.RecoveryFigures.{recovery-figures}
-
--- all stores are made
-uncut-trace : (result : Written) (bound : ℕ) → length (result .trace) ≤ bound →
-    cutTrace bound result ≡ result .trace
-uncut-trace result bound h = take-all bound (result .trace) h
-
-uncut :
-    (disk : Bytes) (list : List DiskAddress) (result : Written) (bound : ℕ) → length (result .trace) ≤ bound →
-    (cutDisk bound result disk ≡ writtenDisk result disk) ×
-    (cutList bound result list ≡ writtenList result list)
-uncut disk list result bound h =
-    let e = uncut-trace result bound h in (
-      ap (λ (trace : Trace). apply (blockWidth (geometryIn disk)) trace disk) e,
-      ap (λ (trace : Trace). over 0 (addresses trace) list) e,
-    )
 
 -- every cut of every write
 cut-recovers :
@@ -54,7 +34,7 @@ recovery =
       rebuilt = λ disk good. rebuilt-recovered (geometryIn disk) disk refl good;
       again = λ disk torn good same.
           recovered-again (geometryIn disk) disk torn refl good same;
-      uncut = uncut;
+      uncut = cut-all;
       sound-recoverable = recoverable-of-sound;
       recovers = cut-recovers;
       line-same = λ g disk half blocks line bound asked blank whole low sized.

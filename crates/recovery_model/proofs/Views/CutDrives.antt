@@ -1,40 +1,25 @@
 -- One write side by side on two drives that show the same, each cut after equally many stores (document 02,
 -- K5): the answers are the same, and so are the addresses stored to, and the drives that they leave show the
 -- same, before a recovery and after it. Assumes nothing.
-use mathlib.Core.Path.{_≡_, refl, sym, _∙_, subst}
+use mathlib.Core.Path.{_≡_, sym, _∙_, subst}
 use Prim.Native.Nat.{ℕ}
 use lib.ListN.{length}
-use Rattle.laws.proofs.Members.{all-take}
 use Rattle.model.specs.Geometry.{Geometry, blockCount, blockWidth}
 use Rattle.model.specs.Blocks.{Bytes}
 use Rattle.model.specs.Layout.{geometryIn}
 use Rattle.model.specs.Stores.{apply}
-use Rattle.model.specs.Refusals.{driveRefusal}
 use Rattle.model.specs.Calls.{Offered, Written, written}
 use Rattle.model.specs.View.{shownOf, Alike}
 use Rattle.model.specs.Promises.Waiting.{PublicHalf, halfWritten}
 use Rattle.model.proofs.Laws.Calls.{answer-written}
-use Rattle.model.proofs.Laws.HeaderStores.{DriveOf, KeepsDrive, driveOf-apply, written-keeps}
 use Rattle.model.proofs.Views.Agreement.{agree-apply, along-take, along-addresses}
 use Rattle.model.proofs.Views.Shown.{TraceSame, ShowSame}
 use Rattle.model.proofs.Views.Drives.{Twins, twins-of-alike, alike-of-twins, geometryIn-twins}
 use Rattle.model.proofs.Views.SideWrites.{writeRefusal-twins, written-twins}
 use Rattle.recovery_model.specs.Cuts.{cutTrace, cutDisk}
 use Rattle.recovery_model.specs.Promises.Recovery.{CutAlike}
-use Rattle.recovery_model.proofs.Views.RecoveredDrives.{DrivesAlike, twins-of-drives}
-use Rattle.recovery_model.proofs.Views.RecoveredDrives.{recoveryRefusal-alike, recovered-alike}
-
--- a cut write leaves a drive of the same geometry
-cutDisk-driveOf :
-    (disk : Bytes) → driveRefusal disk ≡ 0 → (number : ℕ) (content random : Bytes) (room : ℕ)
-    (offer : Offered) (bound : ℕ) →
-    DriveOf (geometryIn disk) (cutDisk bound (written disk number content random room offer) disk)
-cutDisk-driveOf disk accepted number content random room offer bound =
-    let result = written disk number content random room offer in
-    driveOf-apply (cutTrace bound result)
-    (all-take (KeepsDrive (geometryIn disk)) bound (result .trace)
-    (written-keeps disk number content random room offer))
-    (record { geometry = refl; accepted = accepted })
+use Rattle.recovery_model.proofs.Laws.Cuts.{driveOf-cutDisk}
+use Rattle.recovery_model.proofs.Views.RecoveredDrives.{recoveryRefusal-twins, recovered-twins}
 
 module _ (disk other : Bytes) (twins : Twins disk other) (number : ℕ) (content random others : Bytes)
     (same-random : length random ≡ length others) (room : ℕ) (offer offerOther : Offered) (bound : ℕ) where
@@ -54,18 +39,20 @@ module _ (disk other : Bytes) (twins : Twins disk other) (number : ℕ) (content
       (written-twins disk other twins number content random others same-random room offer offerOther)
 
   -- the drives that they leave
-  drives : DrivesAlike (geometryIn disk) (cutDisk bound result disk) (cutDisk bound resultOther other)
-  drives =
-      let states = geometryIn-twins disk other twins in
+  cut-twins : Twins (cutDisk bound result disk) (cutDisk bound resultOther other)
+  cut-twins =
+      let here = driveOf-cutDisk disk (twins .accepted) number content random room offer bound in
+      let there = driveOf-cutDisk other (twins .other-accepted) number content others room offerOther bound in
       record {
-        here = cutDisk-driveOf disk (twins .accepted) number content random room offer bound;
-        there =
-            subst (λ (h : Geometry). DriveOf h (cutDisk bound resultOther other)) (sym states)
-            (cutDisk-driveOf other (twins .other-accepted) number content others room offerOther bound);
-        same =
-            subst (λ (h : Geometry). ShowSame g (cutDisk bound result disk)
-            (apply (blockWidth h) (cutTrace bound resultOther) other)) states
-            (agree-apply (shownOf g) (g .blockSize) (blockCount g) traces (twins .show-same));
+        accepted = here .accepted;
+        other-accepted = there .accepted;
+        show-same =
+            subst (λ (h : Geometry). ShowSame h (cutDisk bound result disk) (cutDisk bound resultOther other))
+            (sym (here .geometry))
+            (subst (λ (h : Geometry). ShowSame g (cutDisk bound result disk)
+            (apply (blockWidth h) (cutTrace bound resultOther) other))
+            (geometryIn-twins disk other twins)
+            (agree-apply (shownOf g) (g .blockSize) (blockCount g) traces (twins .show-same)));
       }
 
   written-cut-alike : CutAlike disk other result resultOther bound
@@ -76,9 +63,9 @@ module _ (disk other : Bytes) (twins : Twins disk other) (number : ℕ) (content
             ∙ writeRefusal-twins disk other twins number content random others same-random room
             ∙ sym (answer-written other number content others room offerOther);
         same-stores = along-addresses (shownOf g) (g .blockSize) (blockCount g) traces;
-        alike-cut = alike-of-twins _ _ (twins-of-drives drives);
-        same-refusal = recoveryRefusal-alike drives;
-        alike-recovered = alike-of-twins _ _ (twins-of-drives (recovered-alike drives));
+        alike-cut = alike-of-twins _ _ cut-twins;
+        same-refusal = recoveryRefusal-twins _ _ cut-twins;
+        alike-recovered = alike-of-twins _ _ (recovered-twins _ _ cut-twins);
       }
 
 pub cut-alike :

@@ -12,16 +12,14 @@ use lib.Seq.{take-append-le, take-append-add}
 use Rattle.laws.proofs.Cases.{bool-cases, lt-cases}
 use Rattle.model.specs.Geometry.{Geometry, Fits, blockWidth}
 use Rattle.model.specs.Blocks.{Bytes}
-use Rattle.model.specs.Layout.{headIn, isAllocated, nextSlot}
+use Rattle.model.specs.Layout.{isAllocated, nextSlot}
 use Rattle.model.specs.Stores.{Trace, apply}
 use Rattle.model.specs.Table.{PublicChoice, keepPublic, writePublic}
 use Rattle.model.specs.HiddenHalf.{HiddenState, HiddenHalf, hiddenHalf}
 use Rattle.model.specs.Rounds.{Run, stopped, followedBy, roundTrace, runFrom}
-use Rattle.model.proofs.Laws.Slots.{nextSlot-lt}
 use Rattle.model.proofs.Laws.Stores.{apply-append, apply-nil}
 use Rattle.model.proofs.Laws.RoundCounts.{roundsTo-zero}
 use Rattle.model.proofs.Laws.RoundStores.{afterRound, Round}
-use Rattle.model.proofs.Laws.Rounds.{headIn-round}
 use Rattle.model.proofs.Laws.Ready.{Ready, ready-kept, ready-round, runFrom-kept, runFrom-last}
 use Rattle.model.proofs.Laws.Runs.{runFrom-ran}
 use Rattle.model.proofs.Waiting.Runs.{runFrom-placed}
@@ -42,13 +40,13 @@ module _ (g : Geometry) (f : Fits g) (number : ℕ) (counted : number < g .publi
   abbrev CutBy : (most : ℕ) → Type 0
   CutBy most =
       (bound : ℕ) (disk : Bytes) (slot : ℕ) (random : Bytes) (state : HiddenState) →
-      Ready g number most disk slot random state → headIn disk < g .slots →
+      Ready g number most disk slot random state →
       Cut bound slot random disk state (runFrom most g number content slot random disk state)
 
   -- ---- one round more ----
 
   module _ (most : ℕ) (later : CutBy most) (disk : Bytes) (slot : ℕ) (random : Bytes) (state : HiddenState)
-      (ready : Ready g number (suc most) disk slot random state) (inside : headIn disk < g .slots) where
+      (ready : Ready g number (suc most) disk slot random state) where
     abbrev now : HiddenHalf
     now = hiddenHalf g disk slot random state
 
@@ -83,7 +81,7 @@ module _ (g : Geometry) (f : Fits g) (number : ℕ) (counted : number < g .publi
         (rootedBy-none g number content 0 slot random disk state (omega arith))
         (subst (λ (cut : Bytes). CutRun g number content 0 disk cut state run state)
         (sym (apply-nil (blockWidth g) disk))
-        (cut-nothing g f number content disk state run (ready .whole) inside some-rounds placed-run))
+        (cut-nothing g f number content disk state run some-rounds placed-run))
 
     -- ---- a kept round ----
 
@@ -119,7 +117,7 @@ module _ (g : Geometry) (f : Fits g) (number : ℕ) (counted : number < g .publi
             (λ unrooted.
             cut-by (suc count) followed (take (suc count) (round keepPublic)) made-within state
             (rootedBy-none g number content (suc count) slot random disk state (omega arith))
-            (cut-kept g f number counted content sized most disk slot random state ready inside count followed
+            (cut-kept g f number counted content sized most disk slot random state ready count followed
             state (subst (λ (made : Run). state .placed ≤ made .state .placed) followed-is placed-run) early
             (λ tree ghost.
             cut-untouched g f number counted content sized most disk slot random state ready keepPublic count
@@ -127,7 +125,7 @@ module _ (g : Geometry) (f : Fits g) (number : ℕ) (counted : number < g .publi
             (λ rooted.
             cut-by (suc count) followed (take (suc count) (round keepPublic)) made-within (now .state)
             (rootedBy-one g number content (suc count) slot random disk state taken (omega arith))
-            (cut-kept g f number counted content sized most disk slot random state ready inside count followed
+            (cut-kept g f number counted content sized most disk slot random state ready count followed
             (now .state)
             (runFrom-placed g most number content (nextSlot g slot)
             (drop (g .height * g .blockSize) random) kept (now .state)) early
@@ -161,9 +159,7 @@ module _ (g : Geometry) (f : Fits g) (number : ℕ) (counted : number < g .publi
             (cut-then g f number counted content sized most disk slot random state ready taken bound long rest
             (apply (blockWidth g) (take left (rest .trace)) kept) rootedRest
             (later left kept (nextSlot g slot) (drop (g .height * g .blockSize) random) (now .state)
-            (ready-kept g f number counted content sized most disk slot random state ready taken)
-            (subst (λ (head : ℕ). head < g .slots) (sym (headIn-round this keepPublic))
-            (nextSlot-lt g slot f)))))
+            (ready-kept g f number counted content sized most disk slot random state ready taken))))
 
     -- ---- the last round ----
 
@@ -182,7 +178,7 @@ module _ (g : Geometry) (f : Fits g) (number : ℕ) (counted : number < g .publi
           (λ unrooted.
           cut-by (suc count) alone (take (suc count) (round writePublic)) made-last state
           (rootedBy-none g number content (suc count) slot random disk state (omega arith))
-          (cut-last g f number counted content sized most disk slot random state ready inside count alone
+          (cut-last g f number counted content sized most disk slot random state ready count alone
           state (subst (λ (made : Run). state .placed ≤ made .state .placed) alone-is placed-run) refl free
           (λ tree ghost.
           cut-untouched g f number counted content sized most disk slot random state ready writePublic count
@@ -190,7 +186,7 @@ module _ (g : Geometry) (f : Fits g) (number : ℕ) (counted : number < g .publi
           (λ rooted.
           cut-by (suc count) alone (take (suc count) (round writePublic)) made-last (now .state)
           (rootedBy-last g number content (suc count) slot random disk state free (omega arith))
-          (cut-last g f number counted content sized most disk slot random state ready inside count alone
+          (cut-last g f number counted content sized most disk slot random state ready count alone
           (now .state) (omega arith) refl free
           (λ tree ghost.
           cut-turned g f number counted content sized most disk slot random state ready writePublic count
@@ -211,7 +207,7 @@ module _ (g : Geometry) (f : Fits g) (number : ℕ) (counted : number < g .publi
   -- ---- all rounds ----
 
   pub runFrom-cut : (most : ℕ) → CutBy most
-  runFrom-cut zero bound disk slot random state ready inside =
+  runFrom-cut zero bound disk slot random state ready =
       absurd (ready .some-rounds (roundsTo-zero (isAllocated g disk) g slot))
-  runFrom-cut (suc most) bound disk slot random state ready inside =
-      cut-here most (runFrom-cut most) disk slot random state ready inside bound
+  runFrom-cut (suc most) bound disk slot random state ready =
+      cut-here most (runFrom-cut most) disk slot random state ready bound

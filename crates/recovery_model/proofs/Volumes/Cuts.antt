@@ -11,14 +11,13 @@ use native.Mathlib.Omega.{arith}
 use lib.ListN.{length}
 use lib.Seq.{take-all}
 use Rattle.laws.proofs.Cases.{true-is-not-false, lt-cases}
-use Rattle.model.specs.Geometry.{Geometry, Fits, blockCount, blockWidth}
-use Rattle.model.specs.Blocks.{Bytes, blockAt, entryAt}
-use Rattle.model.specs.Layout.{headIn, slotStart, mapEntry, isAllocated}
+use Rattle.model.specs.Geometry.{Geometry, Fits, blockWidth}
+use Rattle.model.specs.Blocks.{Bytes, blockAt}
+use Rattle.model.specs.Layout.{slotStart, mapEntry, isAllocated}
 use Rattle.model.specs.Table.{PublicChoice, keepPublic, writePublic}
 use Rattle.model.specs.HiddenHalf.{HiddenState, HiddenHalf, hiddenHalf}
 use Rattle.model.specs.Rounds.{Run, followedBy, roundTrace}
 use Rattle.model.proofs.Laws.RoundStores.{afterRound, Round}
-use Rattle.model.proofs.Laws.Rounds.{entryAt-round}
 use Rattle.model.proofs.Laws.RoundEffects.{mapEntry-kept, isAllocated-kept, blockAt-kept-start}
 use Rattle.model.proofs.Laws.Ready.{Ready, ready-round}
 use Rattle.model.proofs.Tree.Ghost.{Tree, Ghost}
@@ -26,9 +25,8 @@ use Rattle.model.proofs.Tree.Stored.{StoredBy}
 use Rattle.model.proofs.Tree.Turns.{still, hiddenHalf-turns}
 use Rattle.model.proofs.Volumes.Growth.{Grew, grew-of-turned, grew-then, round-grew}
 use Rattle.recovery_model.proofs.Laws.CutHalves.{length-half}
-use Rattle.recovery_model.proofs.Laws.CutRounds.{cutRound, length-cutRound, cutRound-stored}
+use Rattle.recovery_model.proofs.Laws.CutRounds.{cutRound, cutRound-stored}
 use Rattle.recovery_model.proofs.Laws.CutRounds.{blockAt-cutRound-start-other}
-use Rattle.recovery_model.proofs.Laws.CutEffects.{entryAt-cutRound, headIn-cutRound}
 use Rattle.recovery_model.proofs.Laws.CutEffects.{mapEntry-cut-before, mapEntry-cut-kept}
 use Rattle.recovery_model.proofs.Laws.CutEffects.{mapEntry-cut-same, mapEntry-cut-other}
 use Rattle.recovery_model.proofs.Laws.CutEffects.{blockAt-cut-kept, blockAt-cut-last}
@@ -39,9 +37,6 @@ use Rattle.recovery_model.proofs.Volumes.CutLeaves.{NewPlace}
 -- state of the hidden writes
 pub record CutRun (g : Geometry) (number : ℕ) (content : Bytes) (bound : ℕ) (disk cut : Bytes)
     (state : HiddenState) (run : Run) (rooted : HiddenState) : Type 0 where
-  pub whole : length cut ≡ blockCount g * g .blockSize
-  pub fields : (i : ℕ) → i < 5 → entryAt i cut ≡ entryAt i disk
-  pub head : headIn cut < g .slots
   pub grew : (tree : Tree) → Ghost g disk tree → Grew g disk cut tree state rooted
   pub placed-le : rooted .placed ≤ run .state .placed
   pub block-kept :
@@ -55,13 +50,10 @@ pub record CutRun (g : Geometry) (number : ℕ) (content : Bytes) (bound : ℕ) 
 -- no store made
 pub cut-nothing :
     (g : Geometry) → Fits g → (number : ℕ) (content disk : Bytes) (state : HiddenState) (run : Run) →
-    length disk ≡ blockCount g * g .blockSize → headIn disk < g .slots → 1 ≤ run .rounds →
-    state .placed ≤ run .state .placed → CutRun g number content 0 disk disk state run state
-cut-nothing g f number content disk state run whole inside some-rounds placed-le =
+    1 ≤ run .rounds → state .placed ≤ run .state .placed →
+    CutRun g number content 0 disk disk state run state
+cut-nothing g f number content disk state run some-rounds placed-le =
     record {
-      whole = whole;
-      fields = λ i h. refl;
-      head = inside;
       grew = λ tree ghost.
           grew-of-turned g f disk disk tree state state
           (record { grown = tree; ghost = ghost; turn = still refl (λ other h. refl) });
@@ -107,7 +99,7 @@ module _ (g : Geometry) (f : Fits g) (number : ℕ) (counted : number < g .publi
 
   -- ---- both ----
 
-  module _ (inside : headIn disk < g .slots) (count : ℕ) (run : Run) (rooted : HiddenState)
+  module _ (count : ℕ) (run : Run) (rooted : HiddenState)
       (placed-le : rooted .placed ≤ run .state .placed) where
     -- a kept round, which others follow
     pub cut-kept :
@@ -116,9 +108,6 @@ module _ (g : Geometry) (f : Fits g) (number : ℕ) (counted : number < g .publi
         CutRun g number content (suc count) disk (cutRound this keepPublic count) state run rooted
     cut-kept early grew =
         record {
-          whole = length-cutRound this keepPublic count ∙ ready .whole;
-          fields = entryAt-cutRound this keepPublic count;
-          head = headIn-cutRound this keepPublic count inside;
           grew = grew;
           placed-le = placed-le;
           block-kept = λ other h marked. blockAt-cut-kept this count other;
@@ -137,9 +126,6 @@ module _ (g : Geometry) (f : Fits g) (number : ℕ) (counted : number < g .publi
         let stores : run .rounds * (g .height + 3) ≡ g .height + 3 =
         ap (λ (n : ℕ). n * (g .height + 3)) one ∙ omega arith in
         record {
-          whole = length-cutRound this writePublic count ∙ ready .whole;
-          fields = entryAt-cutRound this writePublic count;
-          head = headIn-cutRound this writePublic count inside;
           grew = grew;
           placed-le = placed-le;
           block-kept = λ other h marked.
@@ -176,9 +162,6 @@ module _ (g : Geometry) (f : Fits g) (number : ℕ) (counted : number < g .publi
     cut-then cut-rest =
         let stores = suc-mul (rest .rounds) (g .height + 3) in
         record {
-          whole = cut-rest .whole;
-          fields = λ i h. cut-rest .fields i h ∙ entryAt-round this keepPublic i h;
-          head = cut-rest .head;
           grew = λ tree ghost.
               let first = round-grew g f number counted content sized most disk slot random state ready
               keepPublic tree ghost in

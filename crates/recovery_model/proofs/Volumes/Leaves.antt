@@ -12,7 +12,7 @@ use lib.ListN.{length, take}
 use lib.Seq.{take-nil}
 use borrow.Author.Tests.{eq-eqb, ne-eqb}
 use Rattle.laws.proofs.Cases.{eq-cases, cond-true, cond-false}
-use Rattle.model.specs.Geometry.{Geometry, Fits, driveSize, isGeometry, blockWidth}
+use Rattle.model.specs.Geometry.{Geometry, Fits, blockWidth}
 use Rattle.model.specs.Blocks.{Bytes}
 use Rattle.model.specs.Layout.{geometryIn, headIn, slotStart, mapEntry, isAllocated}
 use Rattle.model.specs.Stores.{Trace, apply}
@@ -24,10 +24,10 @@ use Rattle.model.specs.Calls.{refusedWrite, doneWrite}
 use Rattle.model.specs.Invariants.{HiddenInvariant}
 use Rattle.model.specs.Promises.ReadAfterWrite.{shownAfter}
 use Rattle.model.specs.Promises.Waiting.{PublicHalf, halfRefusal, halfWritten, firstRounds}
-use Rattle.model.proofs.Laws.Geometry.{geometry-ext}
 use Rattle.model.proofs.Laws.Stores.{apply-nil}
-use Rattle.model.proofs.Laws.Refusals.{Accepted, accepted-of-refusal, refusal-of-accepted}
+use Rattle.model.proofs.Laws.Refusals.{accepted-of-refusal}
 use Rattle.model.proofs.Laws.Accepted.{AcceptedNumber, accepted-of-write}
+use Rattle.model.proofs.Laws.HeaderStores.{DriveOf}
 use Rattle.model.proofs.Laws.Offers.{writeRun-is}
 use Rattle.model.proofs.Laws.WriteRuns.{ready-of-write}
 use Rattle.model.proofs.Laws.Calls.{written-done, written-refused}
@@ -41,6 +41,7 @@ use Rattle.model.proofs.Volumes.Shown.{carries-placed}
 use Rattle.model.proofs.Theorems.TreeCheck.{accepted-of-pass, sound-of-pass}
 use Rattle.recovery_model.specs.Cuts.{cutDisk, rootedRounds, placedWithin}
 use Rattle.recovery_model.specs.Promises.Recovery.{Recoverable}
+use Rattle.recovery_model.proofs.Laws.Cuts.{driveOf-cutDisk}
 use Rattle.recovery_model.proofs.Volumes.CutLeaves.{CutLeaves}
 use Rattle.recovery_model.proofs.Volumes.Cuts.{CutRun}
 use Rattle.recovery_model.proofs.Volumes.CutRuns.{runFrom-cut}
@@ -50,11 +51,8 @@ module _ (disk : Bytes) (half : PublicHalf) (offer : Offered) (bound : ℕ) (dri
   abbrev g : Geometry
   g = geometryIn disk
 
-  accepted : Accepted disk
-  accepted = accepted-of-refusal disk drive
-
   f : Fits (geometryIn disk)
-  f = accepted .sized .fits
+  f = accepted-of-refusal disk drive .sized .fits
 
   abbrev result : Written
   result = halfWritten half disk offer
@@ -122,7 +120,6 @@ module _ (disk : Bytes) (half : PublicHalf) (offer : Offered) (bound : ℕ) (dri
         runFrom-cut g f (half .number) (good .number-inside) (half .content) (good .block-sized) (g .slots)
         bound disk (headIn disk) (half .random) (startState writes)
         (ready-of-write disk (half .number) (half .content) (half .random) (half .room) offer free)
-        (accepted .head-inside)
 
     done-is : result ≡ doneWrite (offerRefusal g offer) run
     done-is =
@@ -136,15 +133,10 @@ module _ (disk : Bytes) (half : PublicHalf) (offer : Offered) (bound : ℕ) (dri
     placed-is : placedWithin bound half disk offer ≡ rooted .placed
     placed-is = cond-true _ _ (eq-eqb (halfRefusal half disk) 0 free)
 
-    geometry-is : geometryIn cut ≡ g
-    geometry-is = geometry-ext cut disk (cut-run .fields)
-
-    accepted-cut : driveRefusal cut ≡ 0
-    accepted-cut =
-        refusal-of-accepted cut (omega (arith, cut-run .whole, accepted .sized .whole, accepted .sized .long))
-        (ap isGeometry geometry-is ∙ accepted .sized .accepted)
-        (cut-run .whole ∙ sym (ap driveSize geometry-is))
-        (subst (λ (stated : Geometry). headIn cut < stated .slots) (sym geometry-is) (cut-run .head))
+    drive-cut : DriveOf g cut
+    drive-cut =
+        subst (λ (made : Written). DriveOf g (cutDisk bound made disk)) done-is
+        (driveOf-cutDisk disk drive (half .number) (half .content) (half .random) (half .room) offer bound)
 
     abbrev tree : Tree
     tree = treeOf g disk
@@ -161,7 +153,8 @@ module _ (disk : Bytes) (half : PublicHalf) (offer : Offered) (bound : ℕ) (dri
         orElse (shownAfter (take (placedWithin bound half disk offer) writes) other none)
         (hiddenRead disk other blank)
     hidden-shown other blank h sized =
-        hiddenRead-shows g cut geometry-is accepted-cut other blank sized f (grew .grown) (grew .ghost) h
+        hiddenRead-shows g cut (drive-cut .geometry) (drive-cut .accepted) other blank sized f (grew .grown)
+        (grew .ghost) h
         ∙ ap (λ (value : Option Bytes). orElse value blank)
         (shows-of-progress g rooted (valueOf g disk tree) (valueOf g cut (grew .grown)) other h writes
         (grew .progress))
@@ -176,8 +169,8 @@ module _ (disk : Bytes) (half : PublicHalf) (offer : Offered) (bound : ℕ) (dri
         subst (CutLeaves g disk half offer bound)
         (sym (ap (λ (made : Written). cutDisk bound made disk) done-is))
         (record {
-          geometry = geometry-is;
-          accepted = accepted-cut;
+          geometry = drive-cut .geometry;
+          accepted = drive-cut .accepted;
           hidden-sound = hiddenInvariant-of-ghost g f cut (grew .grown) (grew .ghost);
           placed-le =
               omega (

@@ -47,7 +47,8 @@ returns : tie.Need-returns
 returns c =
     let cut = c .before .before .before in
     let drive = cut .before .before in
-    row-agrees (drive .before .before .args .row) (drive .five-lines .ensures) (cut .tell-cut .ensures .0)
+    let named = drive .before .before in
+    row-agrees (named .before .before .args .row) (drive .five-lines .ensures) (cut .tell-cut .ensures .0)
     (cut .tell-cut .ensures .1) (c .tell-mended .ensures)
 
 pub run-cut-spec : {M : Type 1} → statement M

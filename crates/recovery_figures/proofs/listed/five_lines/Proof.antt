@@ -12,7 +12,7 @@ write-five-requires c κs = search needs
 
 returns : tie.Need-returns
 unfolding threeWritten twoWritten
-returns c = c .before .before .write-five .ensures
+returns c = c .before .write-five .ensures
 
 pub five-lines-spec : {M : Type 1} → statement M
 five-lines-spec = tie.close (tie.spec slice-aggregate-write-five write-five-requires returns)

@@ -15,7 +15,7 @@ use Rattle.line.specs.Offers.{lineOf}
 use Rattle.mapper.specs.Within.{lineWithin}
 use Rattle.line_cases.specs.Offers.{lineSaid}
 use Rattle.recovery_figures.specs.Tells.{hiddenFirst}
-use Rattle.recovery_figures.specs.declared.«line_cuts».LineCutRow.{LineCutRow}
+use Rattle.recovery_figures.specs.declared.line_cuts.LineCutRow.{LineCutRow}
 
 -- ---- the write ----
 

@@ -54,7 +54,7 @@ pub fn write_three(disk: &mut [u8])
 }
 
 // Lines 2 - and 2 0: hidden 0 goes to slot 0.
-pub fn write_two(disk: &mut [u8])
+fn write_two(disk: &mut [u8])
     ensures { λ _. ⌜ now (disk .exit) ≡ twoWritten (now (disk .entry)) ⌝ }
 {
     write_line(disk, 4, 2, false, 0);

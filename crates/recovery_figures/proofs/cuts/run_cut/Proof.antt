@@ -45,11 +45,11 @@ tell-mended-requires c κs = search needs
 
 returns : tie.Need-returns
 returns c =
-    let cut = c .before .before .before in
+    let mended = c .before in
+    let cut = mended .before .before .before in
     let drive = cut .before .before in
-    let named = drive .before .before in
-    row-agrees (named .before .before .args .row) (drive .five-lines .ensures) (cut .tell-cut .ensures .0)
-    (cut .tell-cut .ensures .1) (c .tell-mended .ensures)
+    row-agrees (drive .before .before .before .args .row) (drive .five-lines .ensures)
+    (cut .tell-cut .ensures .0) (cut .tell-cut .ensures .1) (mended .tell-mended .ensures)
 
 pub run-cut-spec : {M : Type 1} → statement M
 run-cut-spec =

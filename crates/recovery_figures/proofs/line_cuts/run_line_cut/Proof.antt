@@ -7,7 +7,8 @@ use Rattle.model.specs.Blocks.{Bytes}
 use Rattle.model.specs.Promises.TreeFigures.{fiveLines}
 use Rattle.recovery_model.specs.Cuts.{cutDisk}
 use Rattle.recovery_figures.specs.declared.line_cuts.LineCutRow.{LineCutRow}
-use Rattle.recovery_figures.specs.LineCuts.{linePulledOn, lineCutTold, lineMendedTold, lineCutHolds, lineCutAgrees}
+use Rattle.recovery_figures.specs.LineCuts.{linePulledOn, lineCutTold, lineMendedTold}
+use Rattle.recovery_figures.specs.LineCuts.{lineCutHolds, lineCutAgrees}
 use Rattle.recovery_figures.proofs.line_cuts.run_line_cut.Statement.{statement}
 use Rattle.recovery_figures.proofs.line_cuts.run_line_cut.Tie as tie
 
@@ -45,11 +46,11 @@ tell-line-mended-requires c κs = search needs
 
 returns : tie.Need-returns
 returns c =
-    let cut = c .before .before .before in
+    let mended = c .before in
+    let cut = mended .before .before .before in
     let drive = cut .before .before in
-    let named = drive .before .before in
-    row-agrees (named .before .before .args .row) (drive .five-lines .ensures) (cut .tell-line-cut .ensures .0)
-    (cut .tell-line-cut .ensures .1) (c .tell-line-mended .ensures)
+    row-agrees (drive .before .before .before .args .row) (drive .five-lines .ensures)
+    (cut .tell-line-cut .ensures .0) (cut .tell-line-cut .ensures .1) (mended .tell-line-mended .ensures)
 
 pub run-line-cut-spec : {M : Type 1} → statement M
 run-line-cut-spec =

@@ -7,8 +7,9 @@ use Rattle.model.specs.Blocks.{Bytes, setEntry}
 use Rattle.model.specs.Calls.{formatted}
 use Rattle.model.specs.Promises.Figures.{small}
 use Rattle.model.specs.Calls.{nothing}
-use Rattle.model.specs.Promises.Limits.{listedOn, oneOffer, twoBitmaps}
+use Rattle.model.specs.Promises.Limits.{listedOn, twoBitmaps}
 use Rattle.figure_lines.specs.Counts.{puts}
+use Rattle.recovery_figures.specs.Listed.{threeWritten, fiveWritten}
 use Rattle.figures.specs.declared.drives.Drive.{Drive}
 
 -- ---- how it is made ----
@@ -20,14 +21,6 @@ slotMade disk =
     setEntry 48 8 (setEntry 40 6 (setEntry 32 7
     (setEntry 24 5 (setEntry 16 1 (setEntry 8 4 (formatted disk small))))))
 
--- lines 0 -, 0 1 and 1 -
-unfoldable pub threeWritten : (disk : Bytes) → Bytes
-threeWritten disk = listedOn (listedOn (listedOn disk 1 0 nothing) 2 0 (oneOffer 1 2)) 3 1 nothing
-
--- lines 2 - and 2 0
-unfoldable pub twoWritten : (disk : Bytes) → Bytes
-twoWritten disk = listedOn (listedOn disk 4 2 nothing) 5 2 (oneOffer 0 5)
-
 -- so many writes of bytes 7, to numbers 0, 1 and so on up to the last, and then to the last
 unfoldable pub writtenOn : (times last : ℕ) → (disk : Bytes) → Bytes
 writtenOn zero last disk = disk
@@ -37,7 +30,7 @@ unfoldable pub madeBy : (made times : ℕ) → (disk : Bytes) → Bytes
 madeBy made times disk =
     cond (eqb made 1) (slotMade disk)
     (cond (eqb made 2) (threeWritten (formatted disk small))
-    (cond (eqb made 3) (twoWritten (threeWritten (formatted disk small)))
+    (cond (eqb made 3) (fiveWritten disk)
     (cond (eqb made 4) (writtenOn times 2 (formatted disk small))
     (cond (eqb made 5) (writtenOn times 0 (formatted disk twoBitmaps)) (formatted disk small)))))
 

@@ -6,18 +6,15 @@ use figure_lines::lines::print_text;
 use figure_lines::lines::put_on;
 use layout::entries::put_entry;
 use layout::geometry::Geometry;
-use layout::numbers::HiddenNumber;
-use layout::numbers::PublicNumber;
 use mapper::format_drive;
-use mapper::write_block;
+use recovery_figures::listed::format_small;
+use recovery_figures::listed::write_five;
+use recovery_figures::listed::write_line;
+use recovery_figures::listed::write_three;
 ghost use mathlib.Core.Path.{_≡_};
 ghost use Prim.Native.Nat.{_≤_};
 ghost use lib.ListN.{length};
-ghost use Rattle.model.specs.Promises.Figures.{filled, small};
-ghost use Rattle.model.specs.Promises.Limits.{listedOn};
-ghost use Rattle.model.specs.Calls.{formatted};
-ghost use Rattle.mapper.specs.Writes.{callOffer};
-ghost use Rattle.figures.specs.Drives.{slotMade, threeWritten, twoWritten, writtenOn, madeBy};
+ghost use Rattle.figures.specs.Drives.{slotMade, writtenOn, madeBy};
 ghost use Rattle.figures.specs.Drives.{rowDrive, driveOn, smallDrive};
 
 // How a drive is made, from zeros: formatted;
@@ -65,14 +62,6 @@ pub fn drive_with(made: u8, times: u32, index: usize, value: u32) -> Drive
     }
 }
 
-const SMALL: Geometry = Geometry {
-    block_size: 32,
-    height: 2,
-    publics: 3,
-    hidden: 2,
-    slots: 4,
-};
-
 const TWO_BITMAPS: Geometry = Geometry {
     block_size: 32,
     height: 2,
@@ -82,12 +71,6 @@ const TWO_BITMAPS: Geometry = Geometry {
 };
 
 // ---- formatted, or by entries ----
-
-fn format_small(disk: &mut [u8])
-    ensures { λ _. ⌜ now (disk .exit) ≡ formatted (now (disk .entry)) small ⌝ }
-{
-    format_drive(disk, SMALL);
-}
 
 fn make_slot(disk: &mut [u8])
     requires { ⌜ 512 ≤ length (now disk) ⌝ }
@@ -103,41 +86,6 @@ fn make_slot(disk: &mut [u8])
 }
 
 // ---- by writes ----
-
-// Writes a line: data and offered data are the line's number, the random bytes 165, the list has 23 entries.
-fn write_line(disk: &mut [u8], line: u8, number: u32, offered: bool, hidden: u32)
-    ensures { λ _. ⌜ now (disk .exit) ≡
-        listedOn (now (disk .entry)) line number (callOffer offered hidden (filled line)) ⌝ }
-{
-    let content = [line; 32];
-    write_block(
-        disk,
-        PublicNumber(number),
-        &content,
-        offered,
-        HiddenNumber(hidden),
-        &content,
-        &[165u8; 256],
-        &mut [99u32; 23],
-    );
-}
-
-// Hidden 1 goes to slot 1.
-fn write_three(disk: &mut [u8])
-    ensures { λ _. ⌜ now (disk .exit) ≡ threeWritten (now (disk .entry)) ⌝ }
-{
-    write_line(disk, 1, 0, false, 0);
-    write_line(disk, 2, 0, true, 1);
-    write_line(disk, 3, 1, false, 0);
-}
-
-// Hidden 0 goes to slot 0.
-fn write_two(disk: &mut [u8])
-    ensures { λ _. ⌜ now (disk .exit) ≡ twoWritten (now (disk .entry)) ⌝ }
-{
-    write_line(disk, 4, 2, false, 0);
-    write_line(disk, 5, 2, true, 0);
-}
 
 // Writes bytes 7 to numbers 0, 1, 2 and so on up to the last, and then to the last, so many in all.
 fn write_times(disk: &mut [u8], times: u32, last: u32)
@@ -165,9 +113,7 @@ fn make_by(disk: &mut [u8], made: u8, times: u32)
             write_three(disk);
         }
         3 => {
-            format_small(disk);
-            write_three(disk);
-            write_two(disk);
+            write_five(disk);
         }
         4 => {
             format_small(disk);

@@ -1,8 +1,8 @@
 // Holds the code to document 01's figures ("Figures to hold against"), to the examples of its refusal table,
-// and to document 02's figures of K1, K2, K4 and K7, of K3 by the tables of `line_figures` and of K12 by
-// those of `wait_figures`. A row of a table says what is done and what the document says, in flat numbers:
-// their order stands above the table, and their meaning with the row's type. Each figure is printed as a
-// line, and at the end how many rows of each table agree.
+// and to document 02's figures of K1, K2, K4 and K7, of K3 by the tables of `line_figures`, of K12 by those
+// of `wait_figures` and of K5 by those of `recovery_figures`. A row of a table says what is done and what the
+// document says, in flat numbers: their order stands above the table, and their meaning with the row's type.
+// Each figure is printed as a line, and at the end how many rows of each table agree.
 use crate::ask_rows::identity_rows;
 use crate::ask_rows::needs_rows;
 use crate::ask_rows::read_rows;
@@ -14,6 +14,9 @@ use crate::write_rows::write_rows;
 use figure_lines::lines::print_count;
 use line_figures::line_rows::enter_rows;
 use line_figures::line_rows::line_write_rows;
+use recovery_figures::recovery_rows::cut_rows;
+use recovery_figures::recovery_rows::line_cut_rows;
+use recovery_figures::recovery_rows::map_rows;
 use wait_figures::wait_rows::carry_rows;
 use wait_figures::wait_rows::offer_rows;
 use wait_figures::wait_rows::wait_rows;
@@ -42,6 +45,9 @@ fn main() {
     let waits = wait_rows();
     let offers = offer_rows();
     let carries = carry_rows();
+    let cuts = cut_rows();
+    let line_cuts = line_cut_rows();
+    let maps = map_rows();
     print_count(b"size rows that agree", 7, sizes);
     print_count(b"format rows that agree", 33, formats);
     print_count(b"identity rows that agree", 6, identities);
@@ -55,4 +61,7 @@ fn main() {
     print_count(b"wait rows that agree", 6, waits);
     print_count(b"offer rows that agree", 8, offers);
     print_count(b"carry rows that agree", 5, carries);
+    print_count(b"cut rows that agree", 8, cuts);
+    print_count(b"line cut rows that agree", 3, line_cuts);
+    print_count(b"map rows that agree", 11, maps);
 }

@@ -3,7 +3,8 @@
 use mathlib.Core.Path.{ap, _∙_}
 use borrow.Author.Tests.{ne-eqb}
 use borrow.Author.Needs.{needs}
-use Rattle.figures.specs.Drives.{threeWritten, twoWritten, writtenOn, madeBy}
+use Rattle.recovery_figures.specs.Listed.{threeWritten}
+use Rattle.figures.specs.Drives.{writtenOn, madeBy}
 use Rattle.figures.proofs.drives.make_by.Statement.{statement}
 use Rattle.figures.proofs.drives.make_by.Tie as tie
 
@@ -16,17 +17,11 @@ format-small-requires c κs = search needs
 write-three-requires : tie.Need-write-three-requires
 write-three-requires c κs = search needs
 
+write-five-requires : tie.Need-write-five-requires
+write-five-requires c κs = search needs
+
 format-small-requires-2 : tie.Need-format-small-requires-2
 format-small-requires-2 c κs = search needs
-
-write-three-requires-2 : tie.Need-write-three-requires-2
-write-three-requires-2 c κs = search needs
-
-write-two-requires : tie.Need-write-two-requires
-write-two-requires c κs = search needs
-
-format-small-requires-3 : tie.Need-format-small-requires-3
-format-small-requires-3 c κs = search needs
 
 write-times-requires : tie.Need-write-times-requires
 write-times-requires c κs = search needs
@@ -37,8 +32,8 @@ format-drive-requires c κs = search needs
 write-times-requires-2 : tie.Need-write-times-requires-2
 write-times-requires-2 c κs = search needs
 
-format-small-requires-4 : tie.Need-format-small-requires-4
-format-small-requires-4 c κs = search needs
+format-small-requires-3 : tie.Need-format-small-requires-3
+format-small-requires-3 c κs = search needs
 
 same-length : tie.Need-same-length
 same-length c = search needs
@@ -64,12 +59,7 @@ same-length-3 c = search needs
 returns-3 : tie.Need-returns-3
 unfolding madeBy
 returns-3 c =
-    let wrote = c .before .before in
-    let three = wrote .before .before .before .before in
-    let formed = three .before .before .before .before in
-    rw (formed .before .before .match .keys3)
-    (wrote .write-two .ensures ∙
-    ap twoWritten (three .write-three2 .ensures ∙ ap threeWritten (formed .format-small2 .ensures)))
+    let wrote = c .before .before in rw (wrote .before .before .match .keys3) (wrote .write-five .ensures)
 
 same-length-4 : tie.Need-same-length-4
 same-length-4 c = search needs
@@ -80,7 +70,7 @@ returns-4 c =
     let wrote = c .before .before in
     let formed = wrote .before .before .before .before in
     rw (formed .before .before .match .keys4)
-    (wrote .write-times .ensures ∙ ap (writtenOn _ 2) (formed .format-small3 .ensures))
+    (wrote .write-times .ensures ∙ ap (writtenOn _ 2) (formed .format-small2 .ensures))
 
 same-length-5 : tie.Need-same-length-5
 same-length-5 c = search needs
@@ -107,12 +97,12 @@ returns-6 c =
       ne-eqb _ 4 (rest .0 .1),
       ne-eqb _ 5 (rest .1),
     )
-    (c .before .before .format-small4 .ensures)
+    (c .before .before .format-small3 .ensures)
 
 pub make-by-spec : {M : Type 1} → statement M
 make-by-spec =
     tie.close
-    (tie.spec make-slot-requires format-small-requires write-three-requires format-small-requires-2
-    write-three-requires-2 write-two-requires format-small-requires-3 write-times-requires
-    format-drive-requires write-times-requires-2 format-small-requires-4 same-length returns same-length-2
+    (tie.spec make-slot-requires format-small-requires write-three-requires write-five-requires
+    format-small-requires-2 write-times-requires format-drive-requires write-times-requires-2
+    format-small-requires-3 same-length returns same-length-2
     returns-2 same-length-3 returns-3 same-length-4 returns-4 same-length-5 returns-5 same-length-6 returns-6)

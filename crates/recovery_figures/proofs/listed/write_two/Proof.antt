@@ -1,8 +1,8 @@
 -- `write_two` meets its contract: its lines are written one after another. Assumes nothing.
 use borrow.Author.Needs.{needs}
-use Rattle.figures.specs.Drives.{twoWritten}
-use Rattle.figures.proofs.drives.write_two.Statement.{statement}
-use Rattle.figures.proofs.drives.write_two.Tie as tie
+use Rattle.recovery_figures.specs.Listed.{twoWritten}
+use Rattle.recovery_figures.proofs.listed.write_two.Statement.{statement}
+use Rattle.recovery_figures.proofs.listed.write_two.Tie as tie
 
 write-line-requires : tie.Need-write-line-requires
 write-line-requires c κs = search needs

@@ -1,8 +1,8 @@
 -- `write_three` meets its contract: its lines are written one after another. Assumes nothing.
 use borrow.Author.Needs.{needs}
-use Rattle.figures.specs.Drives.{threeWritten}
-use Rattle.figures.proofs.drives.write_three.Statement.{statement}
-use Rattle.figures.proofs.drives.write_three.Tie as tie
+use Rattle.recovery_figures.specs.Listed.{threeWritten}
+use Rattle.recovery_figures.proofs.listed.write_three.Statement.{statement}
+use Rattle.recovery_figures.proofs.listed.write_three.Tie as tie
 
 write-line-requires : tie.Need-write-line-requires
 write-line-requires c κs = search needs

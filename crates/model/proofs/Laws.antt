@@ -24,6 +24,7 @@ pub mod PublicHalf
 pub mod Traces
 pub mod MapStores
 pub mod RoundStores
+pub mod RoundParts
 pub mod Rounds
 pub mod RoundEffects
 pub mod Wrote

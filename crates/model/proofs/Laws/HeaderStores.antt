@@ -58,10 +58,10 @@ module _ {g : Geometry} {disk : Bytes} (drive : DriveOf g disk) where
   accepted-driveOf : Accepted disk
   accepted-driveOf = accepted-of-refusal disk (drive .accepted)
 
-  pub fits-driveOf : Fits g
+  fits-driveOf : Fits g
   fits-driveOf = subst Fits (drive .geometry) (accepted-driveOf .sized .fits)
 
-  pub whole-driveOf : length disk ≡ driveSize g
+  whole-driveOf : length disk ≡ driveSize g
   whole-driveOf = accepted-driveOf .sized .whole ∙ ap driveSize (drive .geometry)
 
   -- its header is such bytes

@@ -32,6 +32,10 @@ InBitmap g address = (1 + mapBlocks g ≤ address) × (address < rootAddress g)
 abbrev pub InFront : Geometry → DiskAddress → Type 0
 InFront g address = (1 ≤ address) × (address < rootAddress g)
 
+pub mapAddress-inFront :
+    (g : Geometry) → Fits g → (number : ℕ) → number < g .publics → InFront g (mapAddress g number)
+mapAddress-inFront g f number h = (omega arith, omega (arith, mapAddress-lt g f number h))
+
 module _ (g : Geometry) (f : Fits g) (disk : Bytes) (whole : length disk ≡ blockCount g * g .blockSize)
     (slot : ℕ) (inside : slot < g .slots) (number : ℕ) (counted : number < g .publics)
     (old : OldPlace g (mapEntry g disk number)) where
@@ -63,7 +67,7 @@ module _ (g : Geometry) (f : Fits g) (disk : Bytes) (whole : length disk ≡ blo
   unfolding addresses mapStores
   mapStores-inFront keepPublic = tt
   mapStores-inFront writePublic = (
-    (omega arith, omega (arith, mapAddress-lt g f number counted)),
+    mapAddress-inFront g f number counted,
     all-map (InBitmap g) (InFront g) (addresses bits) (λ a h. (omega arith, h .1)) bits-inBitmap,
   )
 

@@ -13,7 +13,7 @@ use Rattle.model.specs.Stores.{Trace}
 use Rattle.model.specs.Table.{keepPublic, writePublic}
 use Rattle.model.specs.Rounds.{publicStore, mapStores}
 use Rattle.model.specs.Invariants.{bitmapBit}
-use Rattle.model.proofs.Laws.Geometry.{mapAddress-lt, slotStart-lt}
+use Rattle.model.proofs.Laws.Geometry.{slotStart-lt}
 use Rattle.model.proofs.Laws.Places.{OldPlace}
 use Rattle.model.proofs.Laws.Bitmap.{areaPlace-lt, bitmapBit-block, blockOfBit, blockOfBit-lt}
 use Rattle.model.proofs.Laws.Bitmap.{isAllocated-bit}
@@ -22,10 +22,12 @@ use Rattle.model.proofs.Laws.PublicMap.{mapEntry-mapped-other}
 use Rattle.model.proofs.Laws.Stores.{lastAt-nil}
 use Rattle.model.proofs.Laws.PublicHalf.{withBits, bitmapBit-withBits-new, bitmapBit-withBits-old}
 use Rattle.model.proofs.Laws.PublicHalf.{bitmapBit-withBits-other}
-use Rattle.model.proofs.Laws.MapStores.{InFront, lastAt-mapStores-map, lastAt-mapStores-bit}
+use Rattle.model.proofs.Laws.MapStores.{InFront, mapAddress-inFront, lastAt-mapStores-map}
+use Rattle.model.proofs.Laws.MapStores.{lastAt-mapStores-bit}
 use Rattle.model.proofs.Laws.RoundStores.{afterRound, Round, old-of-round}
-use Rattle.model.proofs.Laws.Rounds.{blockAt-round-front, blockAt-round-start-same}
-use Rattle.model.proofs.Laws.Rounds.{blockAt-round-start-other}
+use Rattle.model.proofs.Laws.RoundParts.{blockAt-parts-front, blockAt-parts-start-same}
+use Rattle.model.proofs.Laws.RoundParts.{blockAt-parts-start-other}
+use Rattle.model.proofs.Laws.Rounds.{parts-round}
 
 module _ {g : Geometry} {disk : Bytes} {number slot : ℕ} {content : Bytes} {hidden : Trace}
     (round : Round g disk number slot content hidden) where
@@ -40,15 +42,13 @@ module _ {g : Geometry} {disk : Bytes} {number slot : ℕ} {content : Bytes} {hi
       blockAt (blockWidth g) kept address ≡ blockAt (blockWidth g) disk address
   unfolding mapStores
   blockAt-kept address h =
-      blockAt-round-front round keepPublic address h
+      blockAt-parts-front (parts-round round keepPublic) address h
       ∙ lastAt-nil address (blockAt (blockWidth g) disk address)
-
-  map-front : (other : ℕ) → other < g .publics → InFront g (mapAddress g other)
-  map-front other h = (omega arith, omega (arith, mapAddress-lt g (round .fits) other h))
 
   pub mapEntry-kept : (other : ℕ) → other < g .publics → mapEntry g kept other ≡ mapEntry g disk other
   mapEntry-kept other h =
-      mapEntry-block g kept disk other (blockAt-kept (mapAddress g other) (map-front other h))
+      mapEntry-block g kept disk other
+      (blockAt-kept (mapAddress g other) (mapAddress-inFront g (round .fits) other h))
 
   pub bitmapBit-kept :
       (place : ℕ) → place < bitmapBlocks g * (8 * g .blockSize) →
@@ -72,12 +72,12 @@ module _ {g : Geometry} {disk : Bytes} {number slot : ℕ} {content : Bytes} {hi
       same :
           other ≡ slot →
           blockAt (blockWidth g) kept (slotStart g other) ≡ blockAt (blockWidth g) disk (slotStart g other)
-      same e = rw e (blockAt-round-start-same round keepPublic)
+      same e = rw e (blockAt-parts-start-same (parts-round round keepPublic))
 
       apart :
           other ≢ slot →
           blockAt (blockWidth g) kept (slotStart g other) ≡ blockAt (blockWidth g) disk (slotStart g other)
-      apart = blockAt-round-start-other round keepPublic other
+      apart = blockAt-parts-start-other (parts-round round keepPublic) other
 
   -- ---- a last round ----
 
@@ -86,7 +86,7 @@ module _ {g : Geometry} {disk : Bytes} {number slot : ℕ} {content : Bytes} {hi
 
   pub blockAt-last-start : blockAt (blockWidth g) last (slotStart g slot) ≡ content
   unfolding publicStore
-  blockAt-last-start = blockAt-round-start-same round writePublic
+  blockAt-last-start = blockAt-parts-start-same (parts-round round writePublic)
 
   -- the map with the new entry
   abbrev entered : Bytes
@@ -96,7 +96,8 @@ module _ {g : Geometry} {disk : Bytes} {number slot : ℕ} {content : Bytes} {hi
       mapEntry g last other ≡ mapEntry g entered other
   mapEntry-last other h =
       mapEntry-block g last entered other
-      (blockAt-round-front round writePublic (mapAddress g other) (map-front other h)
+      (blockAt-parts-front (parts-round round writePublic) (mapAddress g other)
+      (mapAddress-inFront g (round .fits) other h)
       ∙ lastAt-mapStores-map g (round .fits) disk (round .whole) slot (round .inside) number (round .counted)
       (old-of-round round) other h)
 
@@ -122,7 +123,7 @@ module _ {g : Geometry} {disk : Bytes} {number slot : ℕ} {content : Bytes} {hi
       bitmapBit g last place ≡ bitmapBit g bits place
   bitmapBit-last place h =
       bitmapBit-block g last bits place
-      (blockAt-round-front round writePublic (blockOfBit g place)
+      (blockAt-parts-front (parts-round round writePublic) (blockOfBit g place)
       (omega arith, blockOfBit-lt g (round .fits) place h)
       ∙ lastAt-mapStores-bit g (round .fits) disk (round .whole) slot (round .inside) number (round .counted)
       (old-of-round round) (blockOfBit g place) (omega arith))

@@ -21,7 +21,8 @@ use Rattle.model.proofs.Laws.Places.{Placed, isPlace-slotStart, place-o
 use Rattle.model.proofs.Laws.Bitmap.{areaPlace-apart, areaPlace-lt, isAllocated-bit}
 use Rattle.model.proofs.Laws.Refusals.{accepted-of-refusal, refusal-of-accepted}
 use Rattle.model.proofs.Laws.RoundStores.{afterRound, length-round, Round}
-use Rattle.model.proofs.Laws.Rounds.{entryAt-round, headIn-round, blockAt-round-start-other}
+use Rattle.model.proofs.Laws.RoundParts.{blockAt-parts-start-other}
+use Rattle.model.proofs.Laws.Rounds.{parts-round, entryAt-round, headIn-round}
 use Rattle.model.proofs.Laws.RoundEffects.{mapEntry-kept, bitmapBit-kept, isAllocated-kept}
 use Rattle.model.proofs.Laws.RoundEffects.{blockAt-kept-start, blockAt-last-start, mapEntry-last-same}
 use Rattle.model.proofs.Laws.RoundEffects.{mapEntry-last-other, bitmapBit-last-new, bitmapBit-last-old}
@@ -70,7 +71,7 @@ module _ {g : Geometry} {disk : Bytes} {number slot : ℕ} {content : Bytes} {hi
         bit-old = bitmapBit-last-old round;
         bit-other = bitmapBit-last-other round;
         block-new = blockAt-last-start round;
-        block-other = blockAt-round-start-other round writePublic;
+        block-other = blockAt-parts-start-other (parts-round round writePublic);
       }
 
   abbrev kept : Bytes

@@ -12,6 +12,8 @@ use Rattle.model.specs.Layout.{slotStart, levelAddress}
 use Rattle.model.specs.Stores.{Store, Trace, store}
 use Rattle.model.specs.Paths.{linkedNode, nodeStores, pathStores, keptBlock, randomBlocks, dummyStores}
 use Rattle.model.proofs.Laws.Stores.{lastAt, lastAt-nil, lastAt-append, lastAt-same, lastAt-other}
+use Rattle.model.proofs.Laws.RoundParts.{RoundParts, blockAt-parts-root, blockAt-parts-place}
+use Rattle.model.proofs.Laws.RoundParts.{blockAt-parts-place-other}
 use Rattle.model.proofs.Tree.Ghost.{Tree, nodeAt, nodesFrom, length-nodesFrom}
 use Rattle.model.proofs.Tree.Planted.{Apart}
 
@@ -25,6 +27,17 @@ pub record StoredBy (g : Geometry) (slot : ℕ) (disk after : Bytes) (trace : Tr
       blockAt (blockWidth g) after (slotStart g slot + place) ≡
       lastAt trace (slotStart g slot + place) (blockAt (blockWidth g) disk (slotStart g slot + place))
   pub apart : Apart g disk after slot
+
+-- of a round, all of its stores or some, the hidden half's are the trace
+pub stored-of-parts :
+    {g : Geometry} {slot : ℕ} {disk after : Bytes} {public : Store} {hidden map header : Trace} →
+    RoundParts g slot disk after public hidden map header → StoredBy g slot disk after hidden
+stored-of-parts {slot = slot} parts =
+    record {
+      in-root = blockAt-parts-root parts;
+      in-slot = blockAt-parts-place parts slot;
+      apart = λ other place h ne low high. blockAt-parts-place-other parts other place low high ne;
+    }
 
 -- ---- a path ----
 

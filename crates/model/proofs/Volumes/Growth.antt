@@ -14,11 +14,10 @@ use Rattle.model.specs.Blocks.{Bytes}
 use Rattle.model.specs.Table.{PublicChoice}
 use Rattle.model.specs.HiddenHalf.{HiddenState, HiddenHalf, hiddenHalf}
 use Rattle.model.proofs.Laws.RoundStores.{afterRound}
-use Rattle.model.proofs.Laws.Rounds.{blockAt-round-root, blockAt-round-place}
-use Rattle.model.proofs.Laws.Rounds.{blockAt-round-place-other}
+use Rattle.model.proofs.Laws.Rounds.{parts-round}
 use Rattle.model.proofs.Laws.Ready.{Ready, ready-round}
 use Rattle.model.proofs.Tree.Ghost.{Tree, Ghost, valueOf}
-use Rattle.model.proofs.Tree.Stored.{StoredBy}
+use Rattle.model.proofs.Tree.Stored.{StoredBy, stored-of-parts}
 use Rattle.model.proofs.Tree.Turns.{Turn, still, places, Turned, hiddenHalf-turns}
 use Rattle.model.proofs.Volumes.Progress.{Progress, progress-then}
 use Rattle.model.specs.Promises.ReadAfterWrite.{shownAfter}
@@ -97,12 +96,8 @@ module _ (g : Geometry) (f : Fits g) (number : ℕ) (counted : number < g .publi
 
   stored : (choice : PublicChoice) → StoredBy g slot disk (after choice) (part .trace)
   stored choice =
-      let round = ready-round g f number counted content sized most disk slot random state ready in
-      record {
-        in-root = blockAt-round-root round choice;
-        in-slot = blockAt-round-place round choice slot;
-        apart = λ other place h ne low high. blockAt-round-place-other round choice other place low high ne;
-      }
+      stored-of-parts
+      (parts-round (ready-round g f number counted content sized most disk slot random state ready) choice)
 
   pub round-grew :
       (choice : PublicChoice) (tree : Tree) → Ghost g disk tree →

@@ -25,12 +25,11 @@ use Rattle.model.proofs.Laws.Places.{Placed}
 use Rattle.model.proofs.Laws.Accepted.{GoodWrite}
 use Rattle.model.proofs.Laws.HiddenHalf.{HidesHalf, hiddenHalf-hides}
 use Rattle.model.proofs.Laws.RoundStores.{afterRound, length-round, Round}
-use Rattle.model.proofs.Laws.Rounds.{blockAt-round-root, blockAt-round-place}
-use Rattle.model.proofs.Laws.Rounds.{blockAt-round-place-other}
+use Rattle.model.proofs.Laws.Rounds.{parts-round}
 use Rattle.model.proofs.Laws.Wrote.{placed-kept}
 use Rattle.model.proofs.Laws.Ready.{runFrom-kept, runFrom-last}
 use Rattle.model.proofs.Tree.Ghost.{Tree, Ghost}
-use Rattle.model.proofs.Tree.Stored.{StoredBy}
+use Rattle.model.proofs.Tree.Stored.{StoredBy, stored-of-parts}
 use Rattle.model.proofs.Waiting.Live.{Near}
 use Rattle.model.proofs.Waiting.Rounds.{roundsLeft, RoundWaits, first-placed, nearer, turn-of-round}
 
@@ -156,12 +155,7 @@ module _ (g : Geometry) (f : Fits g) (number : ℕ) (counted : number < g .publi
         }
 
     stored : (choice : PublicChoice) → StoredBy g slot disk (after choice) (now .trace)
-    stored choice =
-        record {
-          in-root = blockAt-round-root this choice;
-          in-slot = blockAt-round-place this choice slot;
-          apart = λ other place h ne low high. blockAt-round-place-other this choice other place low high ne;
-        }
+    stored choice = stored-of-parts (parts-round this choice)
 
     this-waits : (choice : PublicChoice) → RoundWaits g (after choice) slot state (now .state) index front
     this-waits choice =

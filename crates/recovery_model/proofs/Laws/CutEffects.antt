@@ -19,11 +19,11 @@ use Rattle.model.proofs.Laws.Geometry.{slotStart-lt}
 use Rattle.model.proofs.Laws.PublicMap.{mapEntry-block, mapped, mapEntry-mapped-same, mapEntry-mapped-other}
 use Rattle.model.proofs.Laws.Stores.{lastAt, lastAt-nil}
 use Rattle.model.proofs.Laws.Traces.{publicStore-keep, publicStore-write, mapStores-keep}
-use Rattle.model.proofs.Laws.MapStores.{lastAt-take-mapStores-map}
+use Rattle.model.proofs.Laws.MapStores.{mapAddress-inFront, lastAt-take-mapStores-map}
 use Rattle.model.proofs.Laws.RoundStores.{Round, old-of-round}
-use Rattle.recovery_model.proofs.Laws.CutRounds.{cutRound, map-cutRound}
-use Rattle.recovery_model.proofs.Laws.CutRounds.{blockAt-cutRound-start-same}
-use Rattle.recovery_model.proofs.Laws.CutRounds.{blockAt-cutRound-start-other}
+use Rattle.model.proofs.Laws.RoundParts.{blockAt-parts-front, blockAt-parts-start-same}
+use Rattle.model.proofs.Laws.RoundParts.{blockAt-parts-start-other}
+use Rattle.recovery_model.proofs.Laws.CutRounds.{cutRound, parts-cutRound}
 
 module _ {g : Geometry} {disk : Bytes} {number slot : ℕ} {content : Bytes} {hidden : Trace}
     (round : Round g disk number slot content hidden) where
@@ -39,7 +39,8 @@ module _ {g : Geometry} {disk : Bytes} {number slot : ℕ} {content : Bytes} {hi
         other < g .publics → mapEntry g cut other ≡ mapEntry g disk other
     map-none none other h =
         mapEntry-block g cut disk other
-        (map-cutRound round choice count other h
+        (blockAt-parts-front (parts-cutRound round choice count) (mapAddress g other)
+        (mapAddress-inFront g (round .fits) other h)
         ∙ ap (λ (xs : Trace).
         lastAt xs (mapAddress g other) (blockAt (blockWidth g) disk (mapAddress g other))) none
         ∙ lastAt-nil (mapAddress g other) _)
@@ -72,7 +73,8 @@ module _ {g : Geometry} {disk : Bytes} {number slot : ℕ} {content : Bytes} {hi
     mapEntry-entered other h =
         let more : count - length hidden ≡ suc (count - length hidden - 1) = omega arith in
         mapEntry-block g (cutRound round writePublic count) entered other
-        (map-cutRound round writePublic count other h
+        (blockAt-parts-front (parts-cutRound round writePublic count) (mapAddress g other)
+        (mapAddress-inFront g (round .fits) other h)
         ∙ ap (λ (made : ℕ). lastAt (take made (mapStores writePublic g disk number slot)) (mapAddress g other)
         (blockAt (blockWidth g) disk (mapAddress g other))) more
         ∙ lastAt-take-mapStores-map g (round .fits) disk (round .whole) slot (round .inside) number
@@ -102,13 +104,13 @@ module _ {g : Geometry} {disk : Bytes} {number slot : ℕ} {content : Bytes} {hi
   blockAt-cut-kept count other = ⊎-elim
       (λ e.
       rw e
-      (blockAt-cutRound-start-same round keepPublic count
+      (blockAt-parts-start-same (parts-cutRound round keepPublic count)
       ∙ ap (λ (x : Store). x .content) (publicStore-keep g disk slot content)))
-      (blockAt-cutRound-start-other round keepPublic count other) (eq-cases other slot)
+      (blockAt-parts-start-other (parts-cutRound round keepPublic count) other) (eq-cases other slot)
 
   -- a last round has the call's data in the slot
   pub blockAt-cut-last :
       (count : ℕ) → blockAt (blockWidth g) (cutRound round writePublic count) (slotStart g slot) ≡ content
   blockAt-cut-last count =
-      blockAt-cutRound-start-same round writePublic count
+      blockAt-parts-start-same (parts-cutRound round writePublic count)
       ∙ ap (λ (x : Store). x .content) (publicStore-write g disk slot content)

@@ -120,12 +120,12 @@ module _ (g : Geometry) (f : Fits g) where
       sized : length (bitmapWith g disk slot true) ≡ g .blockSize
       sized = length-bitmapWith g f disk whole slot inside true
 
-      pub length-withMark : length (withMark g slot disk) ≡ length disk
+      length-withMark : length (withMark g slot disk) ≡ length disk
       length-withMark =
           length-setBlock (blockWidth g) disk (blockCount g) whole (bitAddress g slot) bitAddress-inside
           (bitmapWith g disk slot true) sized
 
-      pub blockAt-withMark-elsewhere :
+      blockAt-withMark-elsewhere :
           (address : DiskAddress) → Elsewhere g address →
           blockAt (blockWidth g) (withMark g slot disk) address ≡ blockAt (blockWidth g) disk address
       blockAt-withMark-elsewhere address h =

@@ -125,7 +125,7 @@ module _ (g : Geometry) (disk torn : Bytes) (states : geometryIn disk ≡ g) (go
   abbrev states-torn : geometryIn torn ≡ g
   states-torn = geometryIn-torn g disk torn states before same
 
-  pub recoveryRefusal-torn : recoveryRefusal torn ≡ 0
+  recoveryRefusal-torn : recoveryRefusal torn ≡ 0
   recoveryRefusal-torn =
       recoveryRefusal-of-goodMap g torn states-torn (driveRefusal-torn g disk torn states before same)
       (goodMap-same g disk torn (mapEntry-torn g disk torn states before same)

@@ -18,15 +18,15 @@ use Rattle.model.specs.Table.{PublicChoice, keepPublic, writePublic}
 use Rattle.model.specs.HiddenHalf.{HiddenState, HiddenHalf, hiddenHalf}
 use Rattle.model.specs.Rounds.{Run, followedBy, roundTrace}
 use Rattle.model.proofs.Laws.RoundStores.{afterRound, Round}
+use Rattle.model.proofs.Laws.RoundParts.{blockAt-parts-start-other}
 use Rattle.model.proofs.Laws.RoundEffects.{mapEntry-kept, isAllocated-kept, blockAt-kept-start}
 use Rattle.model.proofs.Laws.Ready.{Ready, ready-round}
 use Rattle.model.proofs.Tree.Ghost.{Tree, Ghost}
-use Rattle.model.proofs.Tree.Stored.{StoredBy}
+use Rattle.model.proofs.Tree.Stored.{StoredBy, stored-of-parts}
 use Rattle.model.proofs.Tree.Turns.{still, hiddenHalf-turns}
 use Rattle.model.proofs.Volumes.Growth.{Grew, grew-of-turned, grew-then, round-grew}
 use Rattle.recovery_model.proofs.Laws.CutHalves.{length-half}
-use Rattle.recovery_model.proofs.Laws.CutRounds.{cutRound, cutRound-stored}
-use Rattle.recovery_model.proofs.Laws.CutRounds.{blockAt-cutRound-start-other}
+use Rattle.recovery_model.proofs.Laws.CutRounds.{cutRound, parts-cutRound}
 use Rattle.recovery_model.proofs.Laws.CutEffects.{mapEntry-cut-before, mapEntry-cut-kept}
 use Rattle.recovery_model.proofs.Laws.CutEffects.{mapEntry-cut-same, mapEntry-cut-other}
 use Rattle.recovery_model.proofs.Laws.CutEffects.{blockAt-cut-kept, blockAt-cut-last}
@@ -87,7 +87,7 @@ module _ (g : Geometry) (f : Fits g) (number : ℕ) (counted : number < g .publi
     cut-untouched short =
         grew-of-turned g f disk cut tree state state
         (hiddenHalf-untouched g f disk tree (ready .whole) ghost slot (ready .here) state random (ready .good)
-        (this .hides) count short cut (cutRound-stored this choice count))
+        (this .hides) count short cut (stored-of-parts (parts-cutRound this choice count)))
 
     -- the root stored
     pub cut-turned : g .height < count → Grew g disk cut tree state (part .state)
@@ -95,7 +95,8 @@ module _ (g : Geometry) (f : Fits g) (number : ℕ) (counted : number < g .publi
         grew-of-turned g f disk cut tree state (part .state)
         (hiddenHalf-turns g f disk tree (ready .whole) ghost slot (ready .here) state random (ready .good) cut
         (subst (StoredBy g slot disk cut)
-        (take-all count (part .trace) (omega (arith, half-stores))) (cutRound-stored this choice count)))
+        (take-all count (part .trace) (omega (arith, half-stores)))
+        (stored-of-parts (parts-cutRound this choice count))))
 
   -- ---- both ----
 
@@ -129,7 +130,7 @@ module _ (g : Geometry) (f : Fits g) (number : ℕ) (counted : number < g .publi
           grew = grew;
           placed-le = placed-le;
           block-kept = λ other h marked.
-              blockAt-cutRound-start-other this writePublic count other
+              blockAt-parts-start-other (parts-cutRound this writePublic count) other
               (λ e. true-is-not-false marked (ap (isAllocated g disk) e ∙ free));
           map-other = λ other h ne. ⊎-elim
               (λ many. mapEntry-cut-other this count many other h ne)

@@ -83,7 +83,7 @@ abbrev pub withBitmap : (first second : ℕ) → (disk : Bytes) → Bytes
 withBitmap first second disk = setBlock 32 disk 2 (first ∷ second ∷ replicate 30 0)
 
 -- B 32, k 2, P 17, H 1, M 87: blocks 1 to 3 are the map, 4 and 5 the bitmap, D is 7; public 8 is in slot 85,
--- which is block 262, and public 16 in slot 86, which is block 265
+-- which is block 262, and public 16 in slot 86, which is block 265; from the root on all bytes are 165
 abbrev pub wideWith : (bitmap : Bytes) → Bytes
 wideWith bitmap =
     small4 32 ++ small4 2 ++ small4 17 ++ small4 1 ++ small4 87 ++ replicate 44 0 ++

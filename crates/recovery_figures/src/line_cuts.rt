@@ -1,5 +1,5 @@
-// Rows of the same write with a line in the place of the offer: hidden 0, data 8, and behind it hidden 1, data
-// 9.
+// Rows of the same write with a line in the place of the offer: hidden 0, data 8, and behind it hidden 1,
+// data 9.
 use crate::listed::five_lines;
 use crate::tells::hidden_first;
 use crate::tells::tell_recovery;

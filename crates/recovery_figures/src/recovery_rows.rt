@@ -24,7 +24,8 @@ const CUTS: [CutRow; 8] = [
 
 // bound; stores, is cut, waiting; hidden 0, hidden 1
 const LINE_CUTS: [LineCutRow; 3] = [
-    // the root of the third round, which places hidden 1, is store 14; a line that is cut stays as it was lent
+    // the root of the third round, which places hidden 1, is store 14; a line that is cut stays as it was
+    // lent
     LineCutRow(13, 13, 1, 2, 8, 2),
     LineCutRow(14, 14, 1, 2, 8, 9),
     LineCutRow(17, 17, 0, 0, 8, 9),

@@ -60,7 +60,8 @@ module _ (g : Geometry) (disk : Bytes) (entry : DiskAddress) where
   isPlace-no-start e = sym (and-false-left (isAllocated g disk (slotOf g entry)) e)
 
   -- a slot's start is left to the slot's mark
-  pub isPlace-start : isSlotBlock g 0 entry ≡ true → isAllocated g disk (slotOf g entry) ≡ isPlace g disk entry
+  pub isPlace-start :
+      isSlotBlock g 0 entry ≡ true → isAllocated g disk (slotOf g entry) ≡ isPlace g disk entry
   unfolding isPlace
   isPlace-start e = rw e
 

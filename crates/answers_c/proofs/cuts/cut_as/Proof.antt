@@ -12,7 +12,8 @@ digit-of-requires c κs = search needs
 returns : tie.Need-returns
 returns c =
     let a = c .before .args in
-    ap (λ (digit : ℕ). let told : Cut = record { answer = a .answer; stores = a .stores; cut = digit } in told)
+    ap (λ (digit : ℕ).
+    let told : Cut = record { answer = a .answer; stores = a .stores; cut = digit } in told)
     (c .digit-of .ensures)
 
 pub cut-as-spec : {M : Type 1} → statement M

@@ -191,7 +191,8 @@ returns-2 c =
     line-done (a .disk .now) (a .number .0) (a .content .now) (a .random .now) (a .list .now) (a .line)
     (a .blocks .now) (a .bound) (o .accepted) (shapeOf (readOf (headOf found))) (o .same) (head .result)
     (head .ensures) (turnsOf found) (found .turns-of .ensures) (numbers-whole found) (places-whole found)
-    (ran .last .0) (ran .last .1 .0) (ran .result) (ran .ensures) (c .answer-line .result) (c .answer-line .ensures)
+    (ran .last .0) (ran .last .1 .0) (ran .result) (ran .ensures) (c .answer-line .result)
+    (c .answer-line .ensures)
 
 pub turns-within-spec : {M : Type 1} → statement M
 turns-within-spec =

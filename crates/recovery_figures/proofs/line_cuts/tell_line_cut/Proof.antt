@@ -26,7 +26,9 @@ use Rattle.recovery_figures.proofs.line_cuts.tell_line_cut.Tie as tie
 
 -- the write is made, and nothing of it is compared yet
 abbrev after-write : tie.After-print-figure → tie.After-write-line-cut
-after-write c = c .before .before .before .before .before .before .before .before .before .before .before .before
+after-write c =
+    let shown = c .before .before .before .before .before .before in
+    shown .before .before .before .before .before .before
 
 -- ---- answers ----
 

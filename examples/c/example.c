@@ -1,5 +1,6 @@
-/* Formats a drive, writes both volumes, reads back, lets two offers wait in a line, checks the tree, asks how long the
- * one that is left waits and which drive it is. Built by .ci/run against the proved archive. */
+/* Formats a drive, writes both volumes, reads back, lets two offers wait in a line, recovers from a plug pulled within a
+ * write, checks the tree, asks how long the offer that is left waits and which drive it is. Built by .ci/run against the
+ * proved archive. */
 #include <inttypes.h>
 #include <stdio.h>
 #include <string.h>
@@ -81,6 +82,21 @@ static void show(const char *volume, uint32_t number, pddm_found found)
         printf("%s %u: %.*s\n", volume, number, BLOCK, (const char *)disk + (size_t)found.address * BLOCK);
 }
 
+/* A write of a text within which the plug is pulled, and what is done at plugging in. */
+static void pull_plug(uint32_t number, const char *text, size_t stores)
+{
+    uint8_t data[BLOCK] = {0};
+    pddm_needs needs = pddm_write_needs(disk, sizeof disk, number);
+    memcpy(data, text, strlen(text));
+    pddm_cut cut = pddm_write_cut(disk, sizeof disk, number, data, BLOCK, false, 0, NULL, 0, random_bytes,
+                                  needs.random_blocks * BLOCK, list, needs.stores, stores);
+    printf("write %u, plug pulled: answer %u, cut %u", number, cut.answer, cut.cut);
+    print_stores(cut.stores);
+    show("public", number, pddm_public_find(disk, sizeof disk, number, blank, BLOCK));
+    printf("recover: %u\n", pddm_recover(disk, sizeof disk));
+    show("public", number, pddm_public_find(disk, sizeof disk, number, blank, BLOCK));
+}
+
 /* The hidden volume as its owner sees it: what waits comes before what is on the drive. */
 static void show_through_line(void)
 {
@@ -109,6 +125,7 @@ int main(void)
     show_through_line();
     write_text_with_line(2, "agenda");
     show_through_line();
+    pull_plug(1, "travel expenses, paid", 5);
     printf("check: %u\n", pddm_check_tree(disk, sizeof disk));
     pddm_wait wait = pddm_wait_rounds(disk, sizeof disk);
     printf("wait: answer %u, rounds %u\n", wait.answer, wait.rounds);

@@ -10,10 +10,10 @@ use Rattle.model.specs.Refusals.{publicReadRefusal}
 use Rattle.model.specs.Calls.{Written, written}
 use Rattle.model.specs.Promises.Figures.{filled}
 use Rattle.model.specs.Promises.Limits.{oneOffer}
-use Rattle.model.specs.Promises.TreeFigures.{fiveLines}
 use Rattle.recovery_model.specs.Cuts.{cutTrace, isCut, cutDisk, cutList}
 use Rattle.recovery_model.specs.Recovery.{recovered, recoveryRefusal}
 use Rattle.figure_lines.specs.Counts.{isListed}
+use Rattle.recovery_figures.specs.Listed.{fiveDrive}
 use Rattle.recovery_figures.specs.Tells.{publicFirst, hiddenFirst, bitsTold}
 use Rattle.recovery_figures.specs.declared.cuts.CutRow.{CutRow}
 
@@ -48,9 +48,9 @@ mendedTold row disk =
 
 -- ---- a row ----
 
-unfoldable pub cutHolds : CutRow → (disk : Bytes) → Bool
+abbrev pub cutHolds : CutRow → (disk : Bytes) → Bool
 cutHolds row disk =
     cutTold row (pulledOn disk 23) && mendedTold row (cutDisk (row .0) (pulledOn disk 23) disk)
 
-abbrev pub cutAgrees : CutRow → Bool
-cutAgrees row = cutHolds row fiveLines
+unfoldable pub cutAgrees : CutRow → Bool
+cutAgrees row = cutHolds row fiveDrive

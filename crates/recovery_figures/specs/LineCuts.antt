@@ -7,13 +7,13 @@ use Rattle.model.specs.Blocks.{Bytes}
 use Rattle.model.specs.Table.{digit}
 use Rattle.model.specs.Calls.{Written, inLine, written}
 use Rattle.model.specs.Promises.Figures.{filled}
-use Rattle.model.specs.Promises.TreeFigures.{fiveLines}
 use Rattle.recovery_model.specs.Cuts.{cutTrace, isCut, cutDisk}
 use Rattle.recovery_model.specs.Recovery.{recovered, recoveryRefusal}
 use Rattle.line.specs.declared.offers.Line.{Line}
 use Rattle.line.specs.Offers.{lineOf}
 use Rattle.mapper.specs.Within.{lineWithin}
 use Rattle.line_cases.specs.Offers.{lineSaid}
+use Rattle.recovery_figures.specs.Listed.{fiveDrive}
 use Rattle.recovery_figures.specs.Tells.{hiddenFirst}
 use Rattle.recovery_figures.specs.declared.line_cuts.LineCutRow.{LineCutRow}
 
@@ -48,9 +48,9 @@ lineMendedTold row disk =
 
 -- ---- a row ----
 
-unfoldable pub lineCutHolds : LineCutRow → (disk : Bytes) → Bool
+abbrev pub lineCutHolds : LineCutRow → (disk : Bytes) → Bool
 lineCutHolds row disk =
     lineCutTold row disk && lineMendedTold row (cutDisk (row .0) (linePulledOn disk) disk)
 
-abbrev pub lineCutAgrees : LineCutRow → Bool
-lineCutAgrees row = lineCutHolds row fiveLines
+unfoldable pub lineCutAgrees : LineCutRow → Bool
+lineCutAgrees row = lineCutHolds row fiveDrive

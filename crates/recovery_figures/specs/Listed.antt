@@ -1,4 +1,5 @@
 -- Lines of the listing, written on a disk. Assumes nothing.
+use lib.ListN.{replicate}
 use Rattle.model.specs.Blocks.{Bytes}
 use Rattle.model.specs.Calls.{formatted, nothing}
 use Rattle.model.specs.Promises.Figures.{small}
@@ -15,3 +16,7 @@ twoWritten disk = listedOn (listedOn disk 4 2 nothing) 5 2 (oneOffer 0 5)
 -- formatted, and all five lines
 abbrev pub fiveWritten : (disk : Bytes) → Bytes
 fiveWritten disk = twoWritten (threeWritten (formatted disk small))
+
+-- on zeros: the model's `fiveLines`
+unfoldable pub fiveDrive : Bytes
+fiveDrive = fiveWritten (replicate 512 0)

@@ -8,9 +8,8 @@ ghost use mathlib.Core.Path.{_≡_};
 ghost use Rattle.model.specs.Calls.{formatted};
 ghost use Rattle.model.specs.Promises.Figures.{filled, small};
 ghost use Rattle.model.specs.Promises.Limits.{listedOn};
-ghost use Rattle.model.specs.Promises.TreeFigures.{fiveLines};
 ghost use Rattle.mapper.specs.Writes.{callOffer};
-ghost use Rattle.recovery_figures.specs.Listed.{threeWritten, twoWritten, fiveWritten};
+ghost use Rattle.recovery_figures.specs.Listed.{threeWritten, twoWritten, fiveWritten, fiveDrive};
 
 const SMALL: Geometry = Geometry {
     block_size: 32,
@@ -72,7 +71,7 @@ pub fn write_five(disk: &mut [u8])
 
 // The drive after the five lines, on zeros.
 pub fn five_lines() -> [u8; 512]
-    ensures { λ r. ⌜ r ≡ fiveLines ⌝ }
+    ensures { λ r. ⌜ r ≡ fiveDrive ⌝ }
 {
     let mut disk = [0u8; 512];
     write_five(&mut disk);

@@ -4,8 +4,8 @@ use mathlib.Core.Path.{_≡_, ap, _∙_}
 use mathlib.Core.Bool.{Bool, _&&_}
 use borrow.Author.Needs.{needs}
 use Rattle.model.specs.Blocks.{Bytes}
-use Rattle.model.specs.Promises.TreeFigures.{fiveLines}
 use Rattle.recovery_model.specs.Cuts.{cutDisk}
+use Rattle.recovery_figures.specs.Listed.{fiveDrive}
 use Rattle.recovery_figures.specs.declared.cuts.CutRow.{CutRow}
 use Rattle.recovery_figures.specs.Cuts.{pulledOn, cutTold, mendedTold, cutHolds, cutAgrees}
 use Rattle.recovery_figures.proofs.cuts.run_cut.Statement.{statement}
@@ -13,10 +13,10 @@ use Rattle.recovery_figures.proofs.cuts.run_cut.Tie as tie
 
 -- what is told of the cut, and of what it leaves
 row-agrees :
-    {drive torn : Bytes} {told mended : Bool} (row : CutRow) → drive ≡ fiveLines →
+    {drive torn : Bytes} {told mended : Bool} (row : CutRow) → drive ≡ fiveDrive →
     told ≡ cutTold row (pulledOn drive 23) → torn ≡ cutDisk (row .0) (pulledOn drive 23) drive →
     mended ≡ mendedTold row torn → (told && mended) ≡ cutAgrees row
-unfolding cutHolds
+unfolding cutAgrees
 row-agrees {drive} row drive-is told-is torn-is mended-is =
     rw (told-is, mended-is)
     (ap (λ (left : Bytes). cutTold row (pulledOn drive 23) && mendedTold row left) torn-is

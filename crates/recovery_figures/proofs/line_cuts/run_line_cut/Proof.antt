@@ -4,8 +4,8 @@ use mathlib.Core.Path.{_≡_, ap, _∙_}
 use mathlib.Core.Bool.{Bool, _&&_}
 use borrow.Author.Needs.{needs}
 use Rattle.model.specs.Blocks.{Bytes}
-use Rattle.model.specs.Promises.TreeFigures.{fiveLines}
 use Rattle.recovery_model.specs.Cuts.{cutDisk}
+use Rattle.recovery_figures.specs.Listed.{fiveDrive}
 use Rattle.recovery_figures.specs.declared.line_cuts.LineCutRow.{LineCutRow}
 use Rattle.recovery_figures.specs.LineCuts.{linePulledOn, lineCutTold, lineMendedTold}
 use Rattle.recovery_figures.specs.LineCuts.{lineCutHolds, lineCutAgrees}
@@ -14,10 +14,10 @@ use Rattle.recovery_figures.proofs.line_cuts.run_line_cut.Tie as tie
 
 -- what is told of the cut, and of what it leaves
 row-agrees :
-    {drive torn : Bytes} {told mended : Bool} (row : LineCutRow) → drive ≡ fiveLines →
+    {drive torn : Bytes} {told mended : Bool} (row : LineCutRow) → drive ≡ fiveDrive →
     told ≡ lineCutTold row drive → torn ≡ cutDisk (row .0) (linePulledOn drive) drive →
     mended ≡ lineMendedTold row torn → (told && mended) ≡ lineCutAgrees row
-unfolding lineCutHolds
+unfolding lineCutAgrees
 row-agrees {drive} row drive-is told-is torn-is mended-is =
     rw (told-is, mended-is)
     (ap (λ (left : Bytes). lineCutTold row drive && lineMendedTold row left) torn-is

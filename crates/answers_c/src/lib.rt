@@ -1,5 +1,7 @@
 // What the calls answer, in the structs of numbers that C is told (include/pddm.h): each is made of what the
 // mapper tells.
+#![tactic(auto)]
+
 pub mod drives; // which drive a disk is, and how large a drive is
 pub mod finds; // where a block stands, on the drive or among the lent ones
 pub mod needs; // what a write takes

@@ -3,6 +3,8 @@
 // of `wait_figures` and of K5 by those of `recovery_figures`. A row of a table says what is done and what the
 // document says, in flat numbers: their order stands above the table, and their meaning with the row's type.
 // Each figure is printed as a line, and at the end how many rows of each table agree.
+#![tactic(auto)]
+
 use crate::ask_rows::{identity_rows, needs_rows, read_rows};
 use crate::layout_rows::{format_rows, size_rows};
 use crate::tree_rows::tree_rows;

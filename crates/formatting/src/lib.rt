@@ -1,5 +1,7 @@
 // Formatting: header (head 0), map, bitmap and root, all zero but for the header's entries; the data area
 // stays.
+#![tactic(auto)]
+
 ghost use Rattle.std.specs.Prelude.{◌≡◌, ◌≤◌, length};
 ghost use Rattle.laws.specs.Lists.{over};
 ghost use Rattle.model.specs.Blocks.{packed};

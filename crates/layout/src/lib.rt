@@ -1,6 +1,8 @@
 // Where things stand on a drive (document 01, "The disk"): numbers and addresses, entries, the geometry, its
 // refusals, blocks, the levels of a slot, the bitmap and the public map. Every function's answer is an
 // equation with a definition of `model`.
+#![tactic(auto)]
+
 pub mod numbers; // numbers of both volumes and disk addresses, never taken one for the other
 pub mod entries; // entries of four bytes, least byte first
 pub mod geometry; // the five numbers of a drive, the areas that they lay out, and their limits

@@ -1,5 +1,7 @@
 // A line of offers lent as a slice (document 02, K3): loaded into a line by value before a call works on it,
 // and saved back after it. What lies past the line that is handed over is neither looked at nor changed.
+#![tactic(auto)]
+
 ghost use Rattle.std.specs.Prelude.{◌≡◌, ◌≤◌, length, take, drop};
 ghost use Rattle.laws.specs.Lists.{over};
 ghost use Rattle.lent_line.specs.Lent.{most_of, pushed_all, loaded_line, saved_offers};

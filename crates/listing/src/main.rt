@@ -1,5 +1,7 @@
 // The listing of document 01 ("Figures to hold against"): reads lines of values from standard input, makes a
 // write of each on a drive of its own, and prints a heading and a line for each write.
+#![tactic(auto)]
+
 mod writes; // the write of one line, and its line of output
 mod progress; // where a listing stands, byte by byte
 

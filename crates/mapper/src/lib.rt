@@ -4,6 +4,8 @@
 // hidden tree (document 02, K1) in `tree_check`, recovery (K5) in `recovery`, an offer that enters a line and
 // the hidden read through it in `line_calls`; the writes are here, and their inner form with a bound on the
 // stores (K5), of which the whole write is the one that is not cut.
+#![tactic(auto)]
+
 mod cuts; // the write, stopped after so many stores
 mod offers; // the hidden write that is offered: its refusal, and its turn
 mod within; // the inner form: the write up to a bound, with an offer or without one, or with a line of offers

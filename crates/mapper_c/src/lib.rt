@@ -1,5 +1,7 @@
 // The calls of the mapper for C (include/pddm.h): each takes numbers and lent bytes and answers numbers. None
 // has a `requires`: each contract fixes the answer and the bytes that the call leaves, for every input.
+#![tactic(auto)]
+
 mod formatting; // an empty drive
 mod drives; // which drive a disk is, and how large a drive is
 mod finds; // where the block of a number stands, in either volume

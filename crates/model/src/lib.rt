@@ -1,5 +1,7 @@
 // Document 01, with K1 to K3 and K12 of document 02, as definitions, their laws, and what is promised of
 // them. There is no code here but `promises`.
+#![tactic(auto)]
+
 ghost use Rattle.model.specs.Promises.Figures.{Figures};
 ghost use Rattle.model.specs.Promises.Limits.{Limits};
 ghost use Rattle.model.specs.Promises.RoundFigures.{RoundFigures};

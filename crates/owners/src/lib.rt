@@ -1,5 +1,7 @@
 // Whose slot it is, the walk of its owner, and what that walk says of the slot (document 01, "A round",
 // "Hidden").
+#![tactic(auto)]
+
 ghost use Rattle.std.specs.Prelude.{◌≡◌, ◌<◌};
 ghost use Rattle.model.specs.Geometry.{Fits};
 ghost use Rattle.model.specs.Layout.{Drive, level_address};

@@ -3,5 +3,7 @@
 // block is taken from the disk just before it is stored, which is proved to be the same
 // (docs/DECISIONS.md, 51). A bound on the stores of a write cuts it in any round (document 02, K5): those
 // before it are made and no others.
+#![tactic(auto)]
+
 pub mod rounds; // one round
 pub mod runs; // the rounds of a write

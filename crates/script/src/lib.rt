@@ -1,5 +1,7 @@
 // The listing's lines (document 01, "Figures to hold against"): what a line of input means, and how a line of
 // output is spelt. No function here reads or writes a file.
+#![tactic(auto)]
+
 ghost use Rattle.script.specs.Samples.{OutputSamples, InputSamples, Decimals};
 
 pub mod lines; // a line of input: public number, one space, and offered number or `-`

@@ -1,5 +1,7 @@
 // The table of eight rows (document 01, "A round"): what a round does with the public block and with the
 // hidden blocks of its slot, as a constant that is looked up by three answers.
+#![tactic(auto)]
+
 ghost use Rattle.std.specs.Prelude.{◌≡◌, ◌≤◌, ◌<◌};
 ghost use Rattle.model.specs.Table.{digit, row_index, row_at};
 ghost use Rattle.table.specs.Rows.{table_row_of};

@@ -1,5 +1,7 @@
 // Document 02's figures of how long an offer waits (K12), as rows: what the call tells of a drive, and how
 // long the offers of a line wait that writes carry along.
+#![tactic(auto)]
+
 mod drives; // the drive of the rows
 mod tells; // what the call tells
 mod offers; // how long an offer waits that is made with each write

@@ -130,8 +130,10 @@ pub drive_of-apply :
     {g : Geometry} {disk : Bytes} (xs : Trace) → All (KeepsDrive g) xs → DriveOf g disk →
     DriveOf g (apply (block_width g) xs disk)
 unfolding apply
-drive_of-apply [] keeps drive = drive
-drive_of-apply (x ∷ xs) keeps drive = drive_of-apply xs keeps.1 (drive_of-set_block drive x keeps.0)
+drive_of-apply {g = g} {disk = disk} [] keeps drive = drive
+drive_of-apply {g = g} {disk = disk} (x ∷ xs) keeps drive =
+    drive_of-apply {disk = set_block (block_width g) disk x.address x.content} xs keeps.1
+    (drive_of-set_block drive x keeps.0)
 
 -- ---- the stores of a write ----
 

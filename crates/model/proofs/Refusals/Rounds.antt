@@ -92,6 +92,7 @@ module _ (g : Geometry) (disk : Bytes) where
 store_count_is :
     (g : Geometry) (rounds : ℕ) (entry : DiskAddress) (slot : ℕ) → 1 ≤ rounds →
     store_count g rounds entry slot ≡ stores_of g rounds entry slot
+store_count_is g zero entry slot h = elim h [ ]
 store_count_is g (suc rounds) entry slot h = by (is_one_block g entry slot)
   where
     by : (isOne : Bool) →

@@ -87,6 +87,8 @@ module _ (g : Geometry) (f : Fits g) where
       (product (span g level) (entries_in g level) (span_positive level) (entries_in_positive level))
     where
       product : (n m : ℕ) → 0 < n → 0 < m → 0 < n * m
+      product zero m h k = elim h [ ]
+      product (suc n) zero h k = elim k [ ]
       product (suc n) (suc m) h k = omega arith
 
   -- the first number below an entry

@@ -4,7 +4,7 @@ ghost use Rattle.answers_c.specs.Cuts.{cut_said};
 
 // 0 or the refusal, the stores that were made, and 1 where others were left out.
 #[repr(C)]
-#[derive(Drop)]
+#[derive(Clone, Copy)]
 pub struct Cut {
     pub answer: u32,
     pub stores: u32,

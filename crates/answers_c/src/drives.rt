@@ -5,7 +5,7 @@ ghost use Rattle.answers_c.specs.Drives.{identity_said, size_said};
 
 // 0 or the refusal, and the six numbers of the header: B, k, P, H, M and the head; zeros after a refusal.
 #[repr(C)]
-#[derive(Drop)]
+#[derive(Clone, Copy)]
 pub struct Identified {
     pub answer: u32,
     pub block_size: u32,
@@ -34,7 +34,7 @@ pub fn identified_as(identified: questions::drives::Identified) -> Identified
 
 // 0 or 1, and the drive's size in blocks and in bytes; zeros after 1.
 #[repr(C)]
-#[derive(Drop)]
+#[derive(Clone, Copy)]
 pub struct Size {
     pub answer: u32,
     pub blocks: u32,

@@ -6,7 +6,7 @@ use line::offers::held;
 
 // 0 or the refusal, and how many offers of the line wait now.
 #[repr(C)]
-#[derive(Drop)]
+#[derive(Clone, Copy)]
 pub struct Entered {
     pub answer: u32,
     pub waiting: u32,

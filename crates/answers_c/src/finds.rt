@@ -10,7 +10,7 @@ use reads::finds::Find;
 // 0 or the refusal; the kind, 0 refused, 1 the blank, 2 the block at the address, 3 the lent block at that
 // place; the address in blocks, 0 where the kind is neither 2 nor 3.
 #[repr(C)]
-#[derive(Drop)]
+#[derive(Clone, Copy)]
 pub struct Found {
     pub answer: u32,
     pub kind: u32,

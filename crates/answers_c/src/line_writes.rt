@@ -8,7 +8,7 @@ use mapper::outcome_number;
 // 0 or the refusal, the rounds, the stores, what has become of the line's offers (0 none counts, 1 placed,
 // 2 waiting, 3 not tried, 12), how many were placed, and how many wait now.
 #[repr(C)]
-#[derive(Drop)]
+#[derive(Clone, Copy)]
 pub struct LineWritten {
     pub answer: u32,
     pub rounds: u32,

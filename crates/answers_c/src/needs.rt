@@ -6,7 +6,7 @@ ghost use Rattle.answers_c.specs.Needs.{needs_said};
 // 0 or the refusal, the rounds, the stores that the list is to have room for, and the random bytes, counted
 // in blocks; zeros after a refusal.
 #[repr(C)]
-#[derive(Drop)]
+#[derive(Clone, Copy)]
 pub struct Needs {
     pub answer: u32,
     pub rounds: u32,

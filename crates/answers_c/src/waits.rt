@@ -5,7 +5,7 @@ ghost use Rattle.answers_c.specs.Waits.{wait_said};
 
 // 0 or the refusal, and the round in which the first offer that waits is placed; 0 after a refusal.
 #[repr(C)]
-#[derive(Drop)]
+#[derive(Clone, Copy)]
 pub struct Waited {
     pub answer: u32,
     pub rounds: u32,

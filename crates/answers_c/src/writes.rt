@@ -7,7 +7,7 @@ use mapper::outcome_number;
 // 0 or the refusal, the rounds, the stores, and what has become of the offer: 0 none was made, 1 placed,
 // 2 waiting, 3 not tried, 10, 11 or 12.
 #[repr(C)]
-#[derive(Drop)]
+#[derive(Clone, Copy)]
 pub struct Written {
     pub answer: u32,
     pub rounds: u32,

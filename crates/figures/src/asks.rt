@@ -15,7 +15,7 @@ use layout::numbers::{HiddenNumber, PublicNumber};
 use mapper::{hidden_fault, hidden_read, identify, public_fault, public_read, write_needs};
 
 // How the drive is made, an entry put, the bytes lent; the answer, B, k, P, H, M and the head.
-#[derive(Drop)]
+#[derive(Clone, Copy)]
 pub struct IdentityRow(
     pub u8,
     pub usize,
@@ -32,7 +32,7 @@ pub struct IdentityRow(
 
 // How the drive is made, an entry put, the bytes lent, whether the read is hidden, the number and the bytes
 // of the blank, which are 9; the answer, and the first byte shown or 256 for none.
-#[derive(Drop)]
+#[derive(Clone, Copy)]
 pub struct ReadRow(
     pub u8,
     pub usize,
@@ -46,7 +46,7 @@ pub struct ReadRow(
 );
 
 // How the drive is made, how many times, an entry put, the number; the answer, rounds, stores, random blocks.
-#[derive(Drop)]
+#[derive(Clone, Copy)]
 pub struct NeedsRow(
     pub u8,
     pub u32,

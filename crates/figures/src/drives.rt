@@ -32,7 +32,7 @@ pub const MOVED: u8 = 5;
 pub const NO: usize = 65535;
 
 // How it is made, how many times, and two entries put, each by its index over the whole disk.
-#[derive(Drop)]
+#[derive(Clone, Copy)]
 pub struct Drive {
     pub made: u8,
     pub times: u32,

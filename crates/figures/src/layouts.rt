@@ -15,7 +15,7 @@ use mapper::{drive_size, format_drive};
 
 // B, k, P, H, M and a slot; the answer, the blocks T and the bytes, the start D of the data area, and the
 // place of the slot's bit in its bitmap block. Where the answer is not 0, the others are.
-#[derive(Drop)]
+#[derive(Clone, Copy)]
 pub struct SizeRow(
     pub u32,
     pub u32,
@@ -32,7 +32,7 @@ pub struct SizeRow(
 
 // B, k, P, H, M, how many bytes of 170 are formatted, and an entry's index; the answer, and that entry after
 // it.
-#[derive(Drop)]
+#[derive(Clone, Copy)]
 pub struct FormatRow(
     pub u32,
     pub u32,

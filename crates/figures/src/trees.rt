@@ -24,7 +24,7 @@ pub const WALK: u8 = 2;
 
 // How the drive is made, two entries put, the bytes lent, what is asked, an index or a number, a level; the
 // answer.
-#[derive(Drop)]
+#[derive(Clone, Copy)]
 pub struct TreeRow(
     pub u8,
     pub usize,

@@ -19,7 +19,7 @@ pub const NONE: u32 = 4294967295;
 
 // How the drive is made, how many times, an entry put, the bytes lent, the number, the bytes of the data, the
 // random bytes and the room of the list; the answer. Nothing is offered, and nothing is to be stored.
-#[derive(Drop)]
+#[derive(Clone, Copy)]
 pub struct RefusedRow(
     pub u8,
     pub u32,
@@ -36,7 +36,7 @@ pub struct RefusedRow(
 // How the drive is made, how many times, an entry put, the bytes lent, the number, the hidden number offered
 // and the bytes offered, the random bytes and the room of the list; the rounds, the stores, the outcome's
 // number and the addresses stored, with zeros after them.
-#[derive(Drop)]
+#[derive(Clone, Copy)]
 pub struct WriteRow(
     pub u8,
     pub u32,
@@ -56,7 +56,7 @@ pub struct WriteRow(
 
 // The number, the bytes of the data, which are 7, the hidden number offered and the bytes offered, which are
 // 9, and the random bytes, which are 165.
-#[derive(Drop)]
+#[derive(Clone, Copy)]
 pub struct Write {
     pub number: u32,
     pub content: usize,
@@ -66,7 +66,7 @@ pub struct Write {
 }
 
 // What the document says of a write.
-#[derive(Drop)]
+#[derive(Clone, Copy)]
 pub struct Said {
     pub answer: u8,
     pub rounds: u32,

@@ -6,14 +6,14 @@ ghost use Rattle.hidden_map.specs.Nodes.{node_of, address_at, with_address};
 use layout::numbers::DiskAddress;
 
 // A level's node: read at an address, or not reached.
-#[derive(Drop)]
+#[derive(Clone, Copy)]
 pub enum Node {
     Read(DiskAddress),
     NotReached,
 }
 
 // The nodes of levels 1, 2 and 3; those of levels from k on are never reached.
-#[derive(Drop)]
+#[derive(Clone, Copy)]
 pub struct Nodes {
     pub leaf: Node,
     pub middle: Node,

@@ -16,7 +16,7 @@ use layout::geometry::{Geometry, area_start, slot_width};
 use layout::numbers::{DiskAddress, HiddenNumber};
 
 // Where a walk, or one step of it, ends: at an address, at 0, or at an ill-formed entry.
-#[derive(Drop)]
+#[derive(Clone, Copy)]
 pub enum Reached {
     Found(DiskAddress),
     Unmapped,
@@ -24,7 +24,7 @@ pub enum Reached {
 }
 
 // What a walk hands back, its trail: where it ended, and the nodes below the root that it read.
-#[derive(Drop)]
+#[derive(Clone, Copy)]
 pub struct Trail {
     pub end: Reached,
     pub nodes: Nodes,

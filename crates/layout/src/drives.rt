@@ -6,7 +6,7 @@ use crate::geometry::{Geometry, geometry_in, head_in};
 use crate::refusals::size_fault;
 
 // What opening a disk for a call tells: the refusal, or the geometry of the drive.
-#[derive(Drop)]
+#[derive(Clone, Copy)]
 pub enum Opened {
     Refused(u8),
     Good(Geometry),

@@ -12,7 +12,7 @@ use crate::entries::entry_at;
 use crate::numbers::DiskAddress;
 
 // Block size B in bytes, height k of the hidden tree with its root, P public and H hidden blocks, M slots.
-#[derive(Drop)]
+#[derive(Clone, Copy)]
 pub struct Geometry {
     pub block_size: u32,
     pub height: u32,

@@ -6,14 +6,14 @@ use layout::numbers::HiddenNumber;
 
 // A hidden number and the place of its block among the lent blocks, counted in blocks.
 #[repr(C)]
-#[derive(Drop)]
+#[derive(Clone, Copy)]
 pub struct Offer {
     pub number: HiddenNumber,
     pub place: u32,
 }
 
 // The first so many of these offers wait.
-#[derive(Drop)]
+#[derive(Clone, Copy)]
 pub struct Line {
     pub offers: [Offer; 16],
     pub waiting: usize,

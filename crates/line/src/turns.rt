@@ -13,7 +13,7 @@ use layout::geometry::Geometry;
 use layout::numbers::HiddenNumber;
 
 // The hidden numbers and places of the first so many turns.
-#[derive(Drop)]
+#[derive(Clone, Copy)]
 pub struct Turns {
     pub numbers: [u32; 16],
     pub places: [u32; 16],
@@ -21,7 +21,7 @@ pub struct Turns {
 }
 
 // The offer that a round takes, if one waits.
-#[derive(Drop)]
+#[derive(Clone, Copy)]
 pub enum First {
     Nobody,
     Waits(Offer),

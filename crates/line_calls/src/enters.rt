@@ -7,7 +7,7 @@ use line::changes::{offer_fault, room_fault, with_offer};
 use line::offers::{Line, Offer};
 
 // What entering answers, 0 or the refusal, and the line that it leaves.
-#[derive(Drop)]
+#[derive(Clone, Copy)]
 pub struct Entered {
     pub answer: u8,
     pub line: Line,

@@ -17,7 +17,7 @@ use line::waiting::waiting_for;
 use reads::finds::{Find, find_fault, find_hidden, show};
 
 // Where a hidden number's block is: as a read of the drive finds it, or at a place among the lent blocks.
-#[derive(Drop)]
+#[derive(Clone, Copy)]
 pub enum LineFind {
     Drive(Find),
     Lent(u32),

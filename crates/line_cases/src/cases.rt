@@ -17,7 +17,7 @@ use mapper::{LineWritten, format_drive, write_line};
 
 // P, H, M and the root's first entry; how many writes go before with an empty line, how many in all, and the
 // last number that they go to; and the line.
-#[derive(Drop)]
+#[derive(Clone, Copy)]
 pub struct Start {
     pub publics: u32,
     pub hidden: u32,

@@ -13,7 +13,7 @@ use mapper::enter_line;
 
 // The byte that the disk is filled with, its bytes, P, H, M and the root's first entry; the line; the offer's
 // hidden number and place, and how many offers are lent; the answer, and the line after it.
-#[derive(Drop)]
+#[derive(Clone, Copy)]
 pub struct EnterRow(
     pub u8,
     pub usize,

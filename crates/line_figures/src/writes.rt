@@ -26,7 +26,7 @@ use mapper::{LineWritten, hidden_fault_line, hidden_read_line, outcome_number};
 // addresses stored, with 99 after them; of hidden numbers 0 and 1 what a read through the line answers and
 // the first byte shown, or 256 for none, before the write and after it; and what lies after it in the line
 // that was handed over.
-#[derive(Drop)]
+#[derive(Clone, Copy)]
 pub struct WriteRow(
     pub u8,
     pub usize,

@@ -18,7 +18,7 @@ use script::lines::Line;
 
 // Where the bytes so far end, whether more lines are taken, the number of the next line, and how many bytes
 // were last put into the buffer of the output.
-#[derive(Drop)]
+#[derive(Clone, Copy)]
 pub struct Progress {
     pub feed: Feed,
     pub is_open: bool,

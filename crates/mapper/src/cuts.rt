@@ -11,7 +11,7 @@ use layout::numbers::{HiddenNumber, PublicNumber};
 use line::offers::Line;
 
 // 0 or the refusal, the stores that were made, and whether some were left out.
-#[derive(Drop)]
+#[derive(Clone, Copy)]
 pub struct CutWritten {
     pub answer: u8,
     pub stores: u32,
@@ -19,7 +19,7 @@ pub struct CutWritten {
 }
 
 // Likewise, and the line without the numbers that were placed; as it was lent where the write is cut.
-#[derive(Drop)]
+#[derive(Clone, Copy)]
 pub struct LineCutWritten {
     pub answer: u8,
     pub stores: u32,

@@ -23,7 +23,7 @@ use rounds::runs::{Ran, run_write};
 
 // 0 or the refusal, the rounds, the stores that were made, what has become of the offer, and whether stores
 // were left out.
-#[derive(Drop)]
+#[derive(Clone, Copy)]
 pub struct Bounded {
     pub answer: u8,
     pub rounds: u32,
@@ -33,7 +33,7 @@ pub struct Bounded {
 }
 
 // Likewise, how many offers it placed, and the line without their numbers.
-#[derive(Drop)]
+#[derive(Clone, Copy)]
 pub struct LineBounded {
     pub answer: u8,
     pub rounds: u32,

@@ -12,7 +12,7 @@ use line::offers::Line;
 
 // What has become of the offer: none was made, placed, waiting, not tried since the write is refused, 10, 11,
 // or 12.
-#[derive(Drop)]
+#[derive(Clone, Copy)]
 pub enum Outcome {
     NoWrite,
     Placed,
@@ -39,7 +39,7 @@ pub fn outcome_number(outcome: Outcome) -> u8
 }
 
 // 0 or the refusal, the rounds, the stores, and what has become of the offer.
-#[derive(Drop)]
+#[derive(Clone, Copy)]
 pub struct Written {
     pub answer: u8,
     pub rounds: u32,
@@ -48,7 +48,7 @@ pub struct Written {
 }
 
 // Likewise, how many offers it placed, and the line without their numbers.
-#[derive(Drop)]
+#[derive(Clone, Copy)]
 pub struct LineWritten {
     pub answer: u8,
     pub rounds: u32,

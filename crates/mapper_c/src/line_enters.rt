@@ -10,7 +10,7 @@ use line::offers::{Line, Offer};
 use line_calls::enters::enter_line;
 
 // What entering tells, and the line that it leaves.
-#[derive(Drop)]
+#[derive(Clone, Copy)]
 struct EnteredLine {
     told: Entered,
     line: Line,

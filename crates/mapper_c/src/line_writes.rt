@@ -12,7 +12,7 @@ use line::offers::{Line, Offer};
 use mapper::write_line;
 
 // What a write tells, and the line that it leaves.
-#[derive(Drop)]
+#[derive(Clone, Copy)]
 struct WrittenLine {
     told: LineWritten,
     line: Line,

@@ -19,7 +19,7 @@ use layout::levels::level_address;
 use layout::numbers::HiddenNumber;
 
 // Nobody, or the hidden number that a slot belongs to, with the trail of its walk.
-#[derive(Drop)]
+#[derive(Clone, Copy)]
 pub enum Owner {
     Nobody,
     Number(HiddenNumber, Trail),

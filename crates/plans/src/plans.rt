@@ -21,7 +21,7 @@ use owners::{Owner, is_live, is_owner_damaged, owner_of, walk_owner};
 use table::{HiddenChoice, PublicChoice, row_at};
 
 // The choice for the public block, the plan of the hidden half, and what it does with the first one waiting.
-#[derive(Drop)]
+#[derive(Clone, Copy)]
 pub struct Plans {
     pub choice: PublicChoice,
     pub plan: HiddenPlan,

@@ -10,7 +10,7 @@ use table::PublicChoice;
 
 // The bits that change when a public number goes to a slot: the slot's alone, for a number that had no place;
 // else also that of the slot that it leaves, in the same bitmap block or in another.
-#[derive(Drop)]
+#[derive(Clone, Copy)]
 pub enum Bits {
     New,
     Shared(u32),
@@ -18,7 +18,7 @@ pub enum Bits {
 }
 
 // The slot's public block is kept; or it takes the call's data, and then a number's entry and bits follow.
-#[derive(Drop)]
+#[derive(Clone, Copy)]
 pub enum PublicPlan {
     Keep,
     Write(PublicNumber, Bits),

@@ -5,7 +5,7 @@ ghost use Rattle.plans.specs.States.{is_waiting_first, state_after};
 use line::turns::First;
 
 // A round leaves what waits, places the first one, or is written back for damage.
-#[derive(Drop)]
+#[derive(Clone, Copy)]
 pub enum Turn {
     Still,
     Placed,
@@ -13,7 +13,7 @@ pub enum Turn {
 }
 
 // How many are placed, and whether a round was written back for damage.
-#[derive(Drop)]
+#[derive(Clone, Copy)]
 pub struct State {
     pub placed: usize,
     pub met_damage: bool,

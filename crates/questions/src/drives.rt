@@ -9,7 +9,7 @@ use layout::geometry::{Geometry, block_count, head_in, is_geometry};
 // ---- which drive a disk is ----
 
 // 0 with the geometry and the head, or the refusal with zeros.
-#[derive(Drop)]
+#[derive(Clone, Copy)]
 pub struct Identified {
     pub answer: u8,
     pub geometry: Geometry,
@@ -52,7 +52,7 @@ pub fn identify(disk: &[u8]) -> Identified
 // ---- how large a drive is ----
 
 // 0 with the drive's size in blocks and in bytes, or 1 with zeros.
-#[derive(Drop)]
+#[derive(Clone, Copy)]
 pub struct Size {
     pub answer: u8,
     pub blocks: u32,

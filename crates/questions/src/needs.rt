@@ -57,7 +57,7 @@ pub fn write_fault(
 
 // What a write takes now: a refusal that no buffer can avert, or 0 with the rounds, the stores that the list
 // is to have room for, and the random bytes, counted in blocks.
-#[derive(Drop)]
+#[derive(Clone, Copy)]
 pub struct Needs {
     pub answer: u8,
     pub rounds: u32,

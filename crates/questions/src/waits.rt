@@ -12,7 +12,7 @@ use layout::geometry::{Geometry, head_in};
 use owners::{is_live, owner_of, walk_owner};
 
 // 0 with the rounds, or the refusal with 0.
-#[derive(Drop)]
+#[derive(Clone, Copy)]
 pub struct Waited {
     pub answer: u8,
     pub rounds: u32,

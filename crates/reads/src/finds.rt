@@ -12,7 +12,7 @@ use layout::numbers::{DiskAddress, HiddenNumber, PublicNumber};
 use layout::public_map::map_entry;
 
 // Where a number's block is: nowhere to be looked for, never placed, or at an address.
-#[derive(Drop)]
+#[derive(Clone, Copy)]
 pub enum Find {
     Refused(u8),
     Blank,

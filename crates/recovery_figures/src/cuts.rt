@@ -18,7 +18,7 @@ use mapper::{CutWritten, write_cut};
 // After how many stores it is cut; how many it makes, whether it is cut, 1 or 0, what a public read of number
 // 0 is refused for before the recovery; and after it the first byte of public 0 and of hidden 0, and the
 // first two bytes of the bitmap.
-#[derive(Drop)]
+#[derive(Clone, Copy)]
 pub struct CutRow(
     pub usize,
     pub u32,

@@ -16,7 +16,7 @@ use mapper::write_line_cut;
 
 // After how many stores it is cut; how many it makes, whether it is cut, 1 or 0, how many still wait in the
 // line; and after the recovery the first byte of hidden 0 and of hidden 1.
-#[derive(Drop)]
+#[derive(Clone, Copy)]
 pub struct LineCutRow(pub usize, pub u32, pub u32, pub u64, pub u32, pub u32);
 
 // In hex digits how many wait, and number and place of each.

@@ -13,7 +13,7 @@ use stores::copies::copy_at;
 
 // The head, the map's first four entries and the bytes lent; the answer, and the first two bytes of the
 // bitmap, 256 where there are none.
-#[derive(Drop)]
+#[derive(Clone, Copy)]
 pub struct MapRow(
     pub u32,
     pub u32,

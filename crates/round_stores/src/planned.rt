@@ -14,7 +14,7 @@ use slot_stores::slots::slot_store;
 use stores::descriptors::Descriptor;
 
 // A round as it is planned: its slot, and what both halves are to store.
-#[derive(Drop)]
+#[derive(Clone, Copy)]
 pub struct PlannedRound {
     pub slot: u32,
     pub public: PublicPlan,

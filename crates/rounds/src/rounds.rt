@@ -22,7 +22,7 @@ use table::PublicChoice;
 
 // The index after a round's stores in the list, what it did with the first one waiting, whether another round
 // follows, and whether the bound cut it.
-#[derive(Drop)]
+#[derive(Clone, Copy)]
 pub struct Step {
     pub next: usize,
     pub turn: Turn,

@@ -12,7 +12,7 @@ use plans::states::{State, state_after};
 
 // The index after all stores in the list, how many rounds there were, how far the turns came, and whether the
 // bound cut the run: then rounds and turns are told as if there had been none.
-#[derive(Drop)]
+#[derive(Clone, Copy)]
 pub struct Ran {
     pub next: usize,
     pub rounds: u32,

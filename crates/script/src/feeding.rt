@@ -8,7 +8,7 @@ use crate::lines::{Line, read_line};
 
 // Where the bytes so far end: in no line of values, so in the line of names or past the end of the input; or
 // in a line of values or just after it, with so many of its bytes in the buffer.
-#[derive(Drop)]
+#[derive(Clone, Copy)]
 pub enum Feed {
     NoLine,
     Inside(usize),

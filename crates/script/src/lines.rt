@@ -5,7 +5,7 @@ ghost use Rattle.script.specs.Lines.{is_dash, Split, field_in, field_of, line_fr
 use layout::numbers::{HiddenNumber, PublicNumber};
 
 // What the bytes before or after the space say: a number of 1 to 9 digits, `-`, or anything else.
-#[derive(Drop)]
+#[derive(Clone, Copy)]
 pub enum Field {
     Number(u32),
     Dash,
@@ -13,7 +13,7 @@ pub enum Field {
 }
 
 // What a line says: a public number alone, a public and an offered number, or a line of another form.
-#[derive(Drop)]
+#[derive(Clone, Copy)]
 pub enum Line {
     Bare(PublicNumber),
     Offering(PublicNumber, HiddenNumber),

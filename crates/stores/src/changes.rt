@@ -3,7 +3,7 @@ ghost use Rattle.std.specs.Prelude.{◌≡◌, length};
 ghost use Rattle.stores.specs.Changes.{changed, Inside};
 
 // What is changed: nothing, the entry at an index, or the bit at a place.
-#[derive(Drop)]
+#[derive(Clone, Copy)]
 pub enum Change {
     Nothing,
     Entry(usize, u32),

@@ -13,7 +13,7 @@ use layout::numbers::DiskAddress;
 
 // Where the block of a store is taken from: the disk, zeros, the call's data, or so many blocks into the lent
 // blocks, for what is offered, or into the round's random bytes.
-#[derive(Drop)]
+#[derive(Clone, Copy)]
 pub enum Source {
     Disk(DiskAddress),
     Zeros,
@@ -24,7 +24,7 @@ pub enum Source {
 
 // A store before it is made: where it goes, the block that it begins with, and what is changed in it, one
 // change after the other.
-#[derive(Drop)]
+#[derive(Clone, Copy)]
 pub struct Descriptor {
     pub address: DiskAddress,
     pub source: Source,

@@ -7,21 +7,21 @@ ghost use Rattle.model.specs.Table.{digit, row_index, row_at};
 ghost use Rattle.table.specs.Rows.{table_row_of};
 
 // A public block is kept, or takes the call's data.
-#[derive(Drop)]
+#[derive(Clone, Copy)]
 pub enum PublicChoice {
     Keep,
     Write,
 }
 
 // The owner's current path is stored, or the path of the waiting hidden write, or random bytes.
-#[derive(Drop)]
+#[derive(Clone, Copy)]
 pub enum HiddenChoice {
     Keep,
     Place,
     Fill,
 }
 
-#[derive(Drop)]
+#[derive(Clone, Copy)]
 pub struct Row {
     pub public: PublicChoice,
     pub hidden: HiddenChoice,

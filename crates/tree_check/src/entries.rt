@@ -17,7 +17,7 @@ use owners::{ends_in, owner_of};
 
 // What the tests of an entry tell: its fault, or, of one that passed, the nodes of the walk of the owner of
 // the slot that it leads to.
-#[derive(Drop)]
+#[derive(Clone, Copy)]
 pub enum Tested {
     Fault(u8),
     Passed(Nodes),

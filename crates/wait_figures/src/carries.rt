@@ -14,11 +14,11 @@ use mapper::outcome_number;
 
 // The line, and how many of its offers may be left; the rounds until then, and how many of the writes told
 // that one waits.
-#[derive(Drop)]
+#[derive(Clone, Copy)]
 pub struct CarryRow(pub u64, pub usize, pub u64, pub u32);
 
 // What writes left of a line, their rounds, and how many of them told that one waits.
-#[derive(Drop)]
+#[derive(Clone, Copy)]
 struct Carried {
     line: Line,
     rounds: u64,

@@ -9,7 +9,7 @@ use layout::numbers::{HiddenNumber, PublicNumber};
 use mapper::{outcome_number, write_block};
 
 // The hidden number, and how many writes it is offered before; the outcome's number.
-#[derive(Drop)]
+#[derive(Clone, Copy)]
 pub struct OfferRow(pub u32, pub u32, pub u8);
 
 // Writes bytes 7 to number 0 with an offer of bytes 9, the random bytes being 165; answers the outcome's

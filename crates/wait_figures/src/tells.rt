@@ -11,7 +11,7 @@ use mapper::wait_rounds;
 
 // An entry that is put, by its index over the whole disk and its value, and the bytes lent; the head, the
 // answer, and the rounds.
-#[derive(Drop)]
+#[derive(Clone, Copy)]
 pub struct WaitRow(pub usize, pub u32, pub usize, pub u32, pub u8, pub u32);
 
 fn print_drive(index: usize, value: u32, bytes: usize) {

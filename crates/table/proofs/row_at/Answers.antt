@@ -4,7 +4,6 @@ use mathlib.Core.Path.{◌≡◌, refl, sym, ap, ◌∙◌}
 use mathlib.Core.Bool.{Bool, true, false}
 use mathlib.Core.List.{List, [], ◌∷◌}
 use Prim.Native.Nat.{ℕ}
-use borrow.Author.Rules.{rules}
 use lib.ListN.{get_or}
 use Rattle.model.specs.Table.{row_index}
 use Rattle.model.proofs.Laws.Table.{ruled_row, row_at_ruled}
@@ -14,8 +13,7 @@ use Rattle.table.specs.declared.HiddenChoice.{HiddenChoice}
 use Rattle.table.specs.declared.HiddenChoice.TheVariants as hidden
 use Rattle.table.specs.declared.Row.{Row}
 use Rattle.table.specs.Rows.{table_row_of}
-use Rattle.table.proofs.row_at.Statement.{statement}
-use Rattle.table.proofs.row_at.Tie as tie
+use Rattle.table.proofs.row_at.Goals as goal
 
 abbrev row : PublicChoice → HiddenChoice → Row
 row public hidden = record { public = public; hidden = hidden }
@@ -41,22 +39,10 @@ rows-ruled true false true = refl
 rows-ruled true true false = refl
 rows-ruled true true true = refl
 
-row-index-requires : tie.Need-row-index-requires
-row-index-requires c κs = search rules
-
-mul-result : tie.Need-overflow-mul-result
-mul-result c = search rules
-
-array-copy-out-result : tie.Need-array-copy-out-result
-array-copy-out-result c = search rules
-
-returns : tie.Need-returns
+pub returns : goal.returns
 returns c =
-    let start = c.before.before.args in
+    let start = c.args in
     ap (λ (index : ℕ). table_row_of (get_or rows index (row public.Keep hidden.Keep)))
-    c.before.row-index.ensures.0
-    ∙ rows-ruled start.is-waiting start.is-allocated start.is_live
-    ∙ sym (row_at_ruled start.is-waiting start.is-allocated start.is_live)
-
-pub row-at-spec : {M : Type 1} → statement M
-row-at-spec = tie.close (tie.spec row-index-requires mul-result array-copy-out-result returns)
+    c.row_index-index.ensures.0
+    ∙ rows-ruled start.is_waiting start.is_allocated start.is_live
+    ∙ sym (row_at_ruled start.is_waiting start.is_allocated start.is_live)

@@ -3,4 +3,4 @@ use Rattle.recovery_model.proofs.Theorems.Recovery.{recovery}
 use Rattle.recovery_model.proofs.promises.Goals as goal
 
 pub returns : goal.returns
-returns c = recovery
+returns c = record { recovery = recovery }

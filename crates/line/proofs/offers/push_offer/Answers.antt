@@ -1,0 +1,12 @@
+-- `push_offer` meets its contract: it sets the place after those that wait, if there is one. Assumes nothing.
+use Rattle.std.proofs.Common.{sym, arith}
+use Rattle.line.proofs.Laws.Offers.{pushed_room, pushed_full}
+use Rattle.line.proofs.offers.push_offer.Goals as goal
+
+pub returns-then-waiting-lt16 : goal.returns-then-waiting-lt16
+returns-then-waiting-lt16 c =
+    sym (pushed_room c.args.line c.args.offer (omega arith))
+
+pub returns : goal.returns
+returns c =
+    sym (pushed_full c.args.line c.args.offer (omega arith))

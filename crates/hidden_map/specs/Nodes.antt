@@ -48,7 +48,8 @@ unfoldable pub read_from :
 read_from g disk number zero node wanted = none
 read_from g disk number (suc level) node wanted =
     read_on (step_of g number (suc level) node)
-    (λ address. with_address (read_from g disk number level (block_at (block_width g) disk address)) (suc level)
+    (λ address.
+    with_address (read_from g disk number level (block_at (block_width g) disk address)) (suc level)
     address wanted)
 
 -- where the walk for a number reads the node of a level below the root

@@ -59,10 +59,12 @@ module _ (g : Geometry) (disk : Bytes) (size height start count : ℕ)
 
 module _ (g : Geometry) (height start count : ℕ) (a : AreaOf g height start count) (level address : ℕ) where
   pub is_well_formed_below : address < start → false ≡ is_well_formed g level address
-  is_well_formed_below h = sym (is_slot_block_below g (level_place g level) address (omega (arith, a.start_is)))
+  is_well_formed_below h =
+      sym (is_slot_block_below g (level_place g level) address (omega (arith, a.start_is)))
 
   pub is_well_formed_past : count ≤ address → false ≡ is_well_formed g level address
-  is_well_formed_past h = sym (is_slot_block_past g (level_place g level) address (omega (arith, a.count_is)))
+  is_well_formed_past h =
+      sym (is_slot_block_past g (level_place g level) address (omega (arith, a.count_is)))
 
   module _ (low : start ≤ address) (high : address < count) where
     -- within the data area the place decides

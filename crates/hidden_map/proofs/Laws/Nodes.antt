@@ -127,7 +127,8 @@ module _ (g : Geometry) (disk : Bytes) (at other : ℕ → Option DiskAddress) w
   unfolding node_blocks
   node_blocks_same zero same = refl
   node_blocks_same (suc level) same =
-      ap₂ {C = List Bytes} (λ (node : Option DiskAddress) (below : List Bytes). block_of_node g disk node ∷ below)
+      ap₂ {C = List Bytes}
+      (λ (node : Option DiskAddress) (below : List Bytes). block_of_node g disk node ∷ below)
       (same (suc level) (omega arith)) (node_blocks_same level (λ wanted h. same wanted (omega arith)))
 
   pub path_blocks_same :
@@ -173,7 +174,8 @@ node_blocks_none :
 unfolding node_blocks
 node_blocks_none g disk at zero h = refl
 node_blocks_none g disk at (suc level) h =
-    ap₂ {C = List Bytes} (λ (node : Option DiskAddress) (below : List Bytes). block_of_node g disk node ∷ below)
+    ap₂ {C = List Bytes}
+    (λ (node : Option DiskAddress) (below : List Bytes). block_of_node g disk node ∷ below)
     (h (suc level)) (node_blocks_none g disk at level h)
 
 module _ (g : Geometry) (disk : Bytes) (number : ℕ) where

@@ -74,10 +74,12 @@ walk_by_step_goes :
     (is_zero isFormed : Bool) (entry address : DiskAddress) (stop : End → Walk) (rest : Walk) →
     found address ≡ step_by is_zero isFormed entry → Goes isFormed entry address
     (walk_by_step is_zero isFormed stop rest) rest
-walk_by_step_goes true isFormed entry address stop rest h = absurd (let z : ◌≡◌ {A = ℕ} 0 1 = cc in omega arith)
+walk_by_step_goes true isFormed entry address stop rest h =
+    absurd (let z : ◌≡◌ {A = ℕ} 0 1 = cc in omega arith)
 walk_by_step_goes false true entry address stop rest h =
     record { goes_on = refl; address_is = cc; well_formed = refl }
-walk_by_step_goes false false entry address stop rest h = absurd (let z : ◌≡◌ {A = ℕ} 0 1 = cc in omega arith)
+walk_by_step_goes false false entry address stop rest h =
+    absurd (let z : ◌≡◌ {A = ℕ} 0 1 = cc in omega arith)
 
 module _ (g : Geometry) (disk : Bytes) (number : ℕ) (node : Bytes) where
   -- a walk that ends in the node that it starts from

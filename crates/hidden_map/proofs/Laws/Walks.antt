@@ -27,7 +27,9 @@ module _ (g : Geometry) (disk : Bytes) (number level : ℕ) (node : Bytes) where
     pub walked_leaf : level ≡ 0 → WalkedFrom g disk number level node trail
     walked_leaf z =
         record {
-          end_is = told_by_lem ∙ sym (ap (λ (path : Walk). path.end) (walk_from_leaf g disk number node level z));
+          end_is =
+              told_by_lem
+              ∙ sym (ap (λ (path : Walk). path.end) (walk_from_leaf g disk number node level z));
           nodes_are = λ wanted.
               stopped.no_nodes wanted ∙ sym (read_from_leaf g disk number node wanted level z);
         }
@@ -37,7 +39,8 @@ module _ (g : Geometry) (disk : Bytes) (number level : ℕ) (node : Bytes) where
         let stops : is_found (step_of g number level node) ≡ false = ap is_found (sym told) ∙ f in
         record {
           end_is =
-              told_by_lem ∙ sym (ap (λ (path : Walk). path.end) (walk_from_stop g disk number node level stops));
+              told_by_lem
+              ∙ sym (ap (λ (path : Walk). path.end) (walk_from_stop g disk number node level stops));
           nodes_are = λ wanted.
               stopped.no_nodes wanted ∙ sym (read_from_stop g disk number node wanted level stops);
         }

@@ -133,12 +133,14 @@ module _ {g : Geometry} {disk : Bytes} {level first place : ℕ} {node entry : D
 
         pub fault_below : (answer : ℕ) →
             answer ≡
-            first_fault g disk (met_below g disk (suc (level - 1)) start (block_at (block_width g) disk below)) →
+            first_fault g disk
+            (met_below g disk (suc (level - 1)) start (block_at (block_width g) disk below)) →
             answer ≡ fault_there
         fault_below answer a =
             let up : suc (level - 1) ≡ level = omega arith in
             a
-            ∙ ap₂ (λ (m at : ℕ). first_fault g disk (met_below g disk m start (block_at (block_width g) disk at)))
+            ∙ ap₂
+            (λ (m at : ℕ). first_fault g disk (met_below g disk m start (block_at (block_width g) disk at)))
             up (sym below_is)
             ∙ left_below
 

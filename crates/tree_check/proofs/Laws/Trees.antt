@@ -31,7 +31,8 @@ module _ (disk : Bytes) where
           index = 0;
           first_is = sym (zero-mul (span g (suc (g.height - 1))));
           walks_pass = λ number k wanted w.
-              ap (λ (at : ℕ). read_from g disk number (g.height - 1) (block_at (block_width g) disk at) wanted)
+              ap
+              (λ (at : ℕ). read_from g disk number (g.height - 1) (block_at (block_width g) disk at) wanted)
               (sym r);
         }
 

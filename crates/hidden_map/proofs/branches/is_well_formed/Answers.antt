@@ -1,5 +1,4 @@
--- `hidden_map::branches::is_well_formed` meets its contract: one law for each way through the tests.
--- Assumes nothing.
+-- `is_well_formed` meets its contract: one law for each way through the tests. Assumes nothing.
 use Rattle.hidden_map.proofs.Laws.Branches.{is_well_formed_below, is_well_formed_past, is_well_formed_data}
 use Rattle.hidden_map.proofs.Laws.Branches.{is_well_formed-node}
 use Rattle.hidden_map.proofs.branches.is_well_formed.Goals as goal

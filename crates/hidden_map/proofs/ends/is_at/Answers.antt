@@ -7,5 +7,4 @@ use Rattle.hidden_map.proofs.ends.is_at.Goals as goal
 
 pub returns-in-Found : goal.returns-in-Found
 returns-in-Found c =
-    let a = c.args in
-    sym (ap (λ (end : Reached). is_found_at a.address.0 (end_of end)) c.in-Found.is)
+    sym (ap (λ (end : Reached). is_found_at c.args.address.0 (end_of end)) c.in-Found.is)

@@ -8,16 +8,16 @@ pub returns-then-level-eq1 : goal.returns-then-level-eq1
 returns-then-level-eq1 c =
     let a = c.args in
     by_level_leaf (node_of a.nodes.leaf) (node_of a.nodes.middle) (node_of a.nodes.upper) a.level
-    (omega (arith, c.if-level-eq1.true))
+    c.if-level-eq1.true
 
 pub returns-then-level-eq2 : goal.returns-then-level-eq2
 returns-then-level-eq2 c =
     let a = c.args in
     by_level_middle (node_of a.nodes.leaf) (node_of a.nodes.middle) (node_of a.nodes.upper) a.level
-    (omega (arith, c.if-level-eq2.true))
+    c.if-level-eq2.true
 
 pub returns : goal.returns
 returns c =
     let a = c.args in
     by_level_upper (node_of a.nodes.leaf) (node_of a.nodes.middle) (node_of a.nodes.upper) a.level
-    (omega (arith, c.requires, c.if-level-eq1.false, c.if-level-eq2.false))
+    (omega arith)

@@ -9,18 +9,18 @@ returns-then-level-eq1 c =
     let a = c.args in
     λ wanted.
     with_leaf (node_of a.nodes.leaf) (node_of a.nodes.middle) (node_of a.nodes.upper) a.level
-    a.address.0 wanted (omega (arith, c.if-level-eq1.true))
+    a.address.0 wanted c.if-level-eq1.true
 
 pub returns-then-level-eq2 : goal.returns-then-level-eq2
 returns-then-level-eq2 c =
     let a = c.args in
     λ wanted.
     with_middle (node_of a.nodes.leaf) (node_of a.nodes.middle) (node_of a.nodes.upper) a.level
-    a.address.0 wanted (omega (arith, c.if-level-eq2.true))
+    a.address.0 wanted c.if-level-eq2.true
 
 pub returns : goal.returns
 returns c =
     let a = c.args in
     λ wanted.
     with_upper (node_of a.nodes.leaf) (node_of a.nodes.middle) (node_of a.nodes.upper) a.level
-    a.address.0 wanted (omega (arith, c.requires, c.if-level-eq1.false, c.if-level-eq2.false))
+    a.address.0 wanted (omega arith)

@@ -1,5 +1,4 @@
--- `hidden_map::walks::walk` meets its contract: the numbers that it hands on are those of its geometry.
--- Assumes nothing.
+-- `walk` meets its contract: the numbers that it hands on are those of its geometry. Assumes nothing.
 use Prim.Native.Nat.{◌-◌}
 use Rattle.layout.specs.Geometries.{geometry_of}
 use Rattle.hidden_map.proofs.Laws.Trees.{tree_of_drive, root_is}

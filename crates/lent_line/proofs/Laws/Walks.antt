@@ -41,7 +41,8 @@ pushed_all_none offers i most line past =
 
 pub pushed_all_more :
     (offers : List Offer) (i most : ℕ) (line next result : Line) → i < most → most ≤ length offers →
-    next ≡ pushed line (get_or offers i no_offer) → result ≡ pushed_all (drop (i + 1) (take most offers)) next →
+    next ≡ pushed line (get_or offers i no_offer) →
+    result ≡ pushed_all (drop (i + 1) (take most offers)) next →
     result ≡ pushed_all (drop i (take most offers)) line
 unfolding pushed_all
 pushed_all_more offers i most line next result low fits one rest =

@@ -1,4 +1,2 @@
 pub mod Lent
-pub mod Shared
-pub mod Values
 pub mod Walks

@@ -1,8 +1,8 @@
--- Laws for the walks of `load_line` and `save_line`: the numbers that they compute, and what one offer more
--- comes to. Assumes nothing.
+-- Laws for the walks of `load_line` and `save_line` along a lent line: what one offer more comes to. Assumes
+-- nothing.
 use mathlib.Core.Path.{◌≡◌, sym, ap, ◌∙◌}
 use mathlib.Core.List.{List, [], ◌∷◌, append-nil}
-use Prim.Native.Nat.{ℕ, suc, ◌+◌, ◌-◌, ◌*◌, ◌^◌, ◌≤◌, ◌<◌}
+use Prim.Native.Nat.{ℕ, suc, ◌+◌, ◌-◌, ◌≤◌, ◌<◌}
 use native.Mathlib.Omega.{arith}
 use lib.ListN.{length, get_or, set, take, drop, length-take, length-drop, take-append-drop, drop_of_length-le}
 use lib.Seq.{drop-cons, get_or-take, length-take-le}
@@ -12,21 +12,6 @@ use Rattle.line.specs.declared.offers.Offer.{Offer}
 use Rattle.line.specs.declared.offers.Line.{Line}
 use Rattle.line.specs.Offers.{no_offer, no_line, pushed}
 use Rattle.lent_line.specs.Lent.{most_of, pushed_all, loaded_line, saved_offers}
-
--- ---- numbers ----
-
--- the place of an element, in bytes from the slice's start, is a usize
-pub offset_fits : (i n : ℕ) → i < n → n * 8 < 2 ^ 63 → i * 8 < 2 ^ 64
-offset_fits i n low fits = omega (arith, low, fits)
-
-pub step_fits : (i n : ℕ) → i < n → n < 2 ^ 64 → i + 1 < 2 ^ 64
-step_fits i n low fits = omega (arith, low, fits)
-
-pub fewer_left : (i n : ℕ) → i < n → n - (i + 1) < n - i
-fewer_left i n low = omega (arith, low)
-
-pub lt_of_lt_le : (i n m : ℕ) → i < n → n ≤ m → i < m
-lt_of_lt_le i n m low most = omega (arith, low, most)
 
 -- ---- so many offers from an index on ----
 
@@ -56,7 +41,8 @@ pushed_all_none offers i most line past =
 
 pub pushed_all_more :
     (offers : List Offer) (i most : ℕ) (line next result : Line) → i < most → most ≤ length offers →
-    next ≡ pushed line (get_or offers i no_offer) → result ≡ pushed_all (drop (i + 1) (take most offers)) next →
+    next ≡ pushed line (get_or offers i no_offer) →
+    result ≡ pushed_all (drop (i + 1) (take most offers)) next →
     result ≡ pushed_all (drop i (take most offers)) line
 unfolding pushed_all
 pushed_all_more offers i most line next result low fits one rest =
@@ -91,12 +77,6 @@ over_more held lent saved i most offer low fits enough one rest =
     ∙ sym (ap (λ (more : List Offer). over i more lent) (more_from held i most low enough))
 
 -- ---- the whole line ----
-
-pub most_le : (lent waiting n : ℕ) → n ≡ most_of lent waiting → n ≤ lent
-most_le lent waiting n is = omega (arith, is)
-
-pub most_sixteen : (lent waiting n : ℕ) → n ≡ most_of lent waiting → n ≤ 16
-most_sixteen lent waiting n is = omega (arith, is)
 
 pub loaded_line_of_parts :
     (lent : List Offer) (waiting n : ℕ) (none result : Line) → n ≡ most_of (length lent) waiting →

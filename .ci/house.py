@@ -155,7 +155,7 @@ def uncited(files, words):
 def unused(files, words):
     for file in files:
         for name, _ in file.brought:
-            if not all(words[file][part] for part in name.split("◌") if part):
+            if not words[file][name] and not all(words[file][part] for part in name.split("◌") if part):
                 yield f"{file.path}: {name} is brought in and not used"
 
 

@@ -27,7 +27,8 @@ ELSEWHERE = [  # document 03; what is gone; the world
     ("Plan formal_statements hidden_half public_half slot_blocks", ["docs/DECISIONS.md"]),
     ("nm", ["docs/MANUAL.md"]),
     ("rattle-kit-5b-plain", ["README.md", "docs/SPEED.md"]),
-    ("rattle-kit-13f dac8208d650f15bf logic version", ["README.md"]),
+    ("rattle-kit-13f", ["README.md", "docs/DECISIONS.md"]),
+    ("dac8208d650f15bf logic version", ["README.md"]),
 ]
 NOT_CODE = re.compile(r'//[^\n]*|(?<!\S)--(?!\S)[^\n]*|^\s*#[^\n]*|/\*.*?\*/|"[^"\n]*"', re.M | re.S)
 ENDING = r"\.(?:antt|rt|rs|md|edit|svg|txt|py|h|c|in|out)"

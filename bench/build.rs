@@ -1,12 +1,12 @@
-//! Links the archive of the proved mapper, which `rt staticlib mapper_c` writes; or that of another folder,
-//! where the variable PDDM_STATICLIB names it. Where PDDM_BEFORE names the folder of an archive of before a
-//! change, three of its calls are linked beside them, with `before_` in front of their names.
+//! Links the archive of the proved mapper, which `rt lib --cpu x86-64` writes in crates/mapper_c; or that of
+//! another folder, where the variable PDDM_STATICLIB names it. Where PDDM_BEFORE names the folder of an archive
+//! of before a change, three of its calls are linked beside them, with `before_` in front of their names.
 use std::path::{Path, PathBuf};
 use std::process::Command;
 
 /// Where this tree's archive is written.
 fn built() -> PathBuf {
-    Path::new(&std::env::var("CARGO_MANIFEST_DIR").unwrap()).join("../target/staticlib")
+    Path::new(&std::env::var("CARGO_MANIFEST_DIR").unwrap()).join("../crates/mapper_c/out")
 }
 
 /// The archive in a folder.
@@ -14,7 +14,10 @@ fn archive_in(folder: &Path) -> PathBuf {
     let archive = folder.join("libmapper_c.a");
     println!("cargo::rerun-if-changed={}", archive.display());
     if !archive.exists() {
-        println!("cargo::error={} is missing: run `rt staticlib mapper_c` first", archive.display());
+        println!(
+            "cargo::error={} is missing: run `rt lib --cpu x86-64` in crates/mapper_c first",
+            archive.display()
+        );
     }
     archive
 }

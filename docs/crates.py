@@ -29,7 +29,8 @@ def read_crates(text):
         if line.startswith("#"):
             comment = line
         elif line.strip():
-            name, used = line.split(":")
+            head, used = line.split(":")
+            name = head.split()[0]  # of a static library the word `staticlib` follows
             uses[name] = [other for other in used.split() if other in uses]
             kinds[name] = "program" if comment.startswith("# a program") else "library"
     return uses, kinds

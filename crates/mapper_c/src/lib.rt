@@ -2,7 +2,7 @@
 // has a `requires`: each contract fixes the answer and the bytes that the call leaves, for every input.
 #![tactic(auto)]
 
-mod formatting; // an empty drive
+mod formats; // an empty drive
 mod drives; // which drive a disk is, and how large a drive is
 mod finds; // where the block of a number stands, in either volume
 mod line_finds; // where a hidden number's block stands where offers wait

@@ -1,7 +1,6 @@
 -- `checks::counts::round_count` meets its contract. Invariant: the slots passed are allocated, and the rounds
 -- of the whole search are those passed and those of the rest. The measure is the slots left. Assumes nothing.
 use mathlib.Core.Path.{sym, ◌∙◌}
-use Prim.Native.Nat.{◌-◌}
 use native.Mathlib.Omega.{arith}
 use borrow.Author.Tests.{not-true, not-false}
 use Rattle.model.specs.Layout.{head_in, is_allocated}

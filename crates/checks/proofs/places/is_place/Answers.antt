@@ -3,12 +3,10 @@
 use mathlib.Core.Path.{◌≡◌, sym, ap, ◌∙◌}
 use mathlib.Core.Bool.{true}
 use native.Mathlib.Omega.{arith}
-use borrow.Author.Tests.{not-true, not-false}
 use Rattle.model.specs.Layout.{is_allocated, is_slot_block}
 use Rattle.model.proofs.Laws.Places.{is_place_no_start, is_place_start}
 use Rattle.model.proofs.Laws.Slots.{slot_block_of}
 use Rattle.layout.specs.Geometries.{geometry_of}
-use Rattle.std.proofs.lemmas.Bool.{not_from_false, not_from_true}
 use Rattle.checks.proofs.places.is_place.Goals as goal
 
 pub returns-then-not-is_slot_start : goal.returns-then-not-is_slot_start

@@ -3,13 +3,11 @@
 use mathlib.Core.Path.{◌≡◌, sym, ◌∙◌}
 use mathlib.Core.Bool.{true}
 use native.Mathlib.Omega.{arith}
-use borrow.Author.Tests.{not-true, not-false}
 use Rattle.model.specs.Geometry.{Geometry, Fits, is_geometry}
 use Rattle.model.proofs.Laws.Geometry.{fits_of_is_geometry}
 use Rattle.layout.specs.Geometries.{geometry_of}
 use Rattle.layout.proofs.Laws.Geometry.{bounded_of_fits}
 use Rattle.questions.proofs.Laws.Drives.{size_for_refused, size_for-told, bytes_small}
-use Rattle.std.proofs.lemmas.Bool.{not_from_false, not_from_true}
 use Rattle.questions.proofs.drives.drive_size.Goals as goal
 
 pub returns-then-not-is_geometry : goal.returns-then-not-is_geometry

@@ -3,7 +3,7 @@
 use mathlib.Core.Path.{sym, subst}
 use Prim.Native.Nat.{◌<◌}
 use Rattle.model.specs.Geometry.{Geometry, block_count}
-use Rattle.model.specs.Blocks.{Bytes, DiskAddress, block_at}
+use Rattle.model.specs.Blocks.{Bytes, DiskAddress}
 use Rattle.model.proofs.Laws.Refusals.{long_enough, drive_read}
 use Rattle.layout.specs.Geometries.{geometry_of}
 use Rattle.reads.specs.declared.finds.Find.{Find}

@@ -1,6 +1,5 @@
 -- `recovery::bits::clear_bits` meets its contract: the bitmap's blocks end inside the disk. Assumes nothing.
 use mathlib.Core.Path.{◌∙◌}
-use Rattle.model.specs.Geometry.{bitmap_blocks}
 use Rattle.layout.specs.Geometries.{geometry_of}
 use Rattle.recovery.proofs.Laws.Marks.{bits_cleared}
 use Rattle.recovery.proofs.bits.clear_bits.Goals as goal

@@ -1,6 +1,5 @@
 -- `recovery::bits::set_marks` meets its contract. Invariant: the slots of the numbers before this one are
 -- marked, and the map is as it was. The measure is the numbers left. Assumes nothing.
-use Prim.Native.Nat.{◌-◌}
 use Rattle.layout.specs.Geometries.{geometry_of}
 use Rattle.recovery.proofs.Laws.Marks.{marking_none, marking_start, marking_next, marking_all}
 use Rattle.recovery.proofs.bits.set_marks.Goals as goal

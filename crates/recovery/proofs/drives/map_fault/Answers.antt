@@ -2,11 +2,9 @@
 -- nothing.
 use mathlib.Core.Path.{◌≡◌, sym, ◌∙◌}
 use mathlib.Core.Bool.{true}
-use borrow.Author.Tests.{not-true, not-false}
 use Rattle.layout.specs.Geometries.{geometry_of}
 use Rattle.recovery_model.specs.Recovery.{used_entries, are_starts}
 use Rattle.recovery_model.proofs.Laws.StepDisks.{map_checks_no_starts, map_checks_not_apart, map_checks_good}
-use Rattle.std.proofs.lemmas.Bool.{not_from_false, not_from_true}
 use Rattle.recovery.proofs.drives.map_fault.Goals as goal
 
 pub returns-then-not-is_map_formed : goal.returns-then-not-is_map_formed

@@ -1,10 +1,7 @@
 -- `recovery::entries::is_map_formed` meets its contract. Invariant: every entry of a number before this one
 -- is 0 or a slot's start. The measure is the numbers left. Assumes nothing.
-use Prim.Native.Nat.{◌-◌}
-use borrow.Author.Tests.{not-true, not-false}
 use Rattle.layout.specs.Geometries.{geometry_of}
 use Rattle.recovery.proofs.Laws.Entries.{formed_none, formed_next, formed_not, formed_all}
-use Rattle.std.proofs.lemmas.Bool.{not_from_false, not_from_true}
 use Rattle.recovery.proofs.entries.is_map_formed.Goals as goal
 
 -- ---- answers ----

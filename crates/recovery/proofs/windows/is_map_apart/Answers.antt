@@ -1,11 +1,8 @@
 -- `recovery::windows::is_map_apart` meets its contract. Invariant: no two numbers share a place in a slot
 -- before this one. The measure is the slots left. Assumes nothing.
 use mathlib.Core.Path.{sym, ◌∙◌}
-use Prim.Native.Nat.{◌-◌}
-use borrow.Author.Tests.{not-true, not-false}
 use Rattle.layout.specs.Geometries.{geometry_of}
 use Rattle.recovery.proofs.Laws.Maps.{swept_none, swept_next, swept_shared, swept_all}
-use Rattle.std.proofs.lemmas.Bool.{not_from_false, not_from_true}
 use Rattle.recovery.proofs.windows.is_map_apart.Goals as goal
 
 -- ---- answers ----

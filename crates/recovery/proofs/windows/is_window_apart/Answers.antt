@@ -1,7 +1,6 @@
 -- `recovery::windows::is_window_apart` meets its contract. Invariant: a slot's bit is 1 exactly if a number
 -- before this one has its start, and no two before it share one in the window. The measure is the numbers
 -- left. Assumes nothing.
-use Prim.Native.Nat.{◌-◌}
 use Rattle.model.specs.Geometry.{slot_width}
 use Rattle.model.specs.Layout.{slot_start, map_entry}
 use Rattle.layout.specs.Geometries.{geometry_of}

@@ -1,7 +1,7 @@
 -- `store_round` meets its contract. The invariant: so many stores of the round are made, no more than are
 -- asked for. The measure: the stores that are left. Assumes nothing.
 use mathlib.Core.Path.{◌≡◌, refl, ◌∙◌}
-use Prim.Native.Nat.{◌-◌, ◌<◌}
+use Prim.Native.Nat.{◌<◌}
 use native.Mathlib.Omega.{arith}
 use lib.ListN.{length}
 use Rattle.model.specs.Stores.{Trace}

@@ -2,7 +2,7 @@
 -- run, no round was cut, and the buffer is as long as it was. The measure is the slots left. Assumes nothing.
 use mathlib.Core.Path.{refl, sym, subst, ◌∙◌}
 use mathlib.Core.List.{List}
-use Prim.Native.Nat.{ℕ, ◌+◌, ◌*◌, ◌-◌, ◌^◌, ◌≤◌}
+use Prim.Native.Nat.{ℕ, ◌+◌, ◌*◌, ◌^◌, ◌≤◌}
 use native.Mathlib.Nat.{mul-le-mul}
 use native.Mathlib.Omega.{arith}
 use lib.ListN.{length, drop}
@@ -21,7 +21,6 @@ use Rattle.rounds.proofs.Laws.Going.{going_none}
 use Rattle.rounds.proofs.Laws.Loops.{going_over, random_from, round_waits, round_lent}
 use Rattle.rounds.proofs.Laws.Loops.{round_ready, run_ends, made_round, next_bounded, going_next}
 use Rattle.rounds.proofs.Laws.Cuts.{run_done, run_cut}
-use Rattle.std.proofs.lemmas.Bool.{not_from_false, not_from_true}
 use Rattle.rounds.proofs.runs.do_rounds.Goals as goal
 
 pub overflow_mul-width : goal.overflow_mul-width

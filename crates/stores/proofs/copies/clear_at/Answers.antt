@@ -1,11 +1,11 @@
 -- `clear_at` meets its contract: zeros copied. The loop's invariant: the first i bytes
 -- are cleared. The measure is what is left to clear. Assumes nothing.
 use mathlib.Core.Path.{refl}
-use Prim.Native.Nat.{ℕ, ◌-◌, zero-le}
+use Prim.Native.Nat.{ℕ, zero-le}
 use native.Mathlib.Omega.{arith}
 use borrow.Author.Rules.{rules}
-use lib.ListN.{length, replicate, length-set, length-replicate, get_or-replicate}
-use lib.Seq.{paste, paste-zero}
+use lib.ListN.{replicate, length-set, length-replicate, get_or-replicate}
+use lib.Seq.{paste-zero}
 use Rattle.stores.proofs.Laws.Copies.{set_paste, paste_whole}
 use Rattle.stores.proofs.copies.clear_at.Goals as goal
 

@@ -1,10 +1,10 @@
 -- `copy_at` meets its contract. The loop's invariant: the first i bytes are copied. The
 -- measure is what is left of the source. Assumes nothing.
 use mathlib.Core.Path.{refl}
-use Prim.Native.Nat.{◌-◌, zero-le}
+use Prim.Native.Nat.{zero-le}
 use borrow.Author.Rules.{rules}
-use lib.ListN.{length, length-set}
-use lib.Seq.{paste, paste-zero}
+use lib.ListN.{length-set}
+use lib.Seq.{paste-zero}
 use Rattle.stores.proofs.Laws.Copies.{set_paste, paste_whole}
 use Rattle.stores.proofs.copies.copy_at.Goals as goal
 

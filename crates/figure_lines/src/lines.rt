@@ -4,46 +4,46 @@ ghost use Rattle.std.specs.Prelude.{◌≡◌, ◌+◌, ◌<◌, ◌≤◌, min,
 ghost use Rattle.model.specs.Table.{digit};
 ghost use Rattle.figure_lines.specs.Counts.{entry_or, puts};
 
+use crate::output::{Output, put_bytes, put_decimal};
 use layout::entries::{entry_at, put_entry};
-use libc::STDOUT_FILENO;
 
 // ---- labels ----
 
-pub fn print_text(text: &[u8]) {
-    io::write_all(STDOUT_FILENO, text);
+pub fn print_text(output: &mut Output, text: &[u8]) {
+    put_bytes(output, text);
 }
 
 // Prints a text and a number after it.
-pub fn print_named(text: &[u8], number: u64) {
-    io::write_all(STDOUT_FILENO, text);
-    io::print_decimal(STDOUT_FILENO, number);
+pub fn print_named(output: &mut Output, text: &[u8], number: u64) {
+    put_bytes(output, text);
+    put_decimal(output, number);
 }
 
 // ---- figures ----
 
 // Ends a line with what the document says and what the code gives; answers whether they agree.
-pub fn print_figure(name: &[u8], expected: u64, got: u64) -> bool
+pub fn print_figure(output: &mut Output, name: &[u8], expected: u64, got: u64) -> bool
     ensures { result ≡ eqb expected got }
 {
-    io::write_all(STDOUT_FILENO, name);
-    print_named(b" expected ", expected);
-    print_named(b" got ", got);
-    io::write_all(STDOUT_FILENO, b"\n");
+    put_bytes(output, name);
+    print_named(output, b" expected ", expected);
+    print_named(output, b" got ", got);
+    put_bytes(output, b"\n");
     expected == got
 }
 
 // The same of a number of 32 bits.
-pub fn print_count(name: &[u8], expected: u32, got: u32) -> bool
+pub fn print_count(output: &mut Output, name: &[u8], expected: u32, got: u32) -> bool
     ensures { result ≡ eqb expected got }
 {
-    print_figure(name, expected as u64, got as u64)
+    print_figure(output, name, expected as u64, got as u64)
 }
 
 // The same of an answer, its label being printed.
-pub fn print_answer(expected: u8, got: u8) -> bool
+pub fn print_answer(output: &mut Output, expected: u8, got: u8) -> bool
     ensures { result ≡ eqb expected got }
 {
-    print_figure(b"", expected as u64, got as u64)
+    print_figure(output, b"", expected as u64, got as u64)
 }
 
 // ---- rows that agree ----

@@ -1,6 +1,7 @@
 // What document 01 says of drives that are identified, of reads and of what writes take.
 use crate::asks::{IdentityRow, NeedsRow, ReadRow, run_identities, run_needs, run_reads};
 use crate::drives::{FRESH, NO, SLOT, WRITTEN};
+use figure_lines::output::Output;
 
 // The volume that is read.
 const PUBLIC: bool = false;
@@ -67,16 +68,16 @@ const NEEDS: [NeedsRow; 4] = [
 ];
 
 // Answers how many identities agree.
-pub fn identity_rows() -> u32 {
-    run_identities(IDENTITIES)
+pub fn identity_rows(output: &mut Output) -> u32 {
+    run_identities(output, IDENTITIES)
 }
 
 // Answers how many reads agree.
-pub fn read_rows() -> u32 {
-    run_reads(READS)
+pub fn read_rows(output: &mut Output) -> u32 {
+    run_reads(output, READS)
 }
 
 // Answers how many of the needs agree.
-pub fn needs_rows() -> u32 {
-    run_needs(NEEDS)
+pub fn needs_rows(output: &mut Output) -> u32 {
+    run_needs(output, NEEDS)
 }

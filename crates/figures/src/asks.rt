@@ -11,6 +11,7 @@ use crate::drives::{drive_with, print_drive, small_drive};
 use figure_lines::lines::{
     byte_or, part_of, print_answer, print_count, print_named, print_text, tally,
 };
+use figure_lines::output::Output;
 use layout::numbers::{HiddenNumber, PublicNumber};
 use mapper::{hidden_fault, hidden_read, identify, public_fault, public_read, write_needs};
 
@@ -62,41 +63,41 @@ pub struct NeedsRow(
 // ---- which drive it is ----
 
 // Prints what a disk is; answers whether the row agrees.
-fn ask_identity(disk: &[u8], row: IdentityRow) -> bool
+fn ask_identity(output: &mut Output, disk: &[u8], row: IdentityRow) -> bool
     ensures { result ≡ identity_told row (identity_in disk.now) }
 {
-    print_text(b"identify");
+    print_text(output, b"identify");
     let identified = identify(disk);
     let told = identified.geometry;
-    let answered = print_answer(row.4, identified.answer);
-    let sized = print_count(b"  block size", row.5, told.block_size);
-    let high = print_count(b"  height", row.6, told.height);
-    let seen = print_count(b"  publics", row.7, told.publics);
-    let unseen = print_count(b"  hidden", row.8, told.hidden);
-    let wide = print_count(b"  slots", row.9, told.slots);
-    let headed = print_count(b"  head", row.10, identified.head);
+    let answered = print_answer(output, row.4, identified.answer);
+    let sized = print_count(output, b"  block size", row.5, told.block_size);
+    let high = print_count(output, b"  height", row.6, told.height);
+    let seen = print_count(output, b"  publics", row.7, told.publics);
+    let unseen = print_count(output, b"  hidden", row.8, told.hidden);
+    let wide = print_count(output, b"  slots", row.9, told.slots);
+    let headed = print_count(output, b"  head", row.10, identified.head);
     answered & sized & high & seen & unseen & wide & headed
 }
 
 // Prints a row; answers whether it agrees.
-fn run_identity(row: IdentityRow) -> bool
+fn run_identity(output: &mut Output, row: IdentityRow) -> bool
     ensures { result ≡ identity_agrees row }
 {
     let drive = drive_with(row.0, 0, row.1, row.2);
     let bytes = row.3;
-    print_drive(drive, bytes);
+    print_drive(output, drive, bytes);
     let disk = small_drive(drive);
-    ask_identity(part_of(&disk, bytes), row)
+    ask_identity(output, part_of(&disk, bytes), row)
 }
 
 // Prints every row; answers how many agree.
-pub fn run_identities(rows: [IdentityRow; 6]) -> u32
+pub fn run_identities(output: &mut Output, rows: [IdentityRow; 6]) -> u32
     ensures { result ≡ agreeing identity_agrees rows }
 {
     let mut agreed: u32 = 0;
     let mut i = 0;
     while i < 6 {
-        agreed = tally(agreed, run_identity(rows[i]));
+        agreed = tally(agreed, run_identity(output, rows[i]));
         i += 1;
     }
     agreed
@@ -122,46 +123,51 @@ fn read_first<'a>(disk: &'a [u8], is_hidden: bool, number: u32, blank: &'a [u8])
     byte_or(public_read(disk, PublicNumber(number), blank), 0)
 }
 
-fn print_read(is_hidden: bool, number: u32, blank: usize) {
+fn print_read(output: &mut Output, is_hidden: bool, number: u32, blank: usize) {
     if is_hidden {
-        print_named(b"hidden read ", number as u64);
+        print_named(output, b"hidden read ", number as u64);
     } else {
-        print_named(b"public read ", number as u64);
+        print_named(output, b"public read ", number as u64);
     }
-    print_named(b", blank of ", blank as u64);
+    print_named(output, b", blank of ", blank as u64);
 }
 
 // Prints a read; answers whether the row agrees.
-fn ask_read(disk: &[u8], row: ReadRow) -> bool
+fn ask_read(output: &mut Output, disk: &[u8], row: ReadRow) -> bool
     ensures { result ≡ tells_read row disk.now }
 {
     let bytes = [9u8; 33];
-    print_read(row.4, row.5, row.6);
+    print_read(output, row.4, row.5, row.6);
     let blank = part_of(&bytes, row.6);
-    let answered = print_answer(row.7, read_fault(disk, row.4, row.5, blank));
-    let shown = print_count(b"  shows", row.8, read_first(disk, row.4, row.5, blank));
+    let answered = print_answer(output, row.7, read_fault(disk, row.4, row.5, blank));
+    let shown = print_count(
+        output,
+        b"  shows",
+        row.8,
+        read_first(disk, row.4, row.5, blank),
+    );
     answered & shown
 }
 
 // Prints a row; answers whether it agrees.
-fn run_read(row: ReadRow) -> bool
+fn run_read(output: &mut Output, row: ReadRow) -> bool
     ensures { result ≡ read_agrees row }
 {
     let drive = drive_with(row.0, 0, row.1, row.2);
     let bytes = row.3;
-    print_drive(drive, bytes);
+    print_drive(output, drive, bytes);
     let disk = small_drive(drive);
-    ask_read(part_of(&disk, bytes), row)
+    ask_read(output, part_of(&disk, bytes), row)
 }
 
 // Prints every row; answers how many agree.
-pub fn run_reads(rows: [ReadRow; 23]) -> u32
+pub fn run_reads(output: &mut Output, rows: [ReadRow; 23]) -> u32
     ensures { result ≡ agreeing read_agrees rows }
 {
     let mut agreed: u32 = 0;
     let mut i = 0;
     while i < 23 {
-        agreed = tally(agreed, run_read(rows[i]));
+        agreed = tally(agreed, run_read(output, rows[i]));
         i += 1;
     }
     agreed
@@ -170,36 +176,36 @@ pub fn run_reads(rows: [ReadRow; 23]) -> u32
 // ---- what a write takes ----
 
 // Prints what a write takes; answers whether the row agrees.
-fn ask_needs(disk: &[u8], row: NeedsRow) -> bool
+fn ask_needs(output: &mut Output, disk: &[u8], row: NeedsRow) -> bool
     ensures { result ≡ needs_told row (needs_of disk.now row.4) }
 {
-    print_named(b"needs of write ", row.4 as u64);
+    print_named(output, b"needs of write ", row.4 as u64);
     let told = write_needs(disk, PublicNumber(row.4));
-    let answered = print_answer(row.5, told.answer);
-    let ran = print_count(b"  rounds", row.6, told.rounds);
-    let stored = print_count(b"  stores", row.7, told.stores);
-    let lent = print_count(b"  random blocks", row.8, told.random_blocks);
+    let answered = print_answer(output, row.5, told.answer);
+    let ran = print_count(output, b"  rounds", row.6, told.rounds);
+    let stored = print_count(output, b"  stores", row.7, told.stores);
+    let lent = print_count(output, b"  random blocks", row.8, told.random_blocks);
     answered & ran & stored & lent
 }
 
 // Prints a row; answers whether it agrees.
-fn run_need(row: NeedsRow) -> bool
+fn run_need(output: &mut Output, row: NeedsRow) -> bool
     ensures { result ≡ needs_agrees row }
 {
     let drive = drive_with(row.0, row.1, row.2, row.3);
-    print_drive(drive, 512);
+    print_drive(output, drive, 512);
     let disk = small_drive(drive);
-    ask_needs(&disk, row)
+    ask_needs(output, &disk, row)
 }
 
 // Prints every row; answers how many agree.
-pub fn run_needs(rows: [NeedsRow; 4]) -> u32
+pub fn run_needs(output: &mut Output, rows: [NeedsRow; 4]) -> u32
     ensures { result ≡ agreeing needs_agrees rows }
 {
     let mut agreed: u32 = 0;
     let mut i = 0;
     while i < 4 {
-        agreed = tally(agreed, run_need(rows[i]));
+        agreed = tally(agreed, run_need(output, rows[i]));
         i += 1;
     }
     agreed

@@ -5,6 +5,7 @@ ghost use Rattle.figures.specs.Drives.{slot_made, disk_written_on, made_by};
 ghost use Rattle.figures.specs.Drives.{row_drive, drive_on, small_drive};
 
 use figure_lines::lines::{number_at, print_named, print_text, put_on};
+use figure_lines::output::Output;
 use layout::entries::put_entry;
 use layout::geometry::Geometry;
 use mapper::format_drive;
@@ -144,29 +145,29 @@ pub fn small_drive(drive: Drive) -> [u8; 512]
 
 // ---- its label ----
 
-fn print_made(made: u8, times: u32) {
+fn print_made(output: &mut Output, made: u8, times: u32) {
     match made {
-        1 => print_text(b"slot 0"),
-        2 => print_text(b"three lines"),
-        3 => print_text(b"five lines"),
-        4 => print_named(b"writes ", times as u64),
-        5 => print_named(b"moves ", times as u64),
-        _ => print_text(b"fresh"),
+        1 => print_text(output, b"slot 0"),
+        2 => print_text(output, b"three lines"),
+        3 => print_text(output, b"five lines"),
+        4 => print_named(output, b"writes ", times as u64),
+        5 => print_named(output, b"moves ", times as u64),
+        _ => print_text(output, b"fresh"),
     }
 }
 
-fn print_put(index: usize, value: u32) {
+fn print_put(output: &mut Output, index: usize, value: u32) {
     if index < NO {
-        print_named(b", entry ", index as u64);
-        print_named(b" is ", value as u64);
+        print_named(output, b", entry ", index as u64);
+        print_named(output, b" is ", value as u64);
     }
 }
 
 // Prints how the drive is made, what is put, and the bytes lent.
-pub fn print_drive(drive: Drive, bytes: usize) {
-    print_made(drive.made, drive.times);
-    print_put(drive.index, drive.value);
-    print_put(drive.later, drive.other);
-    print_named(b", ", bytes as u64);
-    print_text(b" bytes: ");
+pub fn print_drive(output: &mut Output, drive: Drive, bytes: usize) {
+    print_made(output, drive.made, drive.times);
+    print_put(output, drive.index, drive.value);
+    print_put(output, drive.later, drive.other);
+    print_named(output, b", ", bytes as u64);
+    print_text(output, b" bytes: ");
 }

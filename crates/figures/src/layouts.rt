@@ -9,6 +9,7 @@ ghost use Rattle.figures.specs.Layouts.{start_of, place_of, size_agrees, formatt
 use figure_lines::lines::{
     at_most, byte_or, print_answer, print_count, print_figure, print_named, print_text, tally,
 };
+use figure_lines::output::Output;
 use layout::bitmap::bit_place;
 use layout::geometry::{Geometry, area_start, is_geometry};
 use mapper::{drive_size, format_drive};
@@ -47,12 +48,12 @@ pub struct FormatRow(
 
 // ---- geometries ----
 
-fn print_geometry(g: Geometry) {
-    print_named(b"B ", g.block_size as u64);
-    print_named(b", k ", g.height as u64);
-    print_named(b", P ", g.publics as u64);
-    print_named(b", H ", g.hidden as u64);
-    print_named(b", M ", g.slots as u64);
+fn print_geometry(output: &mut Output, g: Geometry) {
+    print_named(output, b"B ", g.block_size as u64);
+    print_named(output, b", k ", g.height as u64);
+    print_named(output, b", P ", g.publics as u64);
+    print_named(output, b", H ", g.hidden as u64);
+    print_named(output, b", M ", g.slots as u64);
 }
 
 // ---- sizes ----
@@ -79,7 +80,7 @@ fn place_of(g: Geometry, slot: u32) -> u32
 }
 
 // Prints a row; answers whether it agrees.
-fn run_size(row: SizeRow) -> bool
+fn run_size(output: &mut Output, row: SizeRow) -> bool
     ensures { result ≡ size_agrees row }
 {
     let g = Geometry {
@@ -89,26 +90,26 @@ fn run_size(row: SizeRow) -> bool
         hidden: row.3,
         slots: row.4,
     };
-    print_geometry(g);
-    print_text(b": size");
+    print_geometry(output, g);
+    print_text(output, b": size");
     let size = drive_size(g);
-    let answered = print_answer(row.6, size.answer);
-    let counted = print_count(b"  blocks", row.7, size.blocks);
-    let filled = print_figure(b"  bytes", row.8, size.bytes);
-    let started = print_count(b"  data area", row.9, start_of(g));
-    print_named(b"  bit place of slot ", row.5 as u64);
-    let placed = print_count(b"", row.10, place_of(g, row.5));
+    let answered = print_answer(output, row.6, size.answer);
+    let counted = print_count(output, b"  blocks", row.7, size.blocks);
+    let filled = print_figure(output, b"  bytes", row.8, size.bytes);
+    let started = print_count(output, b"  data area", row.9, start_of(g));
+    print_named(output, b"  bit place of slot ", row.5 as u64);
+    let placed = print_count(output, b"", row.10, place_of(g, row.5));
     answered & counted & filled & started & placed
 }
 
 // Prints every row; answers how many agree.
-pub fn run_sizes(rows: [SizeRow; 7]) -> u32
+pub fn run_sizes(output: &mut Output, rows: [SizeRow; 7]) -> u32
     ensures { result ≡ agreeing size_agrees rows }
 {
     let mut agreed: u32 = 0;
     let mut i = 0;
     while i < 7 {
-        agreed = tally(agreed, run_size(rows[i]));
+        agreed = tally(agreed, run_size(output, rows[i]));
         i += 1;
     }
     agreed
@@ -117,18 +118,25 @@ pub fn run_sizes(rows: [SizeRow; 7]) -> u32
 // ---- formatting ----
 
 // Formats a disk, and looks at a byte of it.
-fn format_on(disk: &mut [u8], g: Geometry, index: usize, answer: u8, value: u32) -> bool
+fn format_on(
+    output: &mut Output,
+    disk: &mut [u8],
+    g: Geometry,
+    index: usize,
+    answer: u8,
+    value: u32,
+) -> bool
     ensures agreed { result ≡ formatted_agrees disk.old (geometry_of g) index answer value }
     ensures stored { disk.new ≡ formatted disk.old (geometry_of g) }
 {
-    let answered = print_answer(answer, format_drive(disk, g));
-    print_named(b"  byte ", index as u64);
-    let shown = print_count(b"", value, byte_or(disk, index));
+    let answered = print_answer(output, answer, format_drive(disk, g));
+    print_named(output, b"  byte ", index as u64);
+    let shown = print_count(output, b"", value, byte_or(disk, index));
     answered & shown
 }
 
 // Prints a row; answers whether it agrees.
-fn run_format(row: FormatRow) -> bool
+fn run_format(output: &mut Output, row: FormatRow) -> bool
     ensures { result ≡ format_agrees row }
 {
     let g = Geometry {
@@ -140,19 +148,19 @@ fn run_format(row: FormatRow) -> bool
     };
     let mut disk = [170u8; 5696];
     let bytes = at_most(row.5, 5696);
-    print_geometry(g);
-    print_named(b": formatting bytes ", bytes as u64);
-    format_on(&mut disk[..bytes], g, row.6, row.7, row.8)
+    print_geometry(output, g);
+    print_named(output, b": formatting bytes ", bytes as u64);
+    format_on(output, &mut disk[..bytes], g, row.6, row.7, row.8)
 }
 
 // Prints every row; answers how many agree.
-pub fn run_formats(rows: [FormatRow; 33]) -> u32
+pub fn run_formats(output: &mut Output, rows: [FormatRow; 33]) -> u32
     ensures { result ≡ agreeing format_agrees rows }
 {
     let mut agreed: u32 = 0;
     let mut i = 0;
     while i < 33 {
-        agreed = tally(agreed, run_format(rows[i]));
+        agreed = tally(agreed, run_format(output, rows[i]));
         i += 1;
     }
     agreed

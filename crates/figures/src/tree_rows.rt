@@ -3,6 +3,7 @@
 // block: the leaves of slots 0, 1 and 2 are blocks 5, 8 and 11.
 use crate::drives::{FIVE, FRESH, NO, THREE};
 use crate::trees::{CHECK, ENTRY, TreeRow, WALK, run_trees};
+use figure_lines::output::Output;
 
 // how made, index put, value put, and again, bytes lent, what is asked, index or number, level; answer
 const TREES: [TreeRow; 34] = [
@@ -55,6 +56,6 @@ const TREES: [TreeRow; 34] = [
 ];
 
 // Answers how many of them agree.
-pub fn tree_rows() -> u32 {
-    run_trees(TREES)
+pub fn tree_rows(output: &mut Output) -> u32 {
+    run_trees(output, TREES)
 }

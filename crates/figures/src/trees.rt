@@ -7,6 +7,7 @@ ghost use Rattle.figures.specs.Trees.{address_or, node_on, told_by, tree_agrees}
 
 use crate::drives::{Drive, print_drive, small_drive};
 use figure_lines::lines::{entry_or, part_of, print_named, print_text, tally};
+use figure_lines::output::Output;
 use hidden_map::nodes::{Node, Nodes, node_at};
 use hidden_map::walks::walk;
 use layout::drives::{Opened, open_drive};
@@ -91,32 +92,32 @@ fn told_by(disk: &[u8], asked: u8, number: u32, level: u32) -> u32
     node_on(disk, number, level)
 }
 
-fn print_asked(asked: u8, number: u32, level: u32) {
+fn print_asked(output: &mut Output, asked: u8, number: u32, level: u32) {
     if asked == 0 {
-        print_named(b"entry ", number as u64);
+        print_named(output, b"entry ", number as u64);
         return;
     }
     if asked == 1 {
-        print_text(b"check");
+        print_text(output, b"check");
         return;
     }
-    print_named(b"walk for ", number as u64);
-    print_named(b", node of level ", level as u64);
+    print_named(output, b"walk for ", number as u64);
+    print_named(output, b", node of level ", level as u64);
 }
 
 // Prints an answer, "none" for the address of no node.
-fn print_told(asked: u8, told: u32) {
+fn print_told(output: &mut Output, asked: u8, told: u32) {
     if asked == 2 {
         if told == 0 {
-            print_text(b"none");
+            print_text(output, b"none");
             return;
         }
     }
-    print_named(b"", told as u64);
+    print_named(output, b"", told as u64);
 }
 
 // Prints a row; answers whether it agrees.
-fn run_tree(row: TreeRow) -> bool
+fn run_tree(output: &mut Output, row: TreeRow) -> bool
     ensures { result ≡ tree_agrees row }
 {
     let drive = Drive {
@@ -129,26 +130,26 @@ fn run_tree(row: TreeRow) -> bool
     };
     let bytes = row.5;
     let asked = row.6;
-    print_drive(drive, bytes);
-    print_asked(asked, row.7, row.8);
+    print_drive(output, drive, bytes);
+    print_asked(output, asked, row.7, row.8);
     let disk = small_drive(drive);
     let told = told_by(part_of(&disk, bytes), asked, row.7, row.8);
-    print_text(b" expected ");
-    print_told(asked, row.9);
-    print_text(b" got ");
-    print_told(asked, told);
-    print_text(b"\n");
+    print_text(output, b" expected ");
+    print_told(output, asked, row.9);
+    print_text(output, b" got ");
+    print_told(output, asked, told);
+    print_text(output, b"\n");
     row.9 == told
 }
 
 // Prints every row; answers how many agree.
-pub fn run_trees(rows: [TreeRow; 34]) -> u32
+pub fn run_trees(output: &mut Output, rows: [TreeRow; 34]) -> u32
     ensures { result ≡ agreeing tree_agrees rows }
 {
     let mut agreed: u32 = 0;
     let mut i = 0;
     while i < 34 {
-        agreed = tally(agreed, run_tree(rows[i]));
+        agreed = tally(agreed, run_tree(output, rows[i]));
         i += 1;
     }
     agreed

@@ -1,6 +1,7 @@
 // What document 01 says of writes, and document 02 of the stores of a drive with two bitmap blocks (K2).
 use crate::drives::{FRESH, MOVED, NO, SLOT, WRITTEN};
 use crate::writes::{NONE, RefusedRow, WriteRow, run_refusals, run_writes};
+use figure_lines::output::Output;
 
 // how made, times, index put, value put, bytes lent, number, bytes of data, random bytes, room; answer
 const REFUSALS: [RefusedRow; 13] = [
@@ -70,11 +71,11 @@ const WRITES: [WriteRow; 16] = [
 ];
 
 // Answers how many refused writes agree.
-pub fn refused_rows() -> u32 {
-    run_refusals(REFUSALS)
+pub fn refused_rows(output: &mut Output) -> u32 {
+    run_refusals(output, REFUSALS)
 }
 
 // Answers how many writes agree.
-pub fn write_rows() -> u32 {
-    run_writes(WRITES)
+pub fn write_rows(output: &mut Output) -> u32 {
+    run_writes(output, WRITES)
 }

@@ -11,6 +11,7 @@ use figure_lines::lines::{
     at_most, part_of, print_answer, print_count, print_named, print_text, tally,
 };
 use figure_lines::lists::print_list;
+use figure_lines::output::Output;
 use layout::numbers::{HiddenNumber, PublicNumber};
 use mapper::{Written, outcome_number, write_block, write_fault};
 
@@ -82,19 +83,25 @@ fn is_offered(number: u32) -> bool
     number < NONE
 }
 
-fn print_write(write: Write, room: usize) {
-    print_named(b"write ", write.number as u64);
-    print_named(b" of ", write.content as u64);
+fn print_write(output: &mut Output, write: Write, room: usize) {
+    print_named(output, b"write ", write.number as u64);
+    print_named(output, b" of ", write.content as u64);
     if is_offered(write.offer) {
-        print_named(b", offer ", write.offer as u64);
-        print_named(b" of ", write.hidden as u64);
+        print_named(output, b", offer ", write.offer as u64);
+        print_named(output, b" of ", write.hidden as u64);
     }
-    print_named(b", random bytes ", write.random as u64);
-    print_named(b", list of ", room as u64);
+    print_named(output, b", random bytes ", write.random as u64);
+    print_named(output, b", list of ", room as u64);
 }
 
 // What the write is refused for, asked without writing.
-fn ask_fault<'a>(disk: &'a [u8], list: &'a [u32], write: Write, answer: u8) -> bool
+fn ask_fault<'a>(
+    output: &mut Output,
+    disk: &'a [u8],
+    list: &'a [u32],
+    write: Write,
+    answer: u8,
+) -> bool
     ensures { result ≡ fault_agrees disk.now list.now write answer }
 {
     let content = [7u8; 32];
@@ -106,7 +113,7 @@ fn ask_fault<'a>(disk: &'a [u8], list: &'a [u32], write: Write, answer: u8) -> b
         part_of(&random, write.random),
         list,
     );
-    print_answer(answer, fault)
+    print_answer(output, answer, fault)
 }
 
 fn do_write(disk: &mut [u8], list: &mut [u32], write: Write) -> Written
@@ -129,44 +136,66 @@ fn do_write(disk: &mut [u8], list: &mut [u32], write: Write) -> Written
 }
 
 // Prints the four figures of a write; answers whether they agree.
-fn print_written(said: Said, made: Written) -> bool
+fn print_written(output: &mut Output, said: Said, made: Written) -> bool
     ensures { result ≡ said_agrees said made.answer made.rounds made.stores
         (outcome_number (outcome_of made.outcome)) }
 {
     let outcome = made.outcome;
-    print_text(b"  answer");
-    let answered = print_answer(said.answer, made.answer);
-    let ran = print_count(b"  rounds", said.rounds, made.rounds);
-    let stored = print_count(b"  stores", said.stores, made.stores);
-    print_text(b"  outcome");
-    let told = print_answer(said.outcome, outcome_number(outcome));
+    print_text(output, b"  answer");
+    let answered = print_answer(output, said.answer, made.answer);
+    let ran = print_count(output, b"  rounds", said.rounds, made.rounds);
+    let stored = print_count(output, b"  stores", said.stores, made.stores);
+    print_text(output, b"  outcome");
+    let told = print_answer(output, said.outcome, outcome_number(outcome));
     answered & ran & stored & told
 }
 
 // Writes with a list, and holds what comes of it to what the document says.
-fn write_listed(disk: &mut [u8], list: &mut [u32], write: Write, said: Said, stored: &[u32]) -> bool
+fn write_listed(
+    output: &mut Output,
+    disk: &mut [u8],
+    list: &mut [u32],
+    write: Write,
+    said: Said,
+    stored: &[u32],
+) -> bool
     ensures { RowWrote write said stored.now disk.old list.old
         disk.new list.new result }
 {
-    let refused = ask_fault(disk, list, write, said.answer);
+    let refused = ask_fault(output, disk, list, write, said.answer);
     let made = do_write(disk, list, write);
-    let told = print_written(said, made);
-    let listed = print_list(stored, list);
+    let told = print_written(output, said, made);
+    let listed = print_list(output, stored, list);
     refused & told & listed
 }
 
 // The same with a list of so much room, of entries 99, and with as many stored as are said.
-fn write_on(disk: &mut [u8], room: usize, write: Write, said: Said, stored: [u32; 17]) -> bool
+fn write_on(
+    output: &mut Output,
+    disk: &mut [u8],
+    room: usize,
+    write: Write,
+    said: Said,
+    stored: [u32; 17],
+) -> bool
     ensures { RowWroteOn room write said stored disk.old disk.new result }
 {
     let mut list = [99u32; 23];
     let count = at_most(room, 23);
     let stores = at_most(said.stores as usize, 17);
-    write_listed(disk, &mut list[..count], write, said, &stored[..stores])
+    write_listed(
+        output,
+        disk,
+        &mut list[..count],
+        write,
+        said,
+        &stored[..stores],
+    )
 }
 
 // The same on the first so many bytes of a drive.
 fn write_drive(
+    output: &mut Output,
     drive: Drive,
     bytes: usize,
     room: usize,
@@ -176,24 +205,24 @@ fn write_drive(
 ) -> bool
     ensures { result ≡ write_agrees drive bytes room write said stored }
 {
-    print_drive(drive, bytes);
-    print_write(write, room);
+    print_drive(output, drive, bytes);
+    print_write(output, write, room);
     if drive.made == 5 {
         let mut wide = [0u8; 9760];
         make_drive(&mut wide, drive);
         let count = at_most(bytes, 9760);
-        return write_on(&mut wide[..count], room, write, said, stored);
+        return write_on(output, &mut wide[..count], room, write, said, stored);
     }
     let mut disk = [0u8; 512];
     make_drive(&mut disk, drive);
     let count = at_most(bytes, 512);
-    write_on(&mut disk[..count], room, write, said, stored)
+    write_on(output, &mut disk[..count], room, write, said, stored)
 }
 
 // ---- refused writes ----
 
 // Prints a row; answers whether it agrees.
-fn run_refused(row: RefusedRow) -> bool
+fn run_refused(output: &mut Output, row: RefusedRow) -> bool
     ensures { result ≡ refused_agrees row }
 {
     let drive = drive_with(row.0, row.1, row.2, row.3);
@@ -210,17 +239,17 @@ fn run_refused(row: RefusedRow) -> bool
         stores: 0,
         outcome: 3,
     };
-    write_drive(drive, row.4, row.8, write, said, [0u32; 17])
+    write_drive(output, drive, row.4, row.8, write, said, [0u32; 17])
 }
 
 // Prints every row; answers how many agree.
-pub fn run_refusals(rows: [RefusedRow; 13]) -> u32
+pub fn run_refusals(output: &mut Output, rows: [RefusedRow; 13]) -> u32
     ensures { result ≡ agreeing refused_agrees rows }
 {
     let mut agreed: u32 = 0;
     let mut i = 0;
     while i < 13 {
-        agreed = tally(agreed, run_refused(rows[i]));
+        agreed = tally(agreed, run_refused(output, rows[i]));
         i += 1;
     }
     agreed
@@ -229,7 +258,7 @@ pub fn run_refusals(rows: [RefusedRow; 13]) -> u32
 // ---- writes ----
 
 // Prints a row; answers whether it agrees.
-fn run_write(row: WriteRow) -> bool
+fn run_write(output: &mut Output, row: WriteRow) -> bool
     ensures { result ≡ accepted_agrees row }
 {
     let drive = drive_with(row.0, row.1, row.2, row.3);
@@ -247,17 +276,17 @@ fn run_write(row: WriteRow) -> bool
         outcome: row.12,
     };
     let stored = row.13;
-    write_drive(drive, row.4, row.9, write, said, stored)
+    write_drive(output, drive, row.4, row.9, write, said, stored)
 }
 
 // Prints every row; answers how many agree.
-pub fn run_writes(rows: [WriteRow; 16]) -> u32
+pub fn run_writes(output: &mut Output, rows: [WriteRow; 16]) -> u32
     ensures { result ≡ agreeing accepted_agrees rows }
 {
     let mut agreed: u32 = 0;
     let mut i = 0;
     while i < 16 {
-        agreed = tally(agreed, run_write(rows[i]));
+        agreed = tally(agreed, run_write(output, rows[i]));
         i += 1;
     }
     agreed

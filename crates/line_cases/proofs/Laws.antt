@@ -1,4 +1,3 @@
 pub mod Offers
 pub mod Cases
-pub mod Locals
 pub mod Lents

@@ -10,6 +10,7 @@ use crate::blocks::three_blocks;
 use crate::offers::{line_by, print_line};
 use figure_lines::lines::{number_at, print_named, print_text, put_on};
 use figure_lines::lists::print_entries;
+use figure_lines::output::Output;
 use layout::geometry::Geometry;
 use layout::numbers::PublicNumber;
 use line::offers::{Line, no_line};
@@ -88,7 +89,7 @@ fn carry(disk: &mut [u8], from: u32, to: u32, last: u32, line: Line) -> Line
 
 // Prints how many bytes the disk has and of which value, the drive, how many writes go before with an empty
 // line and in all, and the line.
-pub fn print_start(fill: u8, bytes: usize, start: Start) {
+pub fn print_start(output: &mut Output, fill: u8, bytes: usize, start: Start) {
     let said = [
         start.publics,
         start.hidden,
@@ -97,11 +98,11 @@ pub fn print_start(fill: u8, bytes: usize, start: Start) {
         start.plain,
         start.writes,
     ];
-    print_named(b"", bytes as u64);
-    print_named(b" bytes of ", fill as u64);
-    print_text(b", P, H, M, root entry, plain writes, all writes:");
-    print_entries(&said, 6);
-    print_line(b", line ", line_by(start.line));
+    print_named(output, b"", bytes as u64);
+    print_named(output, b" bytes of ", fill as u64);
+    print_text(output, b", P, H, M, root entry, plain writes, all writes:");
+    print_entries(output, &said, 6);
+    print_line(output, b", line ", line_by(start.line));
 }
 
 // Makes the drive, so many writes with an empty line, and then up to so many in all with the line that is

@@ -6,6 +6,7 @@ ghost use Rattle.line_cases.specs.Offers.{same_line};
 ghost use Rattle.line_cases.specs.Lents.{lent_after, LentAfter};
 
 use crate::offers::print_lines;
+use figure_lines::output::Output;
 use lent_line::save_lent;
 use line::offers::{Line, Offer, held};
 
@@ -32,8 +33,8 @@ fn lent_after(lent: Line, left: Line) -> Line
 
 // Ends a line of figures with what is said to lie in the line that was handed over, and with what lies there;
 // answers whether they agree.
-pub fn print_lent(said: Line, lent: Line, left: Line) -> bool
+pub fn print_lent(output: &mut Output, said: Line, lent: Line, left: Line) -> bool
     ensures { result ≡ same_line (line_of said) (lent_after (line_of lent) (line_of left)) }
 {
-    print_lines(b"  lent expected ", said, lent_after(lent, left))
+    print_lines(output, b"  lent expected ", said, lent_after(lent, left))
 }

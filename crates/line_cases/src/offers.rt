@@ -4,6 +4,7 @@ ghost use Rattle.line.specs.Offers.{offer_of, line_of};
 ghost use Rattle.line_cases.specs.Offers.{offer_said, line_said, same_offer, same_line};
 
 use figure_lines::lines::{print_named, print_text};
+use figure_lines::output::Output;
 use layout::numbers::HiddenNumber;
 use line::offers::{Line, Offer, held, no_line, offer_of, push_offer};
 
@@ -40,19 +41,19 @@ pub fn line_by(said: u64) -> Line
 }
 
 // Prints an offer as its number and its place.
-pub fn print_offer(offer: Offer) {
-    print_named(b" (", offer.number.0 as u64);
-    print_named(b",", offer.place as u64);
-    print_text(b")");
+pub fn print_offer(output: &mut Output, offer: Offer) {
+    print_named(output, b" (", offer.number.0 as u64);
+    print_named(output, b",", offer.place as u64);
+    print_text(output, b")");
 }
 
 // Prints how many offers wait after a text, and each with its place.
-pub fn print_line(text: &[u8], line: Line) {
+pub fn print_line(output: &mut Output, text: &[u8], line: Line) {
     let most = held(line);
-    print_named(text, most as u64);
+    print_named(output, text, most as u64);
     let mut i = 0;
     while i < most {
-        print_offer(offer_of(line, i));
+        print_offer(output, offer_of(line, i));
         i += 1;
     }
 }
@@ -82,18 +83,18 @@ fn is_line(said: Line, got: Line) -> bool
 
 // Ends a line of figures with a text, the line that is said and the one that there is; answers whether they
 // agree.
-pub fn print_lines(text: &[u8], said: Line, got: Line) -> bool
+pub fn print_lines(output: &mut Output, text: &[u8], said: Line, got: Line) -> bool
     ensures { result ≡ same_line (line_of said) (line_of got) }
 {
-    print_line(text, said);
-    print_line(b" got ", got);
-    print_text(b"\n");
+    print_line(output, text, said);
+    print_line(output, b" got ", got);
+    print_text(output, b"\n");
     is_line(said, got)
 }
 
 // The same of the line that a call leaves.
-pub fn print_left(said: Line, got: Line) -> bool
+pub fn print_left(output: &mut Output, said: Line, got: Line) -> bool
     ensures { result ≡ same_line (line_of said) (line_of got) }
 {
-    print_lines(b"  line expected ", said, got)
+    print_lines(output, b"  line expected ", said, got)
 }

@@ -2,6 +2,7 @@
 // the blank is of bytes 5.
 use crate::enters::{EnterRow, run_enters};
 use crate::writes::{WriteRow, run_writes};
+use figure_lines::output::Output;
 
 // ---- lines ----
 
@@ -144,11 +145,11 @@ const WRITES: [WriteRow; 12] = [
 ];
 
 // Answers how many rows of offers that enter agree.
-pub fn enter_rows() -> u32 {
-    run_enters(ENTERS)
+pub fn enter_rows(output: &mut Output) -> u32 {
+    run_enters(output, ENTERS)
 }
 
 // Answers how many rows of writes with a line agree.
-pub fn line_write_rows() -> u32 {
-    run_writes(WRITES)
+pub fn line_write_rows(output: &mut Output) -> u32 {
+    run_writes(output, WRITES)
 }

@@ -12,6 +12,7 @@ use figure_lines::lines::{
     tally,
 };
 use figure_lines::lists::print_list;
+use figure_lines::output::Output;
 use layout::numbers::HiddenNumber;
 use line::offers::Line;
 use line_cases::blocks::three_blocks;
@@ -67,69 +68,76 @@ fn read_shown<'a>(disk: &'a [u8], line: Line, number: u32, blank: &'a [u8], bloc
 }
 
 // Prints a read of a hidden number through the line; answers whether it agrees.
-fn print_read(disk: &[u8], line: Line, number: u32, answer: u32, shown: u32) -> bool
+fn print_read(
+    output: &mut Output,
+    disk: &[u8],
+    line: Line,
+    number: u32,
+    answer: u32,
+    shown: u32,
+) -> bool
     ensures { result ≡ line_read_agrees disk.now (line_of line) number answer shown }
 {
     let blank = [5u8; 32];
     let blocks = three_blocks();
     let fault = hidden_fault_line(disk, HiddenNumber(number), &blank, &blocks, line);
     let got = read_shown(disk, line, number, &blank, &blocks);
-    print_named(b"  read ", number as u64);
-    let answered = print_count(b"", answer, fault as u32);
-    let seen = print_count(b"  shows", shown, got);
+    print_named(output, b"  read ", number as u64);
+    let answered = print_count(output, b"", answer, fault as u32);
+    let seen = print_count(output, b"  shows", shown, got);
     answered & seen
 }
 
 // The same of hidden numbers 0 and 1.
-fn print_reads(disk: &[u8], line: Line, row: WriteRow) -> bool
+fn print_reads(output: &mut Output, disk: &[u8], line: Line, row: WriteRow) -> bool
     ensures { result ≡ reads_agree row disk.now (line_of line) }
 {
-    let zero = print_read(disk, line, 0, row.18, row.19);
-    let one = print_read(disk, line, 1, row.20, row.21);
+    let zero = print_read(output, disk, line, 0, row.18, row.19);
+    let one = print_read(output, disk, line, 1, row.20, row.21);
     zero & one
 }
 
 // ---- writes ----
 
 // Prints five figures of a write; answers whether they agree.
-fn print_made(row: WriteRow, number: u32, made: LineWritten) -> bool
+fn print_made(output: &mut Output, row: WriteRow, number: u32, made: LineWritten) -> bool
     ensures { result ≡ made_agrees row made.answer made.rounds made.stores
         (outcome_number (outcome_of made.outcome)) made.placed }
 {
     let outcome = made.outcome;
-    print_named(b"  write ", number as u64);
-    let answered = print_answer(row.10, made.answer);
-    let ran = print_count(b"  rounds", row.11, made.rounds);
-    let stored = print_count(b"  stores", row.12, made.stores);
-    print_text(b"  outcome");
-    let told = print_answer(row.13, outcome_number(outcome));
-    let placed = print_count(b"  placed", row.14, made.placed);
+    print_named(output, b"  write ", number as u64);
+    let answered = print_answer(output, row.10, made.answer);
+    let ran = print_count(output, b"  rounds", row.11, made.rounds);
+    let stored = print_count(output, b"  stores", row.12, made.stores);
+    print_text(output, b"  outcome");
+    let told = print_answer(output, row.13, outcome_number(outcome));
+    let placed = print_count(output, b"  placed", row.14, made.placed);
     answered & ran & stored & told & placed
 }
 
 // Prints the head and the list after a write; answers whether they agree.
-fn print_stored<'a>(disk: &'a [u8], list: &'a [u32], row: WriteRow) -> bool
+fn print_stored<'a>(output: &mut Output, disk: &'a [u8], list: &'a [u32], row: WriteRow) -> bool
     ensures { result ≡ stored_agrees row disk.now list.now }
 {
     let said = row.17;
-    let headed = print_count(b"  head", row.16, entry_or(disk, 5));
-    let listed = print_list(&said, list);
+    let headed = print_count(output, b"  head", row.16, entry_or(disk, 5));
+    let listed = print_list(output, &said, list);
     headed & listed
 }
 
 // Prints the line that a write leaves, and what then lies in the one that it was handed; answers whether they
 // agree.
-fn print_kept(row: WriteRow, handed: Line, left: Line) -> bool
+fn print_kept(output: &mut Output, row: WriteRow, handed: Line, left: Line) -> bool
     ensures { result ≡ kept_agrees row (line_of handed) (line_of left) }
 {
-    let stay = print_left(line_by(row.15), left);
-    let lie = print_lent(line_by(row.22), handed, left);
+    let stay = print_left(output, line_by(row.15), left);
+    let lie = print_lent(output, line_by(row.22), handed, left);
     stay & lie
 }
 
 // Makes the row's case, reads through the line, writes with it, reads again, and prints what comes of it;
 // answers whether it agrees.
-fn write_on(disk: &mut [u8], row: WriteRow) -> bool
+fn write_on(output: &mut Output, disk: &mut [u8], row: WriteRow) -> bool
     ensures { WrittenOn row disk.old disk.new result }
 {
     let start = Start {
@@ -143,38 +151,38 @@ fn write_on(disk: &mut [u8], row: WriteRow) -> bool
         line: row.9,
     };
     let number = number_at(row.7, row.8);
-    print_start(row.0, row.1, start);
+    print_start(output, row.0, row.1, start);
     let line = prepare(disk, start);
-    let seen = print_reads(disk, line, row);
+    let seen = print_reads(output, disk, line, row);
     let mut list = [99u32; 23];
     let made = write_with(disk, number, line, &mut list);
     let left = made.line;
-    let told = print_made(row, number, made);
-    let stored = print_stored(disk, &list, row);
-    let kept = print_kept(row, line, left);
-    let shown = print_reads(disk, left, row);
+    let told = print_made(output, row, number, made);
+    let stored = print_stored(output, disk, &list, row);
+    let kept = print_kept(output, row, line, left);
+    let shown = print_reads(output, disk, left, row);
     seen & told & stored & kept & shown
 }
 
 // ---- rows ----
 
 // Prints a row; answers whether it agrees.
-fn run_write(row: WriteRow) -> bool
+fn run_write(output: &mut Output, row: WriteRow) -> bool
     ensures { result ≡ line_agrees row }
 {
     let mut disk = [row.0; 1952];
     let count = at_most(row.1, 1952);
-    write_on(&mut disk[..count], row)
+    write_on(output, &mut disk[..count], row)
 }
 
 // Prints every row; answers how many agree.
-pub fn run_writes(rows: [WriteRow; 12]) -> u32
+pub fn run_writes(output: &mut Output, rows: [WriteRow; 12]) -> u32
     ensures { result ≡ agreeing line_agrees rows }
 {
     let mut agreed: u32 = 0;
     let mut i = 0;
     while i < 12 {
-        agreed = tally(agreed, run_write(rows[i]));
+        agreed = tally(agreed, run_write(output, rows[i]));
         i += 1;
     }
     agreed

@@ -3,6 +3,7 @@
 #![tactic(auto)]
 
 mod writes; // the write of one line, and its line of output
+mod streams; // standard input and output
 mod progress; // where a listing stands, byte by byte
 
 ghost use Rattle.std.specs.Prelude.{◌≡◌, ◌+◌, ◌≤◌, ◌<◌, ◌^◌, length};
@@ -12,32 +13,34 @@ ghost use Rattle.script.specs.Reports.{heading};
 ghost use Rattle.listing.specs.Listings.{begun, after_byte, text_of_byte, after_bytes, after_end, text_of_end};
 ghost use Rattle.listing.specs.Listings.{Lent, listing_of, WentOn, Fed, Led, listing, printed};
 
-use libc::{STDIN_FILENO, STDOUT_FILENO};
 use progress::{Progress, begin, step_byte, step_end};
 use script::reports::put_heading;
+use std::io;
+use streams::{Streams, finish, read_bytes, streams_on, write_bytes};
 
 // Hands so many bytes from the front of a buffer to standard output; answers how many. Nothing else prints.
 // No contract can speak of what is written there: the cases of tests/listing do.
-fn print_front(out: &[u8], put: usize) -> usize
+fn print_front(streams: &mut Streams, out: &[u8], put: usize) -> usize
     requires { put ≤ length out.now }
     ensures { result ≡ put }
 {
-    io::write_all(STDOUT_FILENO, &out[..put]);
+    write_bytes(streams, &out[..put]);
     put
 }
 
 // Puts the heading and prints it; answers its length.
-fn print_heading(out: &mut [u8]) -> usize
+fn print_heading(streams: &mut Streams, out: &mut [u8]) -> usize
     requires { length heading ≤ length out.old }
     ensures { Put heading out.old 0 out.new result }
 {
     let put = put_heading(out);
-    print_front(out, put)
+    print_front(streams, out, put)
 }
 
 // Takes one more byte of input and prints what comes of it: what it prints stands at the front of the buffer,
 // and the progress has its length.
 fn list_byte(
+    streams: &mut Streams,
     progress: Progress,
     byte: u8,
     buffer: &mut [u8],
@@ -53,7 +56,7 @@ fn list_byte(
 {
     let next = step_byte(progress, byte, buffer, disk, out);
     let feed = next.feed;
-    let put = print_front(out, next.put);
+    let put = print_front(streams, out, next.put);
     Progress {
         feed,
         is_open: next.is_open,
@@ -63,7 +66,13 @@ fn list_byte(
 }
 
 // Takes the end of the input and prints what comes of it, as a byte's.
-fn list_end(progress: Progress, buffer: &[u8], disk: &mut [u8], out: &mut [u8]) -> Progress
+fn list_end(
+    streams: &mut Streams,
+    progress: Progress,
+    buffer: &[u8],
+    disk: &mut [u8],
+    out: &mut [u8],
+) -> Progress
     requires line_bound { progress.line + 1 < 2 ^ 64 }
     requires lent { Lent buffer.now disk.old out.old }
     ensures { WentOn
@@ -73,7 +82,7 @@ fn list_end(progress: Progress, buffer: &[u8], disk: &mut [u8], out: &mut [u8]) 
 {
     let last = step_end(progress, buffer, disk, out);
     let feed = last.feed;
-    let put = print_front(out, last.put);
+    let put = print_front(streams, out, last.put);
     Progress {
         feed,
         is_open: last.is_open,
@@ -84,6 +93,7 @@ fn list_end(progress: Progress, buffer: &[u8], disk: &mut [u8], out: &mut [u8]) 
 
 // Takes a piece of the input, byte by byte.
 fn list_bytes(
+    streams: &mut Streams,
     progress: Progress,
     piece: &[u8],
     buffer: &mut [u8],
@@ -99,7 +109,7 @@ fn list_bytes(
     let mut current = progress;
     let mut i = 0;
     while i < piece.len() {
-        current = list_byte(current, piece[i], buffer, disk, out);
+        current = list_byte(streams, current, piece[i], buffer, disk, out);
         i += 1;
     }
     current
@@ -107,6 +117,7 @@ fn list_bytes(
 
 // Reads a piece of the input and takes it, or its end where nothing is read.
 fn list_piece(
+    streams: &mut Streams,
     progress: Progress,
     piece: &mut [u8],
     buffer: &mut [u8],
@@ -119,12 +130,11 @@ fn list_piece(
         (listing_of result buffer.new disk.new) }
     ensures line_bound { result.line ≤ progress.line + length piece.old + 1 }
 {
-    let got = libc::read(STDIN_FILENO, piece);
-    let count = io::count(got, piece);
+    let count = read_bytes(streams, piece);
     if count == 0 {
-        return list_end(progress, buffer, disk, out);
+        return list_end(streams, progress, buffer, disk, out);
     }
-    list_bytes(progress, &piece[..count], buffer, disk, out)
+    list_bytes(streams, progress, &piece[..count], buffer, disk, out)
 }
 
 // Turns of the loop over pieces. A proved loop has to end, and nothing says that the input does; no run uses
@@ -133,6 +143,7 @@ const TURNS: u64 = 1125899906842624;
 
 // Lists the input, piece by piece, until a line or the input ends it.
 fn list_input(
+    streams: &mut Streams,
     progress: Progress,
     piece: &mut [u8],
     buffer: &mut [u8],
@@ -151,7 +162,7 @@ fn list_input(
         if !current.is_open {
             return current;
         }
-        current = list_piece(current, piece, buffer, disk, out);
+        current = list_piece(streams, current, piece, buffer, disk, out);
         turns -= 1;
     }
     current
@@ -160,23 +171,32 @@ fn list_input(
 // Formats the disk, prints the heading and lists the input. Some input leads to where the listing then
 // stands (`led`): a contract does not know what was read. Of any input, what the steps put, one after another
 // and after the heading, is its listing (`whole`). That all of it is printed is tested, not proved.
-fn run_listing(piece: &mut [u8], buffer: &mut [u8], disk: &mut [u8], out: &mut [u8]) -> Progress
+fn run_listing(
+    streams: &mut Streams,
+    piece: &mut [u8],
+    buffer: &mut [u8],
+    disk: &mut [u8],
+    out: &mut [u8],
+) -> Progress
     requires piece_len_bound { length piece.old ≤ 4096 }
     requires lent { Lent buffer.old disk.old out.old }
     ensures led { Led (begun disk.old)
         (listing_of result buffer.new disk.new) }
     ensures whole { (input : Bytes) → printed input ≡ listing input }
 {
-    print_heading(out);
+    print_heading(streams, out);
     let progress = begin(disk);
-    list_input(progress, piece, buffer, disk, out)
+    list_input(streams, progress, piece, buffer, disk, out)
 }
 
-fn main() {
+fn main(rt: HostRuntime) -> io::Result<()> {
+    let mut streams = streams_on(rt.stdin(), rt.stdout());
     run_listing(
+        &mut streams,
         &mut [0u8; 4096],
         &mut [0u8; 20],
         &mut [0u8; 512],
         &mut [0u8; 312],
     );
+    finish(streams)
 }

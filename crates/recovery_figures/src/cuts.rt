@@ -12,6 +12,7 @@ use crate::listed::five_lines;
 use crate::tells::{hidden_first, tell_bits, tell_fault, tell_public, tell_recovery};
 use figure_lines::lines::{print_count, print_named, tally};
 use figure_lines::lists::print_list;
+use figure_lines::output::Output;
 use layout::numbers::{HiddenNumber, PublicNumber};
 use mapper::{CutWritten, write_cut};
 
@@ -71,7 +72,7 @@ fn cut_write(disk: &mut [u8], list: &mut [u32], bound: usize) -> CutWritten
 
 // Makes them with a list of 23 entries 99, and prints what the write tells and the list; answers whether they
 // agree.
-fn tell_cut(disk: &mut [u8], row: CutRow) -> bool
+fn tell_cut(output: &mut Output, disk: &mut [u8], row: CutRow) -> bool
     ensures told { result ≡ cut_told row (pulled_on disk.old 23) }
     ensures stored { disk.new ≡
         cut_disk row.0 (pulled_on disk.old 23) disk.old }
@@ -79,55 +80,59 @@ fn tell_cut(disk: &mut [u8], row: CutRow) -> bool
     let mut list = [99u32; 23];
     let made = cut_write(disk, &mut list, row.0);
     let stores = all_stores();
-    let counted = print_count(b": stores", row.1, made.stores);
-    let ended = print_count(b"  is cut", row.2, tally(0, made.is_cut));
-    let listed = print_list(front_of(&stores, row.0), &list);
+    let counted = print_count(output, b": stores", row.1, made.stores);
+    let ended = print_count(output, b"  is cut", row.2, tally(0, made.is_cut));
+    let listed = print_list(output, front_of(&stores, row.0), &list);
     counted & ended & listed
 }
 
 // ---- the recovery ----
 
 // Prints what a disk shows; answers whether it agrees.
-fn tell_shown(disk: &[u8], row: CutRow) -> bool
+fn tell_shown(output: &mut Output, disk: &[u8], row: CutRow) -> bool
     ensures { result ≡ shown_told row disk.now }
 {
-    let seen = tell_public(disk, row.4);
-    let unseen = print_count(b"  hidden 0 shows", row.5, hidden_first(disk, 0));
-    let marked = tell_bits(disk, row.6, row.7);
+    let seen = tell_public(output, disk, row.4);
+    let unseen = print_count(output, b"  hidden 0 shows", row.5, hidden_first(disk, 0));
+    let marked = tell_bits(output, disk, row.6, row.7);
     seen & unseen & marked
 }
 
 // Recovers a disk, and prints what it shows; answers whether it agrees.
-fn tell_mended(disk: &mut [u8], row: CutRow) -> bool
+fn tell_mended(output: &mut Output, disk: &mut [u8], row: CutRow) -> bool
     ensures { result ≡ mended_told row disk.old }
 {
-    let refused = tell_fault(disk, row.3);
-    let answered = tell_recovery(disk, 0);
-    let shown = tell_shown(disk, row);
+    let refused = tell_fault(output, disk, row.3);
+    let answered = tell_recovery(output, disk, 0);
+    let shown = tell_shown(output, disk, row);
     refused & answered & shown
 }
 
 // ---- rows ----
 
 // Prints a row; answers whether it agrees.
-fn run_cut(row: CutRow) -> bool
+fn run_cut(output: &mut Output, row: CutRow) -> bool
     ensures { result ≡ cut_agrees row }
 {
-    print_named(b"five lines, write 0 with offer 0 cut after ", row.0 as u64);
+    print_named(
+        output,
+        b"five lines, write 0 with offer 0 cut after ",
+        row.0 as u64,
+    );
     let mut disk = five_lines();
-    let told = tell_cut(&mut disk, row);
-    let mended = tell_mended(&mut disk, row);
+    let told = tell_cut(output, &mut disk, row);
+    let mended = tell_mended(output, &mut disk, row);
     told & mended
 }
 
 // Prints every row; answers how many agree.
-pub fn run_cuts(rows: [CutRow; 8]) -> u32
+pub fn run_cuts(output: &mut Output, rows: [CutRow; 8]) -> u32
     ensures { result ≡ agreeing cut_agrees rows }
 {
     let mut agreed: u32 = 0;
     let mut i = 0;
     while i < 8 {
-        agreed = tally(agreed, run_cut(rows[i]));
+        agreed = tally(agreed, run_cut(output, rows[i]));
         i += 1;
     }
     agreed

@@ -9,6 +9,7 @@ ghost use Rattle.recovery_figures.specs.LineCuts.{line_mended_told, line_cut_agr
 use crate::listed::five_lines;
 use crate::tells::{hidden_first, tell_recovery};
 use figure_lines::lines::{print_count, print_figure, print_named, tally};
+use figure_lines::output::Output;
 use layout::numbers::PublicNumber;
 use line::offers::held;
 use line_cases::offers::line_by;
@@ -37,7 +38,7 @@ fn two_blocks() -> [u8; 64]
 // ---- the write ----
 
 // Makes the first so many stores of the write, and prints what it tells; answers whether that agrees.
-fn tell_line_cut(disk: &mut [u8], row: LineCutRow) -> bool
+fn tell_line_cut(output: &mut Output, disk: &mut [u8], row: LineCutRow) -> bool
     ensures told { result ≡ line_cut_told row disk.old }
     ensures stored { disk.new ≡
         cut_disk row.0 (line_pulled_on disk.old) disk.old }
@@ -54,48 +55,49 @@ fn tell_line_cut(disk: &mut [u8], row: LineCutRow) -> bool
         row.0,
     );
     let left = made.line;
-    let counted = print_count(b": stores", row.1, made.stores);
-    let ended = print_count(b"  is cut", row.2, tally(0, made.is_cut));
-    let waits = print_figure(b"  waiting", row.3, held(left) as u64);
+    let counted = print_count(output, b": stores", row.1, made.stores);
+    let ended = print_count(output, b"  is cut", row.2, tally(0, made.is_cut));
+    let waits = print_figure(output, b"  waiting", row.3, held(left) as u64);
     counted & ended & waits
 }
 
 // ---- the recovery ----
 
 // Recovers a disk, and prints what it shows; answers whether it agrees.
-fn tell_line_mended(disk: &mut [u8], row: LineCutRow) -> bool
+fn tell_line_mended(output: &mut Output, disk: &mut [u8], row: LineCutRow) -> bool
     ensures { result ≡ line_mended_told row disk.old }
 {
-    let answered = tell_recovery(disk, 0);
-    let first = print_count(b"  hidden 0 shows", row.4, hidden_first(disk, 0));
-    let second = print_count(b"  hidden 1 shows", row.5, hidden_first(disk, 1));
+    let answered = tell_recovery(output, disk, 0);
+    let first = print_count(output, b"  hidden 0 shows", row.4, hidden_first(disk, 0));
+    let second = print_count(output, b"  hidden 1 shows", row.5, hidden_first(disk, 1));
     answered & first & second
 }
 
 // ---- rows ----
 
 // Prints a row; answers whether it agrees.
-fn run_line_cut(row: LineCutRow) -> bool
+fn run_line_cut(output: &mut Output, row: LineCutRow) -> bool
     ensures { result ≡ line_cut_agrees row }
 {
     print_named(
+        output,
         b"five lines, write 0 with a line of 0 and 1 cut after ",
         row.0 as u64,
     );
     let mut disk = five_lines();
-    let told = tell_line_cut(&mut disk, row);
-    let mended = tell_line_mended(&mut disk, row);
+    let told = tell_line_cut(output, &mut disk, row);
+    let mended = tell_line_mended(output, &mut disk, row);
     told & mended
 }
 
 // Prints every row; answers how many agree.
-pub fn run_line_cuts(rows: [LineCutRow; 3]) -> u32
+pub fn run_line_cuts(output: &mut Output, rows: [LineCutRow; 3]) -> u32
     ensures { result ≡ agreeing line_cut_agrees rows }
 {
     let mut agreed: u32 = 0;
     let mut i = 0;
     while i < 3 {
-        agreed = tally(agreed, run_line_cut(rows[i]));
+        agreed = tally(agreed, run_line_cut(output, rows[i]));
         i += 1;
     }
     agreed

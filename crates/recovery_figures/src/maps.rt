@@ -8,6 +8,7 @@ use crate::listed::format_small;
 use crate::tells::{tell_bits, tell_recovery};
 use figure_lines::lines::{at_most, print_named, print_text, tally};
 use figure_lines::lists::print_entries;
+use figure_lines::output::Output;
 use layout::entries::put_entry;
 use stores::copies::copy_at;
 
@@ -41,42 +42,42 @@ fn make_map(disk: &mut [u8], row: MapRow)
 }
 
 // Recovers a disk, and prints the answer and the bits; answers whether they agree.
-fn tell_map(disk: &mut [u8], row: MapRow) -> bool
+fn tell_map(output: &mut Output, disk: &mut [u8], row: MapRow) -> bool
     ensures { result ≡ map_told row disk.old }
 {
-    let answered = tell_recovery(disk, row.6);
-    let marked = tell_bits(disk, row.7, row.8);
+    let answered = tell_recovery(output, disk, row.6);
+    let marked = tell_bits(output, disk, row.7, row.8);
     answered & marked
 }
 
-fn print_map(row: MapRow) {
+fn print_map(output: &mut Output, row: MapRow) {
     let entries = [row.1, row.2, row.3, row.4];
-    print_named(b"fresh, bits set, head ", row.0 as u64);
-    print_text(b", map");
-    print_entries(&entries, 4);
-    print_named(b", ", row.5 as u64);
-    print_text(b" bytes:");
+    print_named(output, b"fresh, bits set, head ", row.0 as u64);
+    print_text(output, b", map");
+    print_entries(output, &entries, 4);
+    print_named(output, b", ", row.5 as u64);
+    print_text(output, b" bytes:");
 }
 
 // Prints a row; answers whether it agrees.
-fn run_map(row: MapRow) -> bool
+fn run_map(output: &mut Output, row: MapRow) -> bool
     ensures { result ≡ map_agrees row }
 {
-    print_map(row);
+    print_map(output, row);
     let mut disk = [0u8; 512];
     make_map(&mut disk, row);
     let count = at_most(row.5, 512);
-    tell_map(&mut disk[..count], row)
+    tell_map(output, &mut disk[..count], row)
 }
 
 // Prints every row; answers how many agree.
-pub fn run_maps(rows: [MapRow; 11]) -> u32
+pub fn run_maps(output: &mut Output, rows: [MapRow; 11]) -> u32
     ensures { result ≡ agreeing map_agrees rows }
 {
     let mut agreed: u32 = 0;
     let mut i = 0;
     while i < 11 {
-        agreed = tally(agreed, run_map(rows[i]));
+        agreed = tally(agreed, run_map(output, rows[i]));
         i += 1;
     }
     agreed

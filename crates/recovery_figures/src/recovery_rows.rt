@@ -3,6 +3,7 @@
 use crate::cuts::{CutRow, run_cuts};
 use crate::line_cuts::{LineCutRow, run_line_cuts};
 use crate::maps::{MapRow, run_maps};
+use figure_lines::output::Output;
 
 // bound; stores, is cut, public read before the recovery; public 0, hidden 0, bitmap bytes
 const CUTS: [CutRow; 8] = [
@@ -48,16 +49,16 @@ const MAPS: [MapRow; 11] = [
 ];
 
 // Answers how many rows of a write with an offer that is cut agree.
-pub fn cut_rows() -> u32 {
-    run_cuts(CUTS)
+pub fn cut_rows(output: &mut Output) -> u32 {
+    run_cuts(output, CUTS)
 }
 
 // Answers how many rows of a write with a line that is cut agree.
-pub fn line_cut_rows() -> u32 {
-    run_line_cuts(LINE_CUTS)
+pub fn line_cut_rows(output: &mut Output) -> u32 {
+    run_line_cuts(output, LINE_CUTS)
 }
 
 // Answers how many rows of other maps agree.
-pub fn map_rows() -> u32 {
-    run_maps(MAPS)
+pub fn map_rows(output: &mut Output) -> u32 {
+    run_maps(output, MAPS)
 }

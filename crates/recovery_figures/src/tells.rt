@@ -7,34 +7,39 @@ ghost use Rattle.recovery_model.specs.Recovery.{recovered, recovery_refusal};
 ghost use Rattle.recovery_figures.specs.Tells.{public_first, hidden_first, bits_told};
 
 use figure_lines::lines::{byte_or, print_answer, print_count, print_text};
+use figure_lines::output::Output;
 use layout::numbers::{HiddenNumber, PublicNumber};
 use mapper::{hidden_read, public_fault, public_read, recover};
 
 // Recovers a disk, and prints the answer; answers whether it agrees.
-pub fn tell_recovery(disk: &mut [u8], answer: u8) -> bool
+pub fn tell_recovery(output: &mut Output, disk: &mut [u8], answer: u8) -> bool
     ensures told { result ≡ eqb answer (recovery_refusal disk.old) }
     ensures stored { disk.new ≡ recovered disk.old }
 {
     let got = recover(disk);
-    print_text(b"  recovery");
-    print_answer(answer, got)
+    print_text(output, b"  recovery");
+    print_answer(output, answer, got)
 }
 
 // Prints what a public read of number 0 is refused for; answers whether it agrees.
-pub fn tell_fault(disk: &[u8], answer: u8) -> bool
+pub fn tell_fault(output: &mut Output, disk: &[u8], answer: u8) -> bool
     ensures { result ≡ eqb answer (public_read_refusal disk.now 0 (filled 0)) }
 {
-    print_text(b"  public read before it");
-    print_answer(answer, public_fault(disk, PublicNumber(0), &[0u8; 32]))
+    print_text(output, b"  public read before it");
+    print_answer(
+        output,
+        answer,
+        public_fault(disk, PublicNumber(0), &[0u8; 32]),
+    )
 }
 
 // Prints the first byte that a public read of number 0 shows; answers whether it agrees.
-pub fn tell_public(disk: &[u8], byte: u32) -> bool
+pub fn tell_public(output: &mut Output, disk: &[u8], byte: u32) -> bool
     ensures { result ≡ eqb byte (public_first 0 disk.now) }
 {
     let blank = [0u8; 32];
     let got = byte_or(public_read(disk, PublicNumber(0), &blank), 0);
-    print_count(b"  public 0 shows", byte, got)
+    print_count(output, b"  public 0 shows", byte, got)
 }
 
 // The first byte that a hidden read shows.
@@ -46,10 +51,10 @@ pub fn hidden_first(disk: &[u8], number: u32) -> u32
 }
 
 // Prints the first two bytes of the bitmap; answers whether they agree.
-pub fn tell_bits(disk: &[u8], first: u32, second: u32) -> bool
+pub fn tell_bits(output: &mut Output, disk: &[u8], first: u32, second: u32) -> bool
     ensures { result ≡ bits_told first second disk.now }
 {
-    let front = print_count(b"  bitmap byte 0", first, byte_or(disk, 64));
-    let next = print_count(b"  bitmap byte 1", second, byte_or(disk, 65));
+    let front = print_count(output, b"  bitmap byte 0", first, byte_or(disk, 64));
+    let next = print_count(output, b"  bitmap byte 1", second, byte_or(disk, 65));
     front & next
 }

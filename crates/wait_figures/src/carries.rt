@@ -7,6 +7,7 @@ ghost use Rattle.wait_figures.specs.Carries.{carry_agrees};
 
 use crate::drives::{NO, live_drive};
 use figure_lines::lines::{print_count, print_figure, print_named, tally};
+use figure_lines::output::Output;
 use line::offers::{Line, held};
 use line_cases::cases::write_with;
 use line_cases::offers::{line_by, print_line};
@@ -68,27 +69,27 @@ fn carry_until(disk: &mut [u8], line: Line, left: usize) -> Carried
 // ---- rows ----
 
 // Prints a row; answers whether it agrees.
-fn run_carry(row: CarryRow) -> bool
+fn run_carry(output: &mut Output, row: CarryRow) -> bool
     ensures { result ≡ carry_agrees row }
 {
     let line = line_by(row.0);
-    print_line(b"live slots 0 to 6, line ", line);
-    print_named(b", left ", row.1 as u64);
+    print_line(output, b"live slots 0 to 6, line ", line);
+    print_named(output, b", left ", row.1 as u64);
     let mut disk = live_drive(NO, 0);
     let carried = carry_until(&mut disk, line, row.1);
-    let ran = print_figure(b": rounds", row.2, carried.rounds);
-    let told = print_count(b"  waiting told", row.3, carried.waits);
+    let ran = print_figure(output, b": rounds", row.2, carried.rounds);
+    let told = print_count(output, b"  waiting told", row.3, carried.waits);
     ran & told
 }
 
 // Prints every row; answers how many agree.
-pub fn run_carries(rows: [CarryRow; 5]) -> u32
+pub fn run_carries(output: &mut Output, rows: [CarryRow; 5]) -> u32
     ensures { result ≡ agreeing carry_agrees rows }
 {
     let mut agreed: u32 = 0;
     let mut i = 0;
     while i < 5 {
-        agreed = tally(agreed, run_carry(rows[i]));
+        agreed = tally(agreed, run_carry(output, rows[i]));
         i += 1;
     }
     agreed

@@ -5,6 +5,7 @@ ghost use Rattle.wait_figures.specs.Offers.{offer_told, offer_written, offers_wr
 
 use crate::drives::{NO, live_drive};
 use figure_lines::lines::{print_answer, print_named, print_text, tally};
+use figure_lines::output::Output;
 use layout::numbers::{HiddenNumber, PublicNumber};
 use mapper::{outcome_number, write_block};
 
@@ -43,31 +44,31 @@ fn write_offers(disk: &mut [u8], number: u32, times: u32)
     }
 }
 
-fn print_offered(number: u32, times: u32) {
-    print_named(b"live slots 0 to 6, offer ", number as u64);
-    print_named(b" after ", times as u64);
-    print_text(b" writes with it: outcome");
+fn print_offered(output: &mut Output, number: u32, times: u32) {
+    print_named(output, b"live slots 0 to 6, offer ", number as u64);
+    print_named(output, b" after ", times as u64);
+    print_text(output, b" writes with it: outcome");
 }
 
 // Prints a row; answers whether it agrees.
-fn run_offer(row: OfferRow) -> bool
+fn run_offer(output: &mut Output, row: OfferRow) -> bool
     ensures { result ≡ offer_agrees row }
 {
-    print_offered(row.0, row.1);
+    print_offered(output, row.0, row.1);
     let mut disk = live_drive(NO, 0);
     write_offers(&mut disk, row.0, row.1);
     let outcome = write_offer(&mut disk, row.0);
-    print_answer(row.2, outcome)
+    print_answer(output, row.2, outcome)
 }
 
 // Prints every row; answers how many agree.
-pub fn run_offers(rows: [OfferRow; 8]) -> u32
+pub fn run_offers(output: &mut Output, rows: [OfferRow; 8]) -> u32
     ensures { result ≡ agreeing offer_agrees rows }
 {
     let mut agreed: u32 = 0;
     let mut i = 0;
     while i < 8 {
-        agreed = tally(agreed, run_offer(rows[i]));
+        agreed = tally(agreed, run_offer(output, rows[i]));
         i += 1;
     }
     agreed

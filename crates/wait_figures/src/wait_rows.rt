@@ -4,6 +4,7 @@ use crate::carries::{CarryRow, run_carries};
 use crate::drives::NO;
 use crate::offers::{OfferRow, run_offers};
 use crate::tells::{WaitRow, run_waits};
+use figure_lines::output::Output;
 
 // entry put and its value, bytes lent; head, answer, rounds
 const WAITS: [WaitRow; 6] = [
@@ -51,16 +52,16 @@ const CARRIES: [CarryRow; 5] = [
 ];
 
 // Answers how many rows of what the call tells agree.
-pub fn wait_rows() -> u32 {
-    run_waits(WAITS)
+pub fn wait_rows(output: &mut Output) -> u32 {
+    run_waits(output, WAITS)
 }
 
 // Answers how many rows of an offer that is made with each write agree.
-pub fn offer_rows() -> u32 {
-    run_offers(OFFERS)
+pub fn offer_rows(output: &mut Output) -> u32 {
+    run_offers(output, OFFERS)
 }
 
 // Answers how many rows of a line that is carried along agree.
-pub fn carry_rows() -> u32 {
-    run_carries(CARRIES)
+pub fn carry_rows(output: &mut Output) -> u32 {
+    run_carries(output, CARRIES)
 }

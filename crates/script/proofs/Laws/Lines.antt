@@ -8,7 +8,7 @@ use Prim.Native.Nat.{ℕ, zero, suc, ◌+◌, ◌≤◌, ◌<◌}
 use native.Mathlib.Omega.{arith}
 use lib.Dec.{eqb, ltb, leb}
 use lib.ListN.{length, get_or, take, drop, drop_of_length-le}
-use lib.Seq.{take-nil, drop_nil}
+use lib.Seq.{take-nil, drop-nil}
 use borrow.Author.Tests.{eq-eqb, ne_eqb, lt-ltb, le-ltb, le-leb, lt-leb}
 use Rattle.laws.proofs.Cases.{bool_cases, lt_cases, and_both, and_false_right, cond_true, cond_false}
 use Rattle.script.specs.Texts.{Text, space, dash, is_digits, value_of_digits}
@@ -23,7 +23,7 @@ pub split_at_first :
     (at < length bytes → get_or bytes at 0 ≡ space) → Split bytes at
 unfolding before_space after_space
 split_at_first [] at h none_before here =
-    record { inside = h; before = take-nil at; after = drop_nil (at + 1) }
+    record { inside = h; before = take-nil at; after = drop-nil (at + 1) }
 split_at_first (byte ∷ bytes) zero h none_before here =
     let e : eqb byte space ≡ true = eq-eqb byte space (here (omega arith)) in
     record { inside = h; before = rw e; after = rw e }

@@ -1,0 +1,11 @@
+-- The rows so far are counted. The rows that are left go down.
+use Rattle.std.proofs.Common.{◌-◌}
+use Rattle.figures.specs.Layouts.{size_agrees}
+use Rattle.figure_lines.proofs.Laws.Counts.{RowsCounted}
+use Rattle.figures.proofs.layouts.run_sizes.Given as goal
+
+abbrev pub invariant-loop-i : goal.invariant-loop-i
+invariant-loop-i l = RowsCounted size_agrees l.rows 7 l.agreed l.i
+
+abbrev pub decreases-loop-i : goal.decreases-loop-i
+decreases-loop-i l = 7 - l.i

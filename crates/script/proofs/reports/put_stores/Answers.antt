@@ -1,0 +1,32 @@
+-- `-`, or the first store and the later ones.
+use Rattle.std.proofs.Common.{arith}
+use Rattle.laws.proofs.Lists.{take-drop}
+use Rattle.script.proofs.Laws.Reports.{put_none, put_some, first_fits, later_fits}
+use Rattle.script.proofs.reports.put_stores.Goals as goal
+
+pub returns-then-stores-eq0 : goal.returns-then-stores-eq0
+returns-then-stores-eq0 c =
+    put_none c.args.stores.now c.args.out.now c.args.at c.requires c.if-stores-eq0.true
+
+pub put_address-next-requires : goal.put_address-next-requires
+put_address-next-requires c =
+    first_fits c.args.stores.now c.args.out.now c.args.at c.requires c.if-stores-eq0.false
+    (λ index. (c.type_inv.stores index).fits)
+
+pub put_later-requires : goal.put_later-requires
+put_later-requires c =
+    let first = c.put_address-next in
+    rw take-drop
+    (omega (
+      arith,
+      first.auto.out,
+      later_fits c.args.stores.now c.args.out.now c.args.at c.requires c.if-stores-eq0.false
+          (λ index. (c.type_inv.stores index).fits) first.new.out first.result first.ensures,
+    ))
+
+pub returns : goal.returns
+returns c =
+    let first = c.put_address-next in
+    put_some c.args.stores.now c.args.out.now c.args.at c.requires c.if-stores-eq0.false
+    (λ index. (c.type_inv.stores index).fits) first.new.out first.result first.ensures
+    c.put_later.new.out c.put_later.result (rw take-drop at c.put_later.ensures)

@@ -1,0 +1,5 @@
+-- The number goes down.
+use Rattle.script.proofs.texts.+put_number.Given as goal
+
+abbrev pub decreases-put_number : goal.decreases-put_number
+decreases-put_number l = l.value

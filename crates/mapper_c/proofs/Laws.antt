@@ -2,6 +2,4 @@
 pub mod Finds
 pub mod LineFinds
 pub mod LineEnters
-pub mod Writes
 pub mod LineWrites
-pub mod Cuts

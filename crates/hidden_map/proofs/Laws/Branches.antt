@@ -4,7 +4,7 @@ use mathlib.Core.Path.{◌≡◌, refl, sym, ap, ◌∙◌}
 use mathlib.Core.Logic.{◌≢◌}
 use mathlib.Core.Bool.{false}
 use Prim.Native.Nat.{ℕ, zero, suc, ◌+◌, ◌*◌, ◌-◌, ◌/◌, ◌%◌, ◌≤◌, ◌<◌}
-use native.Mathlib.Nat.{mul-le-mul, mul-le-mul_right, mul_left_comm}
+use native.Mathlib.Nat.{mul-le-mul_right, mul_left_comm}
 use native.Mathlib.Omega.{arith}
 use lib.Dec.{eqb}
 use lib.ListN.{length}
@@ -17,15 +17,6 @@ use Rattle.model.proofs.Laws.Slots.{is_slot_block_below, is_slot_block_past, is_
 use Rattle.model.proofs.Laws.Branches.{entries_in_le}
 use Rattle.model.proofs.Tree.Keys.{branch_at_lt}
 use Rattle.hidden_map.specs.Trees.{AreaOf, TreeOf}
-
--- ---- bounds ----
-
-pub square_le : (size : ℕ) → 32 ≤ size → size ≤ 4096 →
-    (1 ≤ size / 4 * (size / 4)) × (size / 4 * (size / 4) ≤ 1048576)
-square_le size low high =
-    let l : 1 ≤ size / 4 = omega arith in
-    let h : size / 4 ≤ 1024 = omega arith in
-    (omega (arith, mul-le-mul l l), omega (arith, mul-le-mul h h))
 
 -- ---- the entry of a branch ----
 

@@ -3,7 +3,7 @@
 use mathlib.Core.Path.{◌≡◌, sym, ap, ◌∙◌}
 use mathlib.Core.Bool.{true}
 use mathlib.Core.List.{◌++◌, append_assoc}
-use Prim.Native.Nat.{ℕ, ◌+◌, ◌*◌, ◌-◌, ◌/◌, ◌≤◌, ◌<◌}
+use Prim.Native.Nat.{ℕ, ◌+◌, ◌*◌, ◌-◌, ◌≤◌, ◌<◌}
 use native.Mathlib.Omega.{arith}
 use lib.ListN.{length, take, drop}
 use lib.Seq.{drop-drop}
@@ -13,8 +13,8 @@ use Rattle.model.specs.Geometry.{Geometry, block_count, block_width}
 use Rattle.model.specs.Blocks.{Bytes, DiskAddress, block_at, set_block}
 use Rattle.model.specs.Layout.{Drive, bit_address, bit_place, bitmap_with}
 use Rattle.model.proofs.Laws.Geometry.{bit_address_lt}
-use Rattle.model.proofs.Laws.Blocks.{block_at_is, set_block_is, block_inside, length-block_at}
-use Rattle.model.proofs.Laws.Bitmap.{bitmap_with_is, bit_place_byte_lt, length-bitmap_with}
+use Rattle.model.proofs.Laws.Blocks.{block_at_is, set_block_is, block_inside}
+use Rattle.model.proofs.Laws.Bitmap.{bitmap_with_is, length-bitmap_with}
 
 -- ---- a block as a part of the disk ----
 
@@ -56,14 +56,6 @@ module _ (g : Geometry) (disk : Bytes) (drive : Drive g disk) (slot : ℕ) (insi
   bit_block = bytes_between (address * g.block_size) (address * g.block_size + g.block_size) disk
 
   module _ (place : ℕ) (at : place ≡ bit_place g slot) where
-    pub bit_inside : place / 8 < length bit_block
-    bit_inside =
-        rw (
-          bytes_between_block (block_width g) disk address,
-          length-block_at (block_width g) disk (block_count g) drive.whole address address_lt,
-          at,
-        ) (bit_place_byte_lt g drive.fits slot)
-
     pub bit_marked :
         (block : Bytes) → block ≡ set_bit place true bit_block →
         put_between (address * g.block_size) (address * g.block_size + g.block_size) disk block ≡

@@ -1,13 +1,12 @@
 -- Laws of an opened disk: what each arm of a match on it knows, and that its header is there. Assumes
 -- nothing.
 use mathlib.Core.Path.{◌≡◌, sym, subst}
-use Prim.Native.Nat.{ℕ, ◌≤◌, ◌<◌}
-use lib.ListN.{length}
+use Prim.Native.Nat.{ℕ, ◌<◌}
 use Rattle.model.specs.Geometry as model
 use Rattle.model.specs.Blocks.{Bytes}
 use Rattle.model.specs.Layout.{head_in}
 use Rattle.model.specs.Refusals.{drive_refusal}
-use Rattle.model.proofs.Laws.Refusals.{accepted_of_refusal, long_enough}
+use Rattle.model.proofs.Laws.Refusals.{accepted_of_refusal}
 use Rattle.layout.specs.declared.geometry.Geometry.{Geometry}
 use Rattle.layout.specs.declared.drives.Opened.{Opened}
 use Rattle.layout.specs.declared.drives.Opened.TheVariants.{Refused, Good}
@@ -26,9 +25,6 @@ module _ (refusal : ℕ) (disk : Bytes) (opened : Opened) (told : OpenedAs refus
 -- ---- a drive that is opened ----
 
 module _ {disk : Bytes} {g : model.Geometry} (opened : OpenedWith (drive_refusal disk) disk g) where
-  pub opened_long : 24 ≤ length disk
-  opened_long = long_enough disk opened.accepted
-
   -- the head is one of its slots
   pub opened_head : head_in disk < g.slots
   opened_head =

@@ -1,6 +1,6 @@
 -- Laws of a line that is gathered offer by offer from two runs of numbers: what holds whenever the loop's
 -- test is reached, its beginning, a turn and both ends. Assumes nothing.
-use mathlib.Core.Path.{◌≡◌, refl, sym, ap, ◌∙◌}
+use mathlib.Core.Path.{◌≡◌, sym, ap, ◌∙◌}
 use mathlib.Core.Logic.{⊎_elim}
 use mathlib.Core.List.{List, [], ◌∷◌, ◌++◌}
 use Prim.Native.Nat.{ℕ, zero, suc, ◌+◌, ◌≤◌, ◌<◌}
@@ -13,7 +13,7 @@ use Rattle.model.specs.Line as model
 use Rattle.line.specs.declared.offers.Offer.{Offer}
 use Rattle.line.specs.declared.offers.Line.{Line}
 use Rattle.line.specs.declared.turns.First.TheVariants.{Nobody, Waits}
-use Rattle.line.specs.Offers.{offer_of, line_of, no_line, pushed}
+use Rattle.line.specs.Offers.{offer_of, line_of, pushed}
 use Rattle.line.specs.Turns.{first_at}
 use Rattle.line.specs.Gathered.{most_waiting}
 use Rattle.line.proofs.Laws.Offers.{pushed_room, length-pushed, line_of-pushed_room}
@@ -48,10 +48,6 @@ pub record Gathering (offers : List model.Offer) (waiting : ℕ) (line : Line) (
   pub whole : length line.offers ≡ 16
   pub count : line.waiting ≡ i
   pub line_is : line_of line ≡ take i offers
-
-pub gathering_none : (offers : List model.Offer) (waiting : ℕ) → Gathering offers waiting no_line 0
-gathering_none offers waiting =
-    record { within = omega arith; whole = refl; count = refl; line_is = refl }
 
 module _ {offers : List model.Offer} {waiting : ℕ} {line : Line} {i : ℕ}
     (gathering : Gathering offers waiting line i) where

@@ -78,8 +78,3 @@ is_one_of_at number [] i inside e = absurd (omega arith)
 is_one_of_at number (x ∷ xs) zero inside e = or_left (is_one_of number xs) (eq-eqb number x (sym e))
 is_one_of_at number (x ∷ xs) (suc i) inside e =
     or_right (eqb number x) (is_one_of_at number xs i (omega arith) e)
-
-pub is_one_of_whole :
-    (number : ℕ) (xs : List ℕ) (i : ℕ) → length xs ≤ i → is_one_of number (take i xs) ≡ false →
-    is_one_of number xs ≡ false
-is_one_of_whole number xs i past absent = rw (take_all i xs past) at absent

@@ -1,16 +1,15 @@
 -- Laws of the hidden write that a call may offer: its refusal, its turn, and the hidden write of that turn.
 -- Assumes nothing.
 use mathlib.Core.Path.{◌≡◌, refl, sym, ap, ap₂, ◌∙◌}
-use mathlib.Core.Logic.{◌≢◌}
 use mathlib.Core.Bool.{Bool, true, false, cond}
 use mathlib.Core.List.{List, [], ◌∷◌}
 use Prim.Native.Nat.{ℕ, zero, suc, ◌≤◌}
 use native.Mathlib.Omega.{arith}
 use lib.Dec.{eqb}
 use lib.ListN.{length, take}
-use borrow.Author.Tests.{eqb-true, eq-eqb, ne_eqb}
+use borrow.Author.Tests.{eqb-true}
 use Rattle.laws.specs.Checks.{first_of}
-use Rattle.laws.proofs.Cases.{cond_cases, cond_true, cond_false}
+use Rattle.laws.proofs.Cases.{cond_cases}
 use Rattle.model.specs.Geometry.{Geometry}
 use Rattle.model.specs.Blocks.{Bytes}
 use Rattle.model.specs.HiddenHalf.{HiddenWrite}
@@ -53,16 +52,6 @@ turn_one : (number : ℕ) → one_turn number 1 ≡ record { number = number; pl
 turn_one number =
     offers_by-cons number 0 [] []
     ∙ ap (λ (later : List Offer). record { number = number; place = 0 } ∷ later) (offers_by_nil [])
-
-module _ (is_offered : Bool) (bad : ℕ) where
-  pub count_good : is_offered ≡ true → bad ≡ 0 → 1 ≡ offer_count is_offered bad
-  count_good e z = rw e (sym (cond_true _ _ (eq-eqb bad 0 z)))
-
-  pub count_bad : is_offered ≡ true → bad ≢ 0 → 0 ≡ offer_count is_offered bad
-  count_bad e f = rw e (sym (cond_false _ _ (ne_eqb bad 0 f)))
-
-  pub count_none : is_offered ≡ false → 0 ≡ offer_count is_offered bad
-  count_none e = rw e
 
 pub count_one : (is_offered : Bool) (bad count : ℕ) → count ≡ offer_count is_offered bad → count ≤ 1
 count_one true bad count e =

@@ -13,26 +13,8 @@ use Rattle.line.specs.Offers.{offers_of, line_of}
 use Rattle.lent_line.specs.Lent.{loaded_line, saved_offers}
 use Rattle.lent_line.proofs.Laws.Lent.{loaded_line_is, handed_fits, saved_left, saved_kept}
 use Rattle.line_calls.specs.declared.enters.Entered as declared
-use Rattle.line_calls.specs.Enters.{EnterAnswered}
-use Rattle.answers_c.specs.declared.enters.Entered.{Entered}
-use Rattle.answers_c.specs.Enters.{entered_said}
 use Rattle.mapper_c.specs.declared.line_enters.EnteredLine.{EnteredLine}
 use Rattle.mapper_c.specs.LineEnters.{entered_numbers, HeldEntered, LentEntered}
-
--- ---- a line by value ----
-
-pub held_entered :
-    {disk : Bytes} {offer : model.Offer} {blocks : Bytes} {line : Line} {room : ℕ} {result : declared.Entered}
-    {told : Entered} → EnterAnswered disk offer blocks line room result → told ≡ entered_said result →
-    HeldEntered disk offer blocks line room (record { told = told; line = result.line })
-held_entered {disk} {offer} {blocks} {line} {room} {result} good said =
-    let numbers : entered_said result ≡ entered_numbers disk offer blocks (line_of line) room =
-    λ i. record { answer = good.answered i; waiting = length (good.line_left_lem i) } in
-    record {
-      told_is = said ∙ numbers;
-      line_left_lem = good.line_left_lem;
-      line_kept = λ some. good.refused_kept (λ z. some (ap (λ (answer : Entered). answer.answer) said ∙ z));
-    }
 
 -- ---- a lent one ----
 

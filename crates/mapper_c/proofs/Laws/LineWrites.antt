@@ -7,7 +7,7 @@ use native.Mathlib.Omega.{arith}
 use lib.ListN.{length}
 use Rattle.model.specs.Blocks.{Bytes, DiskAddress}
 use Rattle.model.specs.Line as model
-use Rattle.model.specs.Calls.{Written, outcome_number, written, in_line, written_disk, written_list, line_left}
+use Rattle.model.specs.Calls.{Written, written, in_line, written_disk, written_list, line_left}
 use Rattle.model.proofs.Laws.LineLengths.{line_left_le}
 use Rattle.line.specs.declared.offers.Offer.{Offer}
 use Rattle.line.specs.declared.offers.Line.{Line}
@@ -15,38 +15,8 @@ use Rattle.line.specs.Offers.{offers_of, line_of}
 use Rattle.lent_line.specs.Lent.{loaded_line, saved_offers}
 use Rattle.lent_line.proofs.Laws.Lent.{loaded_line_is, handed_fits, saved_left, saved_kept}
 use Rattle.mapper.specs.declared.write.LineWritten as declared
-use Rattle.mapper.specs.Writes.{LineAnswered}
-use Rattle.answers_c.specs.declared.line_writes.LineWritten.{LineWritten}
-use Rattle.answers_c.specs.LineWrites.{line_written_said}
 use Rattle.mapper_c.specs.declared.line_writes.WrittenLine.{WrittenLine}
 use Rattle.mapper_c.specs.LineWrites.{line_numbers, HeldWritten, LentWritten}
-
--- ---- a line by value ----
-
-pub held_written :
-    {result : Written} {disk : Bytes} {list : List DiskAddress} {blocks : Bytes} {line : Line}
-    {disk_after : Bytes} {listAfter : List DiskAddress} {answer : declared.LineWritten} {told : LineWritten} →
-    LineAnswered result disk list blocks line disk_after listAfter answer → told ≡ line_written_said answer →
-    HeldWritten result disk list blocks line disk_after listAfter
-    (record { told = told; line = answer.line })
-held_written {result} {disk} {blocks = blocks} {line = line} {answer = answer} good said =
-    let numbers : line_written_said answer ≡ line_numbers result (line_left result disk blocks (line_of line)) =
-    λ i. record {
-      answer = good.answered i;
-      rounds = good.rounds_are i;
-      stores = good.stores_are i;
-      outcome = outcome_number (good.outcome_is i);
-      placed = good.placed_are i;
-      waiting = length (good.line_left_lem i);
-    } in
-    record {
-      told_is = said ∙ numbers;
-      line_left_lem = good.line_left_lem;
-      line_kept = λ some.
-          good.line_kept (λ z. some (ap (λ (told : LineWritten). told.answer) said ∙ z));
-      stored = good.stored;
-      listed = good.listed;
-    }
 
 -- ---- a lent one ----
 

@@ -1,18 +1,15 @@
 -- Laws of the search for the first free slot from the head on, and of the rounds up to there: their random
 -- bytes and stores are few enough to be counted, and which store count they have. Assumes nothing.
 use mathlib.Core.Path.{◌≡◌, refl, sym, ap, ◌∙◌}
-use mathlib.Core.Logic.{◌≢◌}
 use mathlib.Core.Bool.{Bool, true, false}
 use Prim.Native.Nat.{ℕ, zero, suc, ◌+◌, ◌*◌, ◌-◌, ◌^◌, ◌≤◌, ◌<◌}
-use native.Mathlib.Nat.{mul-le-mul, mul-le-mul_right, mul-le-mul_left, mod-lt}
+use native.Mathlib.Nat.{mul-le-mul_right, mul-le-mul_left, mod-lt}
 use native.Mathlib.Omega.{arith}
 use lib.ListN.{length}
-use borrow.Author.Tests.{eq-eqb, ne_eqb}
 use Rattle.model.specs.Geometry.{Geometry, Fits, block_count}
-use Rattle.model.specs.Blocks.{Bytes, DiskAddress}
-use Rattle.model.specs.Layout.{Drive, head_in, slot_of, next_slot, round_slot, is_shared, is_one_block}
-use Rattle.model.specs.Layout.{map_entry}
-use Rattle.model.specs.Refusals.{one_more_than, rounds_to, round_count, store_count, write_store_count}
+use Rattle.model.specs.Blocks.{Bytes}
+use Rattle.model.specs.Layout.{Drive, next_slot}
+use Rattle.model.specs.Refusals.{one_more_than, rounds_to}
 use Rattle.model.proofs.Laws.RoundCounts.{rounds_to-zero, rounds_to_free, rounds_to_taken}
 
 -- the header's entries are the disk's
@@ -80,18 +77,6 @@ module _ (is_taken : ℕ → Bool) (g : Geometry) (head : ℕ) where
         sym (l.counted ∙ ap (λ (n : ℕ). more done (rounds_to n is_taken g slot)) left
         ∙ ap (more done) (rounds_to-zero is_taken g slot))
 
--- ---- random bytes ----
-
--- the random bytes of all rounds that there can be are few enough to be counted
-module _ (g : Geometry) (f : Fits g) (rounds : ℕ) (h : rounds ≤ g.slots) where
-  pub random_blocks_small : rounds * g.height < 2 ^ 32
-  random_blocks_small = omega (arith, mul-le-mul_right g.height h, f.blocks_high)
-
-  pub random_small : rounds * g.height * g.block_size < 2 ^ 64
-  random_small =
-      let few : rounds * g.height ≤ 2 ^ 32 = omega (arith, random_blocks_small) in
-      omega (arith, mul-le-mul few f.size_high)
-
 -- ---- stores ----
 
 -- the stores of all rounds that there can be are few enough for an entry
@@ -110,27 +95,3 @@ pub head_rounds_small :
     (g : Geometry) → Fits g → (head rounds : ℕ) → head < g.slots → rounds ≤ g.slots → head + rounds < 2 ^ 32
 head_rounds_small g f head rounds h k =
     omega (arith, mul-le-mul_left g.slots f.height_low, f.blocks_high)
-
--- the stores counted from what is read are those of the write
-pub stores_counted :
-    (g : Geometry) (disk : Bytes) (number rounds entry head : ℕ) → rounds ≡ round_count g disk →
-    entry ≡ map_entry g disk number → head ≡ head_in disk →
-    store_count g rounds entry (round_slot g head rounds) ≡ write_store_count g disk number
-stores_counted g disk number rounds entry head r e h = rw (r, e, h)
-
-module _ (g : Geometry) (entry : DiskAddress) (slot : ℕ) where
-  pub one_block_new : entry ≡ 0 → true ≡ is_one_block g entry slot
-  one_block_new e = rw (eq-eqb entry 0 e)
-
-  pub one_block_moved :
-      entry ≢ 0 → (old : ℕ) → old ≡ slot_of g entry → is_shared g slot old ≡ is_one_block g entry slot
-  one_block_moved ne old e = rw (ne_eqb entry 0 ne, e)
-
-  module _ (rounds : ℕ) where
-    pub store_count_one_block :
-        is_one_block g entry slot ≡ true → rounds * (g.height + 3) + 2 ≡ store_count g rounds entry slot
-    store_count_one_block e = rw e
-
-    pub store_count_two_blocks :
-        is_one_block g entry slot ≡ false → rounds * (g.height + 3) + 3 ≡ store_count g rounds entry slot
-    store_count_two_blocks e = rw e

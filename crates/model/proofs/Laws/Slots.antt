@@ -1,6 +1,6 @@
 -- Laws of slots: the slot and the place of each of a slot's blocks, blocks apart, which addresses are slot
 -- blocks, levels, and the slots after a slot. Assumes nothing.
-use mathlib.Core.Path.{◌≡◌, sym, ap, ◌∙◌, refl}
+use mathlib.Core.Path.{◌≡◌, sym, ap, ◌∙◌}
 use mathlib.Core.Logic.{◌≢◌}
 use mathlib.Core.Bool.{true, false, ◌&&◌}
 use Prim.Native.Nat.{ℕ, zero, suc, ◌+◌, ◌*◌, ◌-◌, ◌/◌, ◌%◌, ◌≤◌, ◌<◌}
@@ -143,15 +143,6 @@ is_well_formed-level_address g slot level h k =
 pub slot_of-level_address : (g : Geometry) (slot level : ℕ) → level < g.height →
     slot_of g (level_address g slot level) ≡ slot
 slot_of-level_address g slot level k = slot_of_slot_block g slot (level_place g level) (level_place_le g level k)
-
-pub level_address_data :
-    (g : Geometry) (slot level : ℕ) → level ≡ 0 → slot_start g slot + g.height ≡ level_address g slot level
-level_address_data g slot level e = rw e
-
-pub level_address-node :
-    (g : Geometry) (slot level : ℕ) → level ≢ 0 → slot_start g slot + level ≡ level_address g slot level
-level_address-node g slot zero h = absurd (h refl)
-level_address-node g slot (suc level) h = refl
 
 pub level_address_lt :
     (g : Geometry) (slot level : ℕ) → slot < g.slots → level < g.height →

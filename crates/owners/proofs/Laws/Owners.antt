@@ -1,6 +1,6 @@
 -- Laws of a slot's owner: what the owner's walk says of the slot in the model, and that its trail is that of
 -- its walk. Assumes nothing.
-use mathlib.Core.Path.{◌≡◌, sym, subst}
+use mathlib.Core.Path.{◌≡◌}
 use Prim.Native.Nat.{ℕ}
 use borrow.Author.Tests.{lt-ltb, le-ltb}
 use Rattle.model.specs.Geometry.{Geometry}
@@ -8,10 +8,9 @@ use Rattle.model.specs.Blocks.{Bytes}
 use Rattle.model.specs.HiddenTree.{owner_of}
 use Rattle.model.specs.HiddenHalf.{is_live, is_owner_damaged}
 use Rattle.model.proofs.Laws.Owners.{is_live_is, is_owner_damaged_is}
-use Rattle.hidden_map.specs.Walks.{Walked}
 use Rattle.owners.specs.declared.Owner.{Owner}
 use Rattle.owners.specs.declared.Owner.TheVariants.{Nobody, Number}
-use Rattle.owners.specs.Owners.{OwnerWalked, OwnWalked, is_live_for, is_damaged_for}
+use Rattle.owners.specs.Owners.{OwnerWalked, is_live_for, is_damaged_for}
 
 module _ (g : Geometry) (disk : Bytes) (slot number : ℕ) (e : number ≡ owner_of g disk slot) where
   pub is_live_owned :
@@ -25,9 +24,3 @@ module _ (g : Geometry) (disk : Bytes) (slot number : ℕ) (e : number ≡ owner
   is_owner_damaged_owned Nobody high = rw (is_owner_damaged_is, ← e, le-ltb number g.hidden high)
   is_owner_damaged_owned (Number own trail) (same, (low, walked)) =
       rw (is_owner_damaged_is, ← e, lt-ltb number g.hidden low, walked.end_is)
-
-pub own_walked_owned : (g : Geometry) (disk : Bytes) (number : ℕ) (owner : Owner) →
-    OwnerWalked g disk number owner → OwnWalked g disk owner
-own_walked_owned g disk number Nobody high = tt
-own_walked_owned g disk number (Number own trail) (same, (low, walked)) =
-    subst (λ (n : ℕ). Walked g disk n trail) (sym same) walked

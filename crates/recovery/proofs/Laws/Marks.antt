@@ -4,7 +4,7 @@ use mathlib.Core.Bool.{true}
 use mathlib.Core.List.{List, []}
 use Prim.Native.Nat.{ℕ, ◌+◌, ◌*◌, ◌≤◌, ◌<◌}
 use native.Mathlib.Omega.{arith}
-use lib.ListN.{length, replicate}
+use lib.ListN.{replicate}
 use Rattle.laws.specs.Lists.{over}
 use Rattle.laws.proofs.Cases.{and_left}
 use Rattle.model.specs.Geometry.{Geometry, map_blocks, bitmap_blocks}
@@ -14,7 +14,7 @@ use Rattle.recovery_model.specs.Recovery.{unless_zero, used_from, used_entries, 
 use Rattle.recovery_model.specs.Recovery.{without_bits}
 use Rattle.recovery_model.proofs.Laws.Steps.{used_from-zero, used_from_end, used_entries_split, are_starts-append}
 use Rattle.recovery_model.proofs.Laws.Steps.{start_of_are_starts, with_marks_nil, with_marks-append}
-use Rattle.recovery_model.proofs.Laws.StepDisks.{SameMap, same_map-with_marks, bitmap_inside}
+use Rattle.recovery_model.proofs.Laws.StepDisks.{SameMap, same_map-with_marks}
 use Rattle.recovery_model.proofs.Laws.StepDisks.{without_bits_is}
 use Rattle.recovery.specs.Windows.{Started}
 
@@ -22,9 +22,6 @@ use Rattle.recovery.specs.Windows.{Started}
 
 module _ (g : Geometry) (disk : Bytes) (drive : Drive g disk) (map bitmap : ℕ) (m : map ≡ map_blocks g)
     (b : bitmap ≡ bitmap_blocks g) where
-  pub clearing_inside : (1 + map) * g.block_size + bitmap * g.block_size ≤ length disk
-  clearing_inside = rw (m, b) (bitmap_inside g disk drive)
-
   pub bits_cleared :
       over ((1 + map) * g.block_size) (replicate (bitmap * g.block_size) 0) disk ≡ without_bits g disk
   bits_cleared = rw (m, b) (sym (without_bits_is g disk))

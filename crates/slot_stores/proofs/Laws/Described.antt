@@ -1,9 +1,8 @@
 -- Laws of what describes a slot's stores: the public block, blocks written back and random blocks, a plan
 -- that is known, and all of them by their places. Assumes nothing.
 use mathlib.Core.Path.{◌≡◌, refl, sym, ap, ◌∙◌}
-use mathlib.Core.Logic.{◌≢◌}
 use mathlib.Core.Option.{none}
-use Prim.Native.Nat.{ℕ, suc, ◌+◌, ◌-◌, ◌≤◌, ◌<◌}
+use Prim.Native.Nat.{ℕ, ◌+◌, ◌-◌, ◌≤◌, ◌<◌}
 use native.Mathlib.Omega.{arith}
 use Rattle.model.specs.Geometry.{Geometry, root_address, block_width}
 use Rattle.model.specs.Blocks.{block_at}
@@ -17,19 +16,16 @@ use Rattle.model.proofs.Laws.SlotStores.{get_d-dummy_stores, get_d-dummy_stores_
 use Rattle.model.proofs.Laws.Traces.{public_store_keep, public_store_write}
 use Rattle.layout.specs.declared.numbers.DiskAddress.{DiskAddress}
 use Rattle.layout.specs.declared.numbers.PublicNumber.{PublicNumber}
-use Rattle.plans.specs.declared.hidden_plans.HiddenPlan.{HiddenPlan}
 use Rattle.plans.specs.declared.public_plans.Bits.{Bits}
 use Rattle.plans.specs.declared.public_plans.PublicPlan.{PublicPlan}
 use Rattle.plans.specs.declared.public_plans.PublicPlan.TheVariants.{Keep, Write}
-use Rattle.plans.specs.HiddenPlans.{hidden_trace, offered_by, PathPlaced}
 use Rattle.plans.specs.PublicPlans.{choice_of}
 use Rattle.stores.specs.declared.changes.Change.TheVariants.{Nothing}
 use Rattle.stores.specs.declared.descriptors.Source.TheVariants as source
 use Rattle.stores.specs.declared.descriptors.Descriptor.{Descriptor}
 use Rattle.stores.specs.Descriptors.{plain_of, own_of}
 use Rattle.stores.specs.Described.{store_at, Describes}
-use Rattle.stores.proofs.Laws.Described.{describes_own, describes_plain, describes_same, describes_offering}
-use Rattle.slot_stores.specs.Slots.{slot_trace}
+use Rattle.stores.proofs.Laws.Described.{describes_own, describes_plain, describes_same}
 
 -- ---- the public block ----
 
@@ -100,44 +96,3 @@ pub root_of_dummy :
 root_of_dummy g slot place low high d =
     describes_same d refl
     (λ disk content blocks random. get_d-dummy_stores_root g disk slot place random (omega arith))
-
--- ---- a plan that is known ----
-
-module _ (g : Geometry) {plan known : HiddenPlan} (e : plan ≡ known) where
-  pub placed_known : PathPlaced g plan → PathPlaced g known
-  placed_known h = rw e at h
-
-  pub hidden_known :
-      (slot place : ℕ) {descriptor : Descriptor} →
-      Describes g (offered_by known) place (λ disk content blocks random.
-      store_at (place - 1) (hidden_trace known g disk slot blocks random)) descriptor →
-      Describes g (offered_by plan) place (λ disk content blocks random.
-      store_at (place - 1) (hidden_trace plan g disk slot blocks random)) descriptor
-  hidden_known slot place d = rw e d
-
--- ---- all stores of a slot ----
-
-module _ (g : Geometry) (slot place : ℕ) (public : PublicPlan) (hidden : HiddenPlan)
-    {descriptor : Descriptor} where
-  pub slot_first :
-      place ≡ 0 →
-      Describes g none 0 (λ disk content blocks random.
-      public_store (choice_of public) g disk slot content) descriptor →
-      Describes g (offered_by hidden) place (λ disk content blocks random.
-      store_at place (slot_trace public hidden g disk slot content blocks random)) descriptor
-  slot_first e d =
-      describes_same (describes_offering d) e
-      (λ disk content blocks random.
-      ap (λ (n : ℕ). store_at n (slot_trace public hidden g disk slot content blocks random)) e)
-
-  pub slot_later :
-      place ≢ 0 →
-      Describes g (offered_by hidden) place (λ disk content blocks random.
-      store_at (place - 1) (hidden_trace hidden g disk slot blocks random)) descriptor →
-      Describes g (offered_by hidden) place (λ disk content blocks random.
-      store_at place (slot_trace public hidden g disk slot content blocks random)) descriptor
-  slot_later ne d =
-      let e : place ≡ suc (place - 1) = omega arith in
-      describes_same d refl
-      (λ disk content blocks random.
-      ap (λ (n : ℕ). store_at n (slot_trace public hidden g disk slot content blocks random)) e)

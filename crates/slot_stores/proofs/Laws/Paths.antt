@@ -27,12 +27,12 @@ use Rattle.stores.specs.declared.changes.Change.TheVariants.{Nothing, Entry}
 use Rattle.stores.specs.declared.descriptors.Source.{Source}
 use Rattle.stores.specs.declared.descriptors.Descriptor.{Descriptor}
 use Rattle.stores.specs.Changes.{changed, Inside}
-use Rattle.stores.specs.Descriptors.{source_block, plain_of, own_of}
+use Rattle.stores.specs.Descriptors.{source_block, own_of}
 use Rattle.stores.specs.Described.{store_at, Takes, Describes}
 use Rattle.slot_stores.specs.Slots.{SlotPlace}
 use Rattle.slot_stores.specs.Sources.{node_source, data_source}
 use Rattle.slot_stores.proofs.Laws.Places.{store_at_path-node, store_at_path_data, store_at_path_root}
-use Rattle.stores.proofs.Laws.Described.{describes_own, describes_plain, describes_same, describes_offering}
+use Rattle.stores.proofs.Laws.Described.{describes_own, describes_same, describes_offering}
 
 -- ---- a node ----
 
@@ -143,20 +143,6 @@ data_source_block :
     source_block (data_source own which) g disk content blocks random ≡ data_of which g disk slot blocks
 data_source_block Own g slot own disk content blocks random e = ap (block_at (block_width g) disk) e
 data_source_block (Offered at) g slot own disk content blocks random e = refl
-
-pub data_described :
-    (g : Geometry) (fits : Fits g) (slot : ℕ) (inside : slot < g.slots) (which : Data) (own : DiskAddress) →
-    own.0 ≡ level_address g slot 0 →
-    {taken : Source} → taken ≡ data_source own which → {descriptor : Descriptor} →
-    descriptor ≡ plain_of own taken →
-    Describes g (offered_in which) g.height (λ disk content blocks random.
-    store (level_address g slot 0) (data_of which g disk slot blocks)) descriptor
-data_described g fits slot inside which own to takes e =
-    describes_plain own (data_source own which) (e ∙ ap (plain_of own) takes)
-    (rw to (level_address_lt g slot 0 inside (omega (arith, fits.height_low))))
-    (data_source_takes which g g.height own)
-    (λ disk content blocks random.
-    ap₂ store to (data_source_block which g slot own disk content blocks random to))
 
 pub root_described :
     (g : Geometry) (fits : Fits g) (slot number branch : ℕ) (root below : DiskAddress) →

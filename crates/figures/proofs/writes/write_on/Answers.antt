@@ -1,6 +1,6 @@
 -- The list and what is said to be stored are cut as the model cuts them.
 use Rattle.std.proofs.Common.{◌≡◌, List, length, take, replicate, refl, ◌∙◌, rules}
-use Rattle.model.specs.Blocks.{Bytes, DiskAddress}
+use Rattle.model.specs.Blocks.{DiskAddress}
 use Rattle.model.specs.Calls.{written_disk}
 use Rattle.figures.specs.Writes.{result_agrees, result_of, agrees_on}
 use Rattle.figure_lines.proofs.Laws.Counts.{cut_lent}

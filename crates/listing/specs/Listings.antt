@@ -1,6 +1,7 @@
 -- The listing, byte by byte and as a whole (document 01, "Figures to hold against"): where it stands, what
 -- each byte of input and the end of the input do to it, and what they print. Assumes nothing.
-use Rattle.std.specs.Prelude.{◌≡◌, ◌⊎◌, Bool, true, false, cond, List, [], ◌∷◌, ◌++◌, map, ℕ, ◌+◌, ◌≤◌, eqb, length, take, replicate}
+use Rattle.std.specs.Prelude.{◌≡◌, ◌⊎◌, Bool, true, false, cond, List, [], ◌∷◌, ◌++◌, map, ℕ, ◌+◌, ◌≤◌, eqb}
+use Rattle.std.specs.Prelude.{length, take, replicate}
 use Rattle.model.specs.Blocks.{Bytes}
 use Rattle.model.specs.Calls.{formatted}
 use Rattle.model.specs.Promises.Figures.{small, fresh}

@@ -10,7 +10,8 @@ ghost use Rattle.std.specs.Prelude.{◌≡◌, ◌+◌, ◌≤◌, ◌<◌, ◌^
 ghost use Rattle.model.specs.Blocks.{Bytes};
 ghost use Rattle.script.specs.Texts.{Put};
 ghost use Rattle.script.specs.Reports.{heading};
-ghost use Rattle.listing.specs.Listings.{begun, after_byte, text_of_byte, after_bytes, after_end, text_of_end};
+ghost use Rattle.listing.specs.Listings.{begun, after_byte, text_of_byte, after_bytes, after_end};
+ghost use Rattle.listing.specs.Listings.{text_of_end};
 ghost use Rattle.listing.specs.Listings.{Lent, listing_of, WentOn, Fed, Led, listing, printed};
 
 use progress::{Progress, begin, step_byte, step_end};

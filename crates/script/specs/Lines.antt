@@ -1,6 +1,7 @@
 -- What a line of the listing's input means (document 01, "Figures to hold against"): public number, one
 -- space, and offered number or `-`, each number 1 to 9 digits. Assumes nothing.
-use Rattle.std.specs.Prelude.{◌≡◌, Bool, false, cond, ◌&&◌, [], ◌∷◌, ℕ, ◌+◌, ◌≤◌, eqb, ltb, leb, length, take, drop}
+use Rattle.std.specs.Prelude.{◌≡◌, Bool, false, cond, ◌&&◌, [], ◌∷◌, ℕ, ◌+◌, ◌≤◌, eqb, ltb, leb, length, take}
+use Rattle.std.specs.Prelude.{drop}
 use Rattle.std.proofs.Math.Option.{Option, none, some}
 use Rattle.script.specs.Texts.{Text, space, dash, is_digits, value_of_digits}
 use Rattle.script.specs.declared.lines.Field as declaredField

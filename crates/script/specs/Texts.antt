@@ -1,6 +1,7 @@
 -- Text as bytes: the characters that the listing knows, numbers in decimal, and a text put into a buffer.
 -- Assumes nothing.
-use Rattle.std.specs.Prelude.{◌≡◌, Bool, true, cond, ◌&&◌, List, [], ◌∷◌, ◌++◌, ℕ, zero, suc, ◌+◌, ◌*◌, ◌-◌, ◌/◌, ◌%◌, ltb, leb, length}
+use Rattle.std.specs.Prelude.{◌≡◌, Bool, true, cond, ◌&&◌, List, [], ◌∷◌, ◌++◌, ℕ, zero, suc, ◌+◌, ◌*◌, ◌-◌}
+use Rattle.std.specs.Prelude.{◌/◌, ◌%◌, ltb, leb, length}
 use Rattle.laws.specs.Lists.{over}
 
 abbrev pub Text : Type 0

@@ -40,8 +40,8 @@ pub written_with_lem :
     {disk after blocks : Bytes} {line : Line} {list listAfter : List DiskAddress} {made : LineWritten}
     (number : ℕ) → blocks ≡ three_blocks →
     LineAnswered
-    (written disk number (filled 7) (replicate 256 165) (length list) (in_line blocks (line_of line))) disk list
-    blocks line after listAfter made →
+    (written disk number (filled 7) (replicate 256 165) (length list) (in_line blocks (line_of line)))
+    disk list blocks line after listAfter made →
     LineAnswered (written_with disk number (line_of line) (length list)) disk list three_blocks line after
     listAfter made
 written_with_lem number blocks-are wrote = rw blocks-are at wrote
@@ -84,7 +84,8 @@ module _ {from to last : ℕ} {start : Case} {size i : ℕ} {disk : Bytes} {left
   pub carrying_more :
       {after : Bytes} {list listAfter : List DiskAddress} {made : LineWritten} {number : ℕ} → i < to →
       number ≡ min i last →
-      LineAnswered (line_written disk number (line_of left)) disk list three_blocks left after listAfter made →
+      LineAnswered (line_written disk number (line_of left)) disk list three_blocks left after listAfter
+      made →
       length after ≡ length disk →
       Carrying from to last start size (i + 1) after made.line
   unfolding case_after

@@ -67,7 +67,8 @@ module _ (said got : Line) (most : ℕ) {same : Bool} {i : ℕ} (so_far : Offers
   -- one offer more
   pub compared_more :
       {after agrees : Bool} {offer next : declared.Offer} → i < most → offer ≡ offer_in said i →
-      next ≡ offer_in got i → agrees ≡ same_offer (offer_of offer) (offer_of next) → after ≡ (same && agrees) →
+      next ≡ offer_in got i → agrees ≡ same_offer (offer_of offer) (offer_of next) →
+      after ≡ (same && agrees) →
       OffersCompared said got most after (i + 1)
   compared_more {after} {agrees} {offer} {next} more offer_is next-is agrees_is after_is =
       let here : i < length (line_of said) = omega arith in

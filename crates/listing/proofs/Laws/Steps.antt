@@ -65,15 +65,15 @@ module _ {said : Line} {line : ℕ} {disk out : Bytes} where
   pub took_good :
       {number : ℕ} {offer : Option ℕ} {disk_after outAfter : Bytes} {put : ℕ} → said ≡ good number offer →
       Reported line number offer disk disk_after out outAfter put → (feed : Feed) (buffer : Bytes) →
-      WentOn (after_line said (reading_in feed buffer) line disk) (text_of_line said line disk) buffer disk_after
-      out outAfter (record { feed = feed; is_open = true; line = line + 1; put = put })
+      WentOn (after_line said (reading_in feed buffer) line disk) (text_of_line said line disk) buffer
+      disk_after out outAfter (record { feed = feed; is_open = true; line = line + 1; put = put })
   took_good e reported feed buffer =
       rw e (record { stands = rw reported.stored; put = reported.put })
 
   pub took_bad :
       said ≡ bad → (feed : Feed) (buffer : Bytes) →
-      WentOn (after_line said (reading_in feed buffer) line disk) (text_of_line said line disk) buffer disk out
-      out (record { feed = feed; is_open = false; line = line; put = 0 })
+      WentOn (after_line said (reading_in feed buffer) line disk) (text_of_line said line disk) buffer
+      disk out out (record { feed = feed; is_open = false; line = line; put = 0 })
   took_bad e feed buffer = rw e (record { stands = refl; put = put_nothing out })
 
 -- ---- where the bytes end ----

@@ -6,8 +6,8 @@ use Rattle.listing.proofs.list_input.Given as goal
 
 abbrev pub invariant-loop-turns : goal.invariant-loop-turns
 invariant-loop-turns l =
-    PieceTurned (listing_of l.initial.current l.initial.buffer l.initial.disk) l.initial.piece l.initial.buffer
-    l.initial.out l.turns (listing_of l.current l.buffer l.disk) l.piece l.buffer l.out
+    PieceTurned (listing_of l.initial.current l.initial.buffer l.initial.disk) l.initial.piece
+    l.initial.buffer l.initial.out l.turns (listing_of l.current l.buffer l.disk) l.piece l.buffer l.out
 
 abbrev pub decreases-loop-turns : goal.decreases-loop-turns
 decreases-loop-turns l = l.turns

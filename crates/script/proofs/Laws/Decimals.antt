@@ -28,7 +28,8 @@ within_large most value h = cond_false _ _ (le-ltb value 10 h)
 
 -- any bound above the number will do
 within_any :
-    (most more value : ℕ) → value < most → value < more → decimal_within most value ≡ decimal_within more value
+    (most more value : ℕ) → value < most → value < more →
+    decimal_within most value ≡ decimal_within more value
 within_any zero more value h k = absurd (omega arith)
 within_any (suc most) zero value h k = absurd (omega arith)
 within_any (suc most) (suc more) value h k =

@@ -16,7 +16,8 @@ use Rattle.script.specs.Texts.{Text, digit_byte, is_digit, is_digits, value_afte
 
 -- ---- digits joined ----
 
-pub is_digits-append : (xs ys : Text) → is_digits xs ≡ true → is_digits ys ≡ true → is_digits (xs ++ ys) ≡ true
+pub is_digits-append :
+    (xs ys : Text) → is_digits xs ≡ true → is_digits ys ≡ true → is_digits (xs ++ ys) ≡ true
 unfolding is_digits
 is_digits-append [] ys p q = q
 is_digits-append (byte ∷ xs) ys p q =
@@ -25,7 +26,8 @@ is_digits-append (byte ∷ xs) ys p q =
 
 pub is_digits_one : (byte : ℕ) → digit_byte 0 ≤ byte → byte ≤ digit_byte 9 → is_digits (byte ∷ []) ≡ true
 unfolding is_digits
-is_digits_one byte l h = and_both (and_both (le-leb (digit_byte 0) byte l) (le-leb byte (digit_byte 9) h)) refl
+is_digits_one byte l h =
+    and_both (and_both (le-leb (digit_byte 0) byte l) (le-leb byte (digit_byte 9) h)) refl
 
 value_after-append : (before : ℕ) (xs ys : Text) →
     value_after before (xs ++ ys) ≡ value_after (value_after before xs) ys

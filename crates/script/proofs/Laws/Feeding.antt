@@ -18,7 +18,8 @@ use Rattle.script.proofs.Laws.Lines.{line_in_long}
 
 -- ---- one more byte of a line ----
 
-cut-newline : (line : Text) (byte : ℕ) → byte ≡ newline → cut (step_in line byte) ≡ at_end (take line_room line)
+cut-newline :
+    (line : Text) (byte : ℕ) → byte ≡ newline → cut (step_in line byte) ≡ at_end (take line_room line)
 cut-newline line byte e =
     ap cut (cond_true (at_end line) (in_line (line ++ (byte ∷ []))) (eq-eqb byte newline e))
 
@@ -48,7 +49,8 @@ module _ (buffer : Text) (held byte : ℕ) (room : length buffer ≡ line_room) 
       (ap in_line (sym (take_all line_room line within)) ∙ sym (cut_other (take held buffer) byte ne))
 
   pub feed_full :
-      byte ≢ newline → line_room ≤ held → in_line (take line_room buffer) ≡ cut (step_in (take held buffer) byte)
+      byte ≢ newline → line_room ≤ held →
+      in_line (take line_room buffer) ≡ cut (step_in (take held buffer) byte)
   feed_full ne h =
       let whole : take held buffer ≡ buffer = take_all held buffer (omega arith) in
       rw whole

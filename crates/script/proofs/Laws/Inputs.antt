@@ -56,7 +56,8 @@ meanings = map line_in
 -- one more byte of a line
 line_on :
     (line : Text) (byte : ℕ) (bytes : Text) →
-    meanings (held_lines (at_end (take line_room (take line_room line))) bytes) ≡ meanings (lines_after [] bytes) →
+    meanings (held_lines (at_end (take line_room (take line_room line))) bytes) ≡
+    meanings (lines_after [] bytes) →
     meanings (held_lines (in_line (take line_room (line ++ (byte ∷ [])))) bytes) ≡
     meanings (lines_after (line ++ (byte ∷ [])) bytes) →
     meanings (held_lines (in_line (take line_room line)) (byte ∷ bytes)) ≡

@@ -40,7 +40,12 @@ module _ (outcome : ℕ) where
       outcome ≢ 0 → outcome ≢ 1 → outcome ≢ 2 → outcome ≢ 3 → outcome_text outcome ≡ decimal outcome
   unfolding outcome_text
   outcome_text_refusal none placed waiting not_tried =
-      rw (ne_eqb outcome 0 none, ne_eqb outcome 1 placed, ne_eqb outcome 2 waiting, ne_eqb outcome 3 not_tried)
+      rw (
+        ne_eqb outcome 0 none,
+        ne_eqb outcome 1 placed,
+        ne_eqb outcome 2 waiting,
+        ne_eqb outcome 3 not_tried,
+      )
 
 -- ---- lengths ----
 

@@ -23,7 +23,8 @@ returns-in-4 c = rw c.in-4.is (c.write_times.ensures ∙ ap (disk_written_on _ 2
 
 pub returns-in-5 : goal.returns-in-5
 unfolding made_by
-returns-in-5 c = rw c.in-5.is (c.write_times-in-5.ensures ∙ ap (disk_written_on _ 0) c.format_drive.ensures.stored)
+returns-in-5 c =
+    rw c.in-5.is (c.write_times-in-5.ensures ∙ ap (disk_written_on _ 0) c.format_drive.ensures.stored)
 
 pub returns-in_default : goal.returns-in_default
 unfolding made_by

@@ -20,8 +20,8 @@ returns c =
           (take c.at_most-count.result list) a.write
           (result_of a.disk.now (take c.at_most-count.result list) a.write))
           a.said.stores 17 a.stored c.at_most-stores.ensures.0 whole refl
-          ∙ cut_lent (λ (part : List DiskAddress). result_agrees a.said (take a.said.stores a.stored) a.disk.now
-          part a.write (result_of a.disk.now part a.write))
+          ∙ cut_lent (λ (part : List DiskAddress). result_agrees a.said (take a.said.stores a.stored)
+          a.disk.now part a.write (result_of a.disk.now part a.write))
           a.room 23 list c.at_most-count.ensures.0 refl refl;
       disk_is =
           made.disk_is ∙

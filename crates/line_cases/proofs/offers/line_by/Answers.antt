@@ -15,5 +15,6 @@ loop-i-preserved c = (
 
 pub returns : goal.returns
 returns c =
-    let all : c.loop-i.i ≡ c.args.said / 4294967296 = omega (arith, c.loop-i-test.false, c.loop-i.invariant.0) in
+    let all : c.loop-i.i ≡ c.args.said / 4294967296 =
+    omega (arith, c.loop-i-test.false, c.loop-i.invariant.0) in
     c.loop-i.invariant.1 ∙ ap (offers_said c.args.said) all

@@ -20,5 +20,5 @@ row_agrees {drive} row drive_is told_is torn_is mended_is =
 
 pub returns : goal.returns
 returns c =
-    row_agrees c.args.row c.five_lines-disk.ensures c.tell_cut-told.ensures.told c.tell_cut-told.ensures.stored
-    c.tell_mended-mended.ensures
+    row_agrees c.args.row c.five_lines-disk.ensures c.tell_cut-told.ensures.told
+    c.tell_cut-told.ensures.stored c.tell_mended-mended.ensures

@@ -5,7 +5,8 @@ use Rattle.script.proofs.texts.put_text.Given as goal
 
 abbrev pub invariant-loop-done : goal.invariant-loop-done
 invariant-loop-done l =
-    (l.done ≤ length l.text) × (l.out ≡ paste l.initial.out l.at l.text l.done) × (length l.out ≡ length l.initial.out)
+    (l.done ≤ length l.text) × (l.out ≡ paste l.initial.out l.at l.text l.done)
+    × (length l.out ≡ length l.initial.out)
 
 abbrev pub decreases-loop-done : goal.decreases-loop-done
 decreases-loop-done l = length l.text - l.done

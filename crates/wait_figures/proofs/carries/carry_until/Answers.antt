@@ -1,7 +1,8 @@
 -- No write, few left, one write more, and all of them.
 use Rattle.std.proofs.Common.{◌≤◌, length, arith, rules}
 use Rattle.line.specs.Offers.{line_of}
-use Rattle.wait_figures.proofs.Laws.Carries.{followed_start, few_more, followed_more, followed_left, followed_all}
+use Rattle.wait_figures.proofs.Laws.Carries.{followed_start, few_more, followed_more, followed_left}
+use Rattle.wait_figures.proofs.Laws.Carries.{followed_all}
 use Rattle.wait_figures.proofs.carries.carry_until.Goals as goal
 
 pub loop-i-init : goal.loop-i-init

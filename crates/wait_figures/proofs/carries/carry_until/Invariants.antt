@@ -7,8 +7,8 @@ use Rattle.wait_figures.proofs.carries.carry_until.Given as goal
 
 abbrev pub invariant-loop-i : goal.invariant-loop-i
 invariant-loop-i l =
-    Followed l.left (carry_on l.initial.disk (line_of l.initial.carried.line)) (length l.initial.disk) l.i l.disk
-    l.carried
+    Followed l.left (carry_on l.initial.disk (line_of l.initial.carried.line)) (length l.initial.disk) l.i
+    l.disk l.carried
 
 abbrev pub decreases-loop-i : goal.decreases-loop-i
 decreases-loop-i l = 20 - l.i

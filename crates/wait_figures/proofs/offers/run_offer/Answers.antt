@@ -9,4 +9,5 @@ returns c =
     let row = c.args.row in
     c.print_answer.ensures
     ∙ ap (eqb row.2) (c.write_offer-outcome.ensures.told
-    ∙ ap (offer_told row.0) (c.write_offers.ensures ∙ ap (offers_written row.1 row.0) c.live_drive-disk.ensures))
+    ∙ ap (offer_told row.0) (c.write_offers.ensures
+    ∙ ap (offers_written row.1 row.0) c.live_drive-disk.ensures))

@@ -71,12 +71,6 @@ module _ {A : Type 0} where
   take_min (suc n) (x ∷ xs) =
       rw (suc-min-suc n (length xs)) (ap (λ (rest : List A). x ∷ rest) (take_min n xs))
 
-  -- inside a list the default is not asked for
-  pub get_d_any : (xs : List A) (i : ℕ) (a b : A) → i < length xs → get_or xs i a ≡ get_or xs i b
-  get_d_any [] i a b h = absurd (omega arith)
-  get_d_any (x ∷ xs) zero a b h = refl
-  get_d_any (x ∷ xs) (suc i) a b h = get_d_any xs i a b (omega arith)
-
   -- a part that is lent: as many as asked for, but at most all
   pub cut_lent :
       {B : Type 0} (f : List A → B) {made : List A} {count : ℕ} (asked most : ℕ) (whole : List A) →
@@ -110,9 +104,3 @@ pub is_listed_more :
 is_listed_more stored list i h so_far read told =
     told ∙ rw (so_far, read) (sym (ap (λ (n : ℕ). is_listed stored (take n list)) (add-one i) ∙
     is_listed_suc stored list i h))
-
--- all entries, where the loop ends
-pub is_listed-all :
-    {same : Bool} (stored list : List ℕ) (i : ℕ) → length list ≤ i → same ≡ is_listed stored (take i list) →
-    same ≡ is_listed stored list
-is_listed-all stored list i h so_far = so_far ∙ ap (is_listed stored) (take_all i list h)

@@ -1,19 +1,18 @@
 -- Laws of input read byte by byte: what a line as it is held becomes with one more byte, that holding its
 -- front loses nothing of what it means, and that the lines of an input are those that end as its bytes are
 -- read. Assumes nothing.
-use mathlib.Core.Path.{◌≡◌, refl, sym, ap, ◌∙◌}
+use mathlib.Core.Path.{◌≡◌, sym, ap, ◌∙◌}
 use mathlib.Core.Logic.{◌≢◌, ⊎_elim}
 use mathlib.Core.List.{[], ◌∷◌, ◌++◌}
-use Prim.Native.Nat.{ℕ, zero, suc, ◌+◌, ◌≤◌, ◌<◌}
-use native.Mathlib.Numerals.{add-one}
+use Prim.Native.Nat.{ℕ, ◌≤◌, ◌<◌}
 use native.Mathlib.Omega.{arith}
-use lib.ListN.{length, take, set, length-append, length-take}
-use lib.Seq.{take_all, take-suc-set, take-append-le, length-take-le}
+use lib.ListN.{length, take, length-take}
+use lib.Seq.{take_all}
 use borrow.Author.Tests.{eq-eqb, ne_eqb}
 use Rattle.laws.proofs.Cases.{lt_cases, cond_true, cond_false}
 use Rattle.script.specs.Texts.{Text, newline}
 use Rattle.script.specs.Lines.{line_in}
-use Rattle.script.specs.Feeding.{in_line, at_end, step_in, finish, line_room, cut}
+use Rattle.script.specs.Feeding.{in_line, at_end, step_in, line_room, cut}
 use Rattle.script.proofs.Laws.Lines.{line_in_long}
 
 -- ---- one more byte of a line ----
@@ -37,32 +36,6 @@ module _ (buffer : Text) (held byte : ℕ) (room : length buffer ≡ line_room) 
   feed_newline e =
       ap at_end (sym (take_all line_room (take held buffer) held_within))
       ∙ sym (cut-newline (take held buffer) byte e)
-
-  pub feed_more :
-      byte ≢ newline → held < line_room →
-      in_line (take (held + 1) (set buffer held byte)) ≡ cut (step_in (take held buffer) byte)
-  feed_more ne h =
-      let line = take held buffer ++ (byte ∷ []) in
-      let within : length line ≤ line_room =
-      simp length-append (omega (arith, length-take-le held buffer (omega arith))) in
-      rw (add-one, take-suc-set buffer held byte (omega arith))
-      (ap in_line (sym (take_all line_room line within)) ∙ sym (cut_other (take held buffer) byte ne))
-
-  pub feed_full :
-      byte ≢ newline → line_room ≤ held →
-      in_line (take line_room buffer) ≡ cut (step_in (take held buffer) byte)
-  feed_full ne h =
-      let whole : take held buffer ≡ buffer = take_all held buffer (omega arith) in
-      rw whole
-      (ap in_line (sym (take-append-le line_room buffer (byte ∷ []) (omega arith)))
-      ∙ sym (cut_other buffer byte ne))
-
-pub feed_last :
-    (buffer : Text) (held : ℕ) → length buffer ≡ line_room → held ≢ 0 →
-    at_end (take held buffer) ≡ finish (in_line (take held buffer))
-feed_last [] held room ne = absurd (omega arith)
-feed_last (byte ∷ buffer) zero room ne = absurd (ne refl)
-feed_last (byte ∷ buffer) (suc held) room ne = refl
 
 -- ---- what is held says what the line says ----
 

@@ -8,7 +8,7 @@ use native.Mathlib.Numerals.{add-one}
 use native.Mathlib.Omega.{arith}
 use lib.Dec.{eqb}
 use lib.ListN.{length, get_or, take, drop, set, length-append, length-drop}
-use lib.Seq.{take-suc, take_all, get_or-drop}
+use lib.Seq.{take-suc, get_or-drop}
 use borrow.Author.Tests.{ne_eqb}
 use Rattle.laws.proofs.Cases.{cond_cases}
 use Rattle.script.specs.Texts.{Text, Put, space, comma, dash, decimal}
@@ -167,9 +167,6 @@ module _ (stores : List ℕ) (out : Text) (at : ℕ) (fits : at + 11 * length st
             (omega (arith, listed.put.ended, listed.near)) (comma ∷ decimal store) last end put
             (omega (arith, listed.near)));
       }
-
-  pub listed_all : length stores ≤ count → Put (later_text stores) out at after next
-  listed_all h = rw take_all at listed.put
 
 -- ---- all stores ----
 

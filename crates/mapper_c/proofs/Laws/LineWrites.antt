@@ -14,7 +14,6 @@ use Rattle.line.specs.declared.offers.Line.{Line}
 use Rattle.line.specs.Offers.{offers_of, line_of}
 use Rattle.lent_line.specs.Lent.{loaded_line, saved_offers}
 use Rattle.lent_line.proofs.Laws.Lent.{loaded_line_is, handed_fits, saved_left, saved_kept}
-use Rattle.mapper.specs.declared.write.LineWritten as declared
 use Rattle.mapper_c.specs.declared.line_writes.WrittenLine.{WrittenLine}
 use Rattle.mapper_c.specs.LineWrites.{line_numbers, HeldWritten, LentWritten}
 

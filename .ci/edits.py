@@ -5,7 +5,8 @@ A refusal is a fact where a goal of the code is not proved, or where a law or a 
 left. It shows nothing where it would be there whatever the contracts say: where it only says that a name is
 missing, that a proof file does not fit the code's shape or that something else is not proved; where it stands in
 the edited text itself (an error in src/ or specs/: a slip of syntax or type); where the prover met a limit and gave
-no verdict; and where there is none (an edit that is bad or was not tried).
+no verdict; and where there is none (an edit that is bad or was not tried). Not seen is a goal that is open since the
+edit gave it another name, as one that changes what a test compares with does: such an edit keeps the test's form.
 
 Prints how many edits there are and how many misfits; each misfit is printed, and makes the exit status 1.
 """

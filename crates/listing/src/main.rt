@@ -19,8 +19,8 @@ use script::reports::put_heading;
 use std::io;
 use streams::{Streams, finish, read_bytes, streams_on, write_bytes};
 
-// Hands so many bytes from the front of a buffer to standard output, which takes them where it took all before;
-// answers how many. Nothing else prints. No contract can speak of what is written there: the cases of
+// Hands so many bytes from the front of a buffer to standard output, which takes them where it took all
+// before; answers how many. Nothing else prints. No contract can speak of what is written there: the cases of
 // tests/listing do.
 fn print_front(streams: &mut Streams, out: &[u8], put: usize) -> usize
     requires { put ≤ length out.now }

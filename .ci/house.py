@@ -98,7 +98,11 @@ class File:
         return owners.get(name, self.crate)
 
     def words(self):
-        return collections.Counter(word for line in self.body for word in WORD.findall(line))
+        """Each word of the file, of code also those in angle brackets, and how often it stands there."""
+        words = [word for line in self.body for word in WORD.findall(line)]
+        if self.is_code:
+            words += [part for word in words if re.search("[<>]", word) for part in re.findall(r"\w+", word)]
+        return collections.Counter(words)
 
     def is_law(self):
         parts = self.path.parts

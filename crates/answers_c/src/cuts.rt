@@ -1,6 +1,10 @@
 // What a write that is cut came to, as C is told.
-ghost use Rattle.std.specs.Prelude.{◌≡◌, cond};
+ghost use Rattle.std.specs.Prelude.{◌≡◌};
+ghost use Rattle.mapper.specs.Cuts.{cut_answer_of};
 ghost use Rattle.answers_c.specs.Cuts.{cut_said};
+
+use layout::refusals::{Refusal, refusal_number};
+use mapper::CutWritten;
 
 // 0 or the refusal, the stores that were made, and 1 where others were left out.
 #[repr(C)]
@@ -11,23 +15,22 @@ pub struct Cut {
     pub cut: u32,
 }
 
-// 1 for what holds, 0 for what does not.
-fn digit_of(holds: bool) -> u32
-    ensures { result ≡ cond holds 1 0 }
-{
-    if holds {
-        return 1;
-    }
-    0
-}
+// What the mapper's write told; no stores, and not cut, after a refusal.
+impl From<Result<CutWritten, Refusal>> for Cut {
+    ghost from_gives = { λ told said. said ≡ cut_said (cut_answer_of told) };
 
-// What the mapper's write told, with a line or without one.
-pub fn cut_as(answer: u8, stores: u32, is_cut: bool) -> Cut
-    ensures { result ≡ cut_said answer stores is_cut }
-{
-    Cut {
-        answer: answer as u32,
-        stores,
-        cut: digit_of(is_cut),
+    fn from(told: Result<CutWritten, Refusal>) -> Cut {
+        match told {
+            Ok(written) => Cut {
+                answer: 0,
+                stores: written.stores,
+                cut: u32::from(written.is_cut),
+            },
+            Err(refusal) => Cut {
+                answer: refusal_number(refusal) as u32,
+                stores: 0,
+                cut: 0,
+            },
+        }
     }
 }

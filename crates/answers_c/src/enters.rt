@@ -2,7 +2,8 @@
 ghost use Rattle.std.specs.Prelude.{◌≡◌};
 ghost use Rattle.answers_c.specs.Enters.{entered_said};
 
-use line::offers::held;
+use layout::refusals::{Refusal, refusal_number};
+use line::offers::{Line, held};
 
 // 0 or the refusal, and how many offers of the line wait now.
 #[repr(C)]
@@ -12,14 +13,19 @@ pub struct Entered {
     pub waiting: u32,
 }
 
-// The answer, and the count of the line that is left, in the fields of the struct.
-pub fn entered_as(entered: line_calls::enters::Entered) -> Entered
-    ensures { result ≡ entered_said entered }
+// What entering into a line answered, and how many offers of the line that is left wait: of the line as it
+// was where entering was refused.
+pub fn entered_as(line: Line, entered: Result<Line, Refusal>) -> Entered
+    ensures { result ≡ entered_said line entered }
 {
-    let left = entered.line;
-    let waiting = held(left);
-    Entered {
-        answer: entered.answer as u32,
-        waiting: waiting as u32,
+    match entered {
+        Ok(left) => Entered {
+            answer: 0,
+            waiting: held(left) as u32,
+        },
+        Err(refusal) => Entered {
+            answer: refusal_number(refusal) as u32,
+            waiting: held(line) as u32,
+        },
     }
 }

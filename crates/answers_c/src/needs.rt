@@ -3,6 +3,8 @@ ghost use Rattle.std.specs.Prelude.{◌≡◌};
 ghost use Rattle.questions.specs.Needs.{needed_of};
 ghost use Rattle.answers_c.specs.Needs.{needs_said};
 
+use layout::refusals::{Refusal, refusal_number};
+
 // 0 or the refusal, the rounds, the stores that the list is to have room for, and the random bytes, counted
 // in blocks; zeros after a refusal.
 #[repr(C)]
@@ -15,13 +17,23 @@ pub struct Needs {
 }
 
 // The mapper's count, in the fields of the struct.
-pub fn needed_as(needs: questions::needs::Needs) -> Needs
-    ensures { result ≡ needs_said (needed_of needs) }
-{
-    Needs {
-        answer: needs.answer as u32,
-        rounds: needs.rounds,
-        stores: needs.stores,
-        random_blocks: needs.random_blocks,
+impl From<Result<questions::needs::Needs, Refusal>> for Needs {
+    ghost from_gives = { λ told said. said ≡ needs_said (needed_of told) };
+
+    fn from(told: Result<questions::needs::Needs, Refusal>) -> Needs {
+        match told {
+            Ok(needs) => Needs {
+                answer: 0,
+                rounds: needs.rounds,
+                stores: needs.stores,
+                random_blocks: needs.random_blocks,
+            },
+            Err(refusal) => Needs {
+                answer: refusal_number(refusal) as u32,
+                rounds: 0,
+                stores: 0,
+                random_blocks: 0,
+            },
+        }
     }
 }

@@ -1,10 +1,19 @@
 -- What the counts of rounds and stores are asked for. Assumes nothing.
-use Rattle.std.specs.Prelude.{◌≡◌, ◌≢◌, ℕ, ◌<◌}
+use Rattle.std.specs.Prelude.{◌≡◌, ◌≢◌, ℕ, zero, suc, ◌<◌, Bool, Option, Some, None}
 use Rattle.model.specs.Geometry.{Geometry, Fits}
 use Rattle.model.specs.Blocks.{Bytes, DiskAddress}
 use Rattle.model.specs.Layout.{Drive, head_in, map_entry}
 use Rattle.model.specs.Refusals.{round_count}
 use Rattle.layout.specs.PublicMap.{OldEntry}
+
+-- a test answers of each slot what is said of it
+abbrev pub Tells : (slots : ℕ) → (answers : ℕ → Bool → Type 0) → (said : ℕ → Bool) → Type 0
+Tells slots answers said = (slot : ℕ) → slot < slots → (told : Bool) → answers slot told → told ≡ said slot
+
+-- the round that is counted, none where the count is 0
+abbrev pub found_round : (rounds : ℕ) → Option ℕ
+found_round zero = None
+found_round (suc rounds) = Some (suc rounds)
 
 -- a number with this entry goes to this slot
 pub record Moving (g : Geometry) (entry : DiskAddress) (slot : ℕ) : Type 0 where

@@ -4,12 +4,14 @@ ghost use Rattle.laws.specs.Checks.{first_of};
 ghost use Rattle.model.specs.Layout.{Drive, is_place};
 ghost use Rattle.model.specs.Refusals.{place_checks};
 ghost use Rattle.layout.specs.Geometries.{geometry_of};
+ghost use Rattle.layout.specs.Refusals.{answer_number};
 
 use layout::bitmap::is_allocated;
 use layout::geometry::{Geometry, slot_of};
 use layout::levels::is_slot_start;
 use layout::numbers::{DiskAddress, PublicNumber};
 use layout::public_map::map_entry;
+use layout::refusals::Refusal;
 
 // Whether an entry of the map is block A of an allocated slot.
 pub fn is_place(disk: &[u8], g: Geometry, entry: DiskAddress) -> bool
@@ -22,25 +24,30 @@ pub fn is_place(disk: &[u8], g: Geometry, entry: DiskAddress) -> bool
     is_allocated(disk, g, slot_of(g, entry))
 }
 
-// 4 to 6 of a public number and the length of its data or blank, else 0.
-pub fn place_fault(disk: &[u8], g: Geometry, number: PublicNumber, size: usize) -> u8
+// 4 to 6 of a public number and the length of its data or blank.
+pub fn check_place(
+    disk: &[u8],
+    g: Geometry,
+    number: PublicNumber,
+    size: usize,
+) -> Result<(), Refusal>
     requires { Drive (geometry_of g) disk.now }
-    ensures { result ≡ first_of (place_checks (geometry_of g) disk.now number.0 size) }
+    ensures { answer_number result ≡ first_of (place_checks (geometry_of g) disk.now number.0 size) }
 {
     let publics = g.publics;
     let asked = number.0;
     if publics <= asked {
-        return 4;
+        return Err(Refusal::PublicNumber);
     }
     if size != g.block_size as usize {
-        return 5;
+        return Err(Refusal::PublicSize);
     }
     let entry = map_entry(disk, g, number);
     if entry.0 == 0 {
-        return 0;
+        return Ok(());
     }
     if is_place(disk, g, entry) {
-        return 0;
+        return Ok(());
     }
-    6
+    Err(Refusal::MapEntry)
 }

@@ -1,13 +1,9 @@
--- How many rows of a table agree, and what is read of bytes and lists that may be too short, and put there.
+-- What is read of bytes and lists that may be too short, and put there.
 -- Assumes nothing.
-use Rattle.std.specs.Prelude.{Bool, true, ◌&&◌, cond, List, [], ◌∷◌, ℕ, ◌+◌, ◌/◌, eqb, ltb, length}
-use Rattle.model.specs.Table.{digit}
+use Rattle.std.specs.Prelude.{Bool, true, ◌&&◌, cond, List, [], ◌∷◌, ℕ, ◌/◌, eqb, ltb, length}
+use Rattle.std.specs.Prelude.{Option, Some, None}
 use Rattle.model.specs.Blocks.{Bytes, entry_at, set_entry}
-
--- the rows that agree
-unfoldable pub agreeing : {Row : Type 0} → (agrees : Row → Bool) → (rows : List Row) → ℕ
-agreeing agrees [] = 0
-agreeing agrees (row ∷ rows) = digit (agrees row) + agreeing agrees rows
+use Rattle.figure_lines.specs.declared.lines.Put.{Put}
 
 -- an entry, or 0 where there is none
 abbrev pub entry_or : (index : ℕ) → Bytes → ℕ
@@ -16,6 +12,11 @@ entry_or index bytes = cond (ltb index (length bytes / 4)) (entry_at index bytes
 -- an entry that the disk does not have is not put
 abbrev pub puts : (index value : ℕ) → (disk : Bytes) → Bytes
 puts index value disk = cond (ltb index (length disk / 4)) (set_entry index value disk) disk
+
+-- the entry that is said, or none
+abbrev pub puts_said : Option Put → (disk : Bytes) → Bytes
+puts_said None disk = disk
+puts_said (Some put) disk = puts put.0 put.1 disk
 
 -- whether a list has what was stored in front, and else 99
 unfoldable pub is_listed : (stored list : List ℕ) → Bool

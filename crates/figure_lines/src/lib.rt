@@ -3,5 +3,6 @@
 #![tactic(auto)]
 
 pub mod output; // where figures are printed
-pub mod lines; // a figure's line, the count of rows that agree, parts of what is lent and an entry put
+pub mod lines; // a figure's line, parts of what is lent and entries put
+pub mod rows; // the rows of a table, and the count of those that agree
 pub mod lists; // lists beside each other

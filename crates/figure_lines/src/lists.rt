@@ -2,25 +2,20 @@
 ghost use Rattle.std.specs.Prelude.{◌≡◌, get_or};
 ghost use Rattle.figure_lines.specs.Counts.{is_listed};
 
-use crate::lines::{print_named, print_text};
-use crate::output::Output;
+use crate::lines::print_named;
+use crate::output::{Output, put_bytes};
 
 // The entry of a list at an index: what was stored, or 99 past that.
 fn entry_said(stored: &[u32], index: usize) -> u32
     ensures { result ≡ get_or stored.now index 99 }
 {
-    if index < stored.len() {
-        return stored[index];
-    }
-    99
+    stored.get(index).copied().unwrap_or(99)
 }
 
 // Prints the first so many entries of a list, a space before each.
 pub fn print_entries(output: &mut Output, stored: &[u32], count: usize) {
-    let mut i = 0;
-    while i < count {
-        print_named(output, b" ", entry_said(stored, i) as u64);
-        i += 1;
+    for i in 0..count {
+        print_named(output, b" ", u64::from(entry_said(stored, i)));
     }
 }
 
@@ -29,10 +24,8 @@ fn is_listed<'a>(stored: &'a [u32], list: &'a [u32]) -> bool
     ensures { result ≡ is_listed stored.now list.now }
 {
     let mut same = true;
-    let mut i = 0;
-    while i < list.len() {
-        same = same & (entry_said(stored, i) == list[i]);
-        i += 1;
+    for (i, entry) in list.iter().enumerate() {
+        same &= entry_said(stored, i) == *entry;
     }
     same
 }
@@ -41,10 +34,10 @@ fn is_listed<'a>(stored: &'a [u32], list: &'a [u32]) -> bool
 pub fn print_list<'a>(output: &mut Output, stored: &'a [u32], list: &'a [u32]) -> bool
     ensures { result ≡ is_listed stored.now list.now }
 {
-    print_text(output, b"  list expected");
+    put_bytes(output, b"  list expected");
     print_entries(output, stored, list.len());
-    print_text(output, b" got");
+    put_bytes(output, b" got");
     print_entries(output, list, list.len());
-    print_text(output, b"\n");
+    put_bytes(output, b"\n");
     is_listed(stored, list)
 }

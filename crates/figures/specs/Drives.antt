@@ -1,13 +1,16 @@
 -- The drive of a row. Assumes nothing.
-use Rattle.std.specs.Prelude.{cond, ℕ, zero, suc, min, eqb, take, replicate}
+use Rattle.std.specs.Prelude.{ℕ, zero, suc, min, take, replicate, Option, None}
 use Rattle.model.specs.Blocks.{Bytes, set_entry}
 use Rattle.model.specs.Calls.{formatted}
 use Rattle.model.specs.Promises.Figures.{small}
 use Rattle.model.specs.Calls.{nothing}
 use Rattle.model.specs.Promises.Limits.{listed_on, two_bitmaps}
-use Rattle.figure_lines.specs.Counts.{puts}
+use Rattle.figure_lines.specs.declared.lines.Put.{Put}
+use Rattle.figure_lines.specs.Counts.{puts_said}
 use Rattle.recovery_figures.specs.Listed.{three_written, five_written}
 use Rattle.figures.specs.declared.drives.Drive.{Drive}
+use Rattle.figures.specs.declared.drives.Made.{Made}
+use Rattle.figures.specs.declared.drives.Made.TheVariants.{Fresh, Slot, Three, Five, Written, Moved}
 
 -- ---- how it is made ----
 
@@ -23,25 +26,23 @@ unfoldable pub disk_written_on : (times last : ℕ) → (disk : Bytes) → Bytes
 disk_written_on zero last disk = disk
 disk_written_on (suc times) last disk = listed_on (disk_written_on times last disk) 7 (min times last) nothing
 
-unfoldable pub made_by : (made times : ℕ) → (disk : Bytes) → Bytes
-made_by made times disk =
-    cond (eqb made 1) (slot_made disk)
-    (cond (eqb made 2) (three_written (formatted disk small))
-    (cond (eqb made 3) (five_written disk)
-    (cond (eqb made 4) (disk_written_on times 2 (formatted disk small))
-    (cond (eqb made 5) (disk_written_on times 0 (formatted disk two_bitmaps)) (formatted disk small)))))
+unfoldable pub made_by : Made → (disk : Bytes) → Bytes
+made_by Fresh disk = formatted disk small
+made_by Slot disk = slot_made disk
+made_by Three disk = three_written (formatted disk small)
+made_by Five disk = five_written disk
+made_by (Written times) disk = disk_written_on times 2 (formatted disk small)
+made_by (Moved times) disk = disk_written_on times 0 (formatted disk two_bitmaps)
 
 -- ---- what is put and lent ----
 
 unfoldable pub drive_on : Drive → (disk : Bytes) → Bytes
 drive_on drive disk =
-    puts drive.later drive.other
-    (puts drive.index drive.value (made_by drive.made drive.times disk))
+    puts_said drive.later (puts_said drive.put (made_by drive.made disk))
 
 -- a drive with one entry put, or none
-abbrev pub row_drive : (made times index value : ℕ) → Drive
-row_drive made times index value =
-    record { made = made; times = times; index = index; value = value; later = 65535; other = 0 }
+abbrev pub row_drive : Made → Option Put → Drive
+row_drive made put = record { made = made; put = put; later = None }
 
 -- a drive on a disk of 512 bytes, and the first so many bytes of it
 abbrev pub small_drive : Drive → Bytes

@@ -1,6 +1,6 @@
 -- When a row of a drive's hidden tree agrees with the model. Assumes nothing.
-use Rattle.std.specs.Prelude.{Bool, cond, ℕ, eqb}
-use Rattle.std.proofs.Math.Option.{Option, none, some}
+use Rattle.std.specs.Prelude.{Bool, true, false, cond, ℕ, eqb, Option, Some, None}
+use Rattle.std.proofs.Math.Option as model
 use Rattle.model.specs.Blocks.{Bytes, DiskAddress}
 use Rattle.model.specs.Layout.{geometry_in}
 use Rattle.model.specs.Refusals.{drive_refusal}
@@ -10,26 +10,34 @@ use Rattle.figure_lines.specs.Counts.{entry_or}
 use Rattle.figures.specs.Drives.{lent_of}
 use Rattle.figures.specs.declared.drives.Drive.{Drive}
 use Rattle.figures.specs.declared.trees.TreeRow.{TreeRow}
+use Rattle.figures.specs.declared.trees.Asked.{Asked}
+use Rattle.figures.specs.declared.trees.Asked.TheVariants.{Entry, Check, Walk}
 
--- an address, 0 for none
-abbrev pub address_or : Option DiskAddress → ℕ
-address_or none = 0
-address_or (some address) = address
+-- an address or none, as the code tells it
+abbrev pub address_told : model.Option DiskAddress → Option ℕ
+address_told model.none = None
+address_told (model.some address) = Some address
 
--- where the walk for a number reads the node of a level; 0 for none, and on a disk that refusals 1 to 3 meet
-unfoldable pub node_on : (disk : Bytes) → (number level : ℕ) → ℕ
+-- where the walk for a number reads the node of a level; none on a disk that refusals 1 to 3 meet
+unfoldable pub node_on : (disk : Bytes) → (number level : ℕ) → Option ℕ
 node_on disk number level =
-    cond (eqb (drive_refusal disk) 0) (address_or (read_at (geometry_in disk) disk number level)) 0
+    cond (eqb (drive_refusal disk) 0) (address_told (read_at (geometry_in disk) disk number level)) None
 
 -- an entry, the check's answer, or a node's address
-abbrev pub told_by : (disk : Bytes) → (asked number level : ℕ) → ℕ
-told_by disk asked number level =
-    cond (eqb asked 0) (entry_or number disk)
-    (cond (eqb asked 1) (tree_refusal disk) (node_on disk number level))
+abbrev pub told_by : (disk : Bytes) → Asked → Option ℕ
+told_by disk (Entry index) = Some (entry_or index disk)
+told_by disk Check = Some (tree_refusal disk)
+told_by disk (Walk number level) = node_on disk number level
+
+-- whether two answers are the same
+abbrev pub same_told : Option ℕ → Option ℕ → Bool
+same_told None None = true
+same_told None (Some got) = false
+same_told (Some said) None = false
+same_told (Some said) (Some got) = eqb said got
 
 abbrev pub tree_drive : TreeRow → Drive
-tree_drive row =
-    record { made = row.0; times = 0; index = row.1; value = row.2; later = row.3; other = row.4 }
+tree_drive row = record { made = row.0; put = row.1; later = row.2 }
 
 unfoldable pub tree_agrees : TreeRow → Bool
-tree_agrees row = eqb row.9 (told_by (lent_of (tree_drive row) row.5) row.6 row.7 row.8)
+tree_agrees row = same_told row.5 (told_by (lent_of (tree_drive row) row.3) row.4)

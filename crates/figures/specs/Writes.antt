@@ -1,13 +1,16 @@
 -- When a row of a write agrees with the model. Assumes nothing.
-use Rattle.std.specs.Prelude.{Bool, ◌&&◌, cond, List, ◌≡◌, ℕ, eqb, ltb, length, take, replicate}
+use Rattle.std.specs.Prelude.{Bool, ◌&&◌, List, ◌≡◌, ℕ, eqb, length, take, replicate, Option, Some, None}
 use Rattle.model.specs.Blocks.{Bytes, DiskAddress}
 use Rattle.model.specs.Refusals.{write_refusal}
-use Rattle.model.specs.Calls.{Written, written, written_disk, written_list, outcome_number}
+use Rattle.model.specs.Calls as model
+use Rattle.model.specs.Calls.{Written, written, written_disk, written_list, outcome_number, one, nothing}
 use Rattle.model.specs.Promises.Figures.{filled}
-use Rattle.mapper.specs.Writes.{call_offer}
 use Rattle.figure_lines.specs.Counts.{is_listed}
 use Rattle.figures.specs.Drives.{drive_on, row_drive}
 use Rattle.figures.specs.declared.drives.Drive.{Drive}
+use Rattle.figures.specs.declared.drives.Made.{Made}
+use Rattle.figures.specs.declared.drives.Made.TheVariants.{Moved}
+use Rattle.figures.specs.declared.writes.Offered.{Offered}
 use Rattle.figures.specs.declared.writes.RefusedRow.{RefusedRow}
 use Rattle.figures.specs.declared.writes.WriteRow.{WriteRow}
 use Rattle.figures.specs.declared.writes.Write.{Write}
@@ -15,9 +18,10 @@ use Rattle.figures.specs.declared.writes.Said.{Said}
 
 -- ---- a write ----
 
--- whether hidden data is offered, by the number
-abbrev pub is_offered : (number : ℕ) → Bool
-is_offered number = ltb number 4294967295
+-- what is offered: so many of these bytes to a hidden number, or nothing
+abbrev pub offer_from : Option Offered → (bytes : Bytes) → model.Offered
+offer_from None bytes = nothing
+offer_from (Some offer) bytes = one (record { number = offer.0; content = take offer.1 bytes })
 
 abbrev pub content_of : Write → Bytes
 content_of write = take write.content (filled 7)
@@ -33,7 +37,7 @@ fault_agrees disk list write answer =
 unfoldable pub result_of : (disk : Bytes) → (list : List DiskAddress) → Write → Written
 result_of disk list write =
     written disk write.number (content_of write) (random_of write) (length list)
-    (call_offer (is_offered write.offer) write.offer (take write.hidden (replicate 33 9)))
+    (offer_from write.offer (replicate 33 9))
 
 abbrev pub said_agrees : Said → (answer rounds stores outcome : ℕ) → Bool
 said_agrees said answer rounds stores outcome =
@@ -74,18 +78,19 @@ pub record RowWroteOn (room : ℕ) (write : Write) (said : Said) (stored : List 
   pub disk_is : disk_after ≡ written_disk (result_of disk (list_of room) write) disk
 
 -- zeros for a drive: 9760 bytes for one that is moved, else 512
-abbrev pub zeros_for : Drive → Bytes
-zeros_for drive = cond (eqb drive.made 5) (replicate 9760 0) (replicate 512 0)
+abbrev pub zeros_for : Made → Bytes
+zeros_for (Moved times) = replicate 9760 0
+zeros_for _ = replicate 512 0
 
 abbrev pub write_agrees : Drive → (bytes room : ℕ) → Write → Said → (stored : List DiskAddress) → Bool
 write_agrees drive bytes room write said stored =
-    agrees_on room write said stored (take bytes (drive_on drive (zeros_for drive)))
+    agrees_on room write said stored (take bytes (drive_on drive (zeros_for drive.made)))
 
 -- ---- a row ----
 
-abbrev pub row_write : (number content offer hidden random : ℕ) → Write
-row_write number content offer hidden random =
-    record { number = number; content = content; offer = offer; hidden = hidden; random = random }
+abbrev pub row_write : (number content : ℕ) → Option Offered → (random : ℕ) → Write
+row_write number content offer random =
+    record { number = number; content = content; offer = offer; random = random }
 
 abbrev pub said_of : (answer rounds stores outcome : ℕ) → Said
 said_of answer rounds stores outcome =
@@ -93,10 +98,10 @@ said_of answer rounds stores outcome =
 
 unfoldable pub refused_agrees : RefusedRow → Bool
 refused_agrees row =
-    write_agrees (row_drive row.0 row.1 row.2 row.3) row.4 row.8
-    (row_write row.5 row.6 4294967295 32 row.7) (said_of row.9 0 0 3) (replicate 17 0)
+    write_agrees (row_drive row.0 row.1) row.2 row.6 (row_write row.3 row.4 None row.5)
+    (said_of row.7 0 0 3) (replicate 17 0)
 
 unfoldable pub accepted_agrees : WriteRow → Bool
 accepted_agrees row =
-    write_agrees (row_drive row.0 row.1 row.2 row.3) row.4 row.9
-    (row_write row.5 32 row.6 row.7 row.8) (said_of 0 row.10 row.11 row.12) row.13
+    write_agrees (row_drive row.0 row.1) row.2 row.6 (row_write row.3 32 row.4 row.5)
+    (said_of 0 row.7 row.8 row.9) row.10

@@ -4,56 +4,46 @@ ghost use Rattle.std.specs.Prelude.{◌≡◌, ◌≤◌, length};
 ghost use Rattle.figures.specs.Drives.{slot_made, disk_written_on, made_by};
 ghost use Rattle.figures.specs.Drives.{row_drive, drive_on, small_drive};
 
-use figure_lines::lines::{number_at, print_named, print_text, put_on};
-use figure_lines::output::Output;
+use figure_lines::lines::{Put, print_named, print_put, put_said};
+use figure_lines::output::{Output, put_bytes};
 use layout::entries::put_entry;
 use layout::geometry::Geometry;
 use mapper::format_drive;
 use recovery_figures::listed::{format_small, write_five, write_line, write_three};
 
-// How a drive is made, from zeros: formatted;
-pub const FRESH: u8 = 0;
+// How a drive is made, from zeros.
+#[derive(Clone, Copy)]
+pub enum Made {
+    // formatted
+    Fresh,
+    // by entries: public number 0 and hidden number 0 in slot 0, with data that starts with a 7 and an 8
+    Slot,
+    // by lines 0 -, 0 1 and 1 - of the listing: hidden 1 in slot 1
+    Three,
+    // by these and lines 2 - and 2 0: hidden 0 in slot 0
+    Five,
+    // by the first so many of writes 0, 1, 2, 2, 2, ...
+    Written(u32),
+    // of B 32, k 2, P 1, H 1 and M 100, with two bitmap blocks, by so many writes of number 0
+    Moved(u32),
+}
 
-// by entries: public number 0 and hidden number 0 in slot 0, with data that starts with a 7 and an 8;
-pub const SLOT: u8 = 1;
-
-// by lines 0 -, 0 1 and 1 - of the listing: hidden 1 in slot 1;
-pub const THREE: u8 = 2;
-
-// by these and lines 2 - and 2 0: hidden 0 in slot 0;
-pub const FIVE: u8 = 3;
-
-// by the first so many of writes 0, 1, 2, 2, 2, ...;
-pub const WRITTEN: u8 = 4;
-
-// of B 32, k 2, P 1, H 1 and M 100, with two bitmap blocks, by so many writes of number 0.
-pub const MOVED: u8 = 5;
-
-// The index of no entry: a drive has fewer.
-pub const NO: usize = 65535;
-
-// How it is made, how many times, and two entries put, each by its index over the whole disk.
+// How it is made, and two entries that are put then.
 #[derive(Clone, Copy)]
 pub struct Drive {
-    pub made: u8,
-    pub times: u32,
-    pub index: usize,
-    pub value: u32,
-    pub later: usize,
-    pub other: u32,
+    pub made: Made,
+    pub put: Option<Put>,
+    pub later: Option<Put>,
 }
 
 // A drive with one entry put, or none.
-pub fn drive_with(made: u8, times: u32, index: usize, value: u32) -> Drive
-    ensures { result ≡ row_drive made times index value }
+pub fn drive_with(made: Made, put: Option<Put>) -> Drive
+    ensures { result ≡ row_drive made put }
 {
     Drive {
         made,
-        times,
-        index,
-        value,
-        later: NO,
-        other: 0,
+        put,
+        later: None,
     }
 }
 
@@ -86,40 +76,38 @@ fn make_slot(disk: &mut [u8])
 fn write_times(disk: &mut [u8], times: u32, last: u32)
     ensures { disk.new ≡ disk_written_on times last disk.old }
 {
-    let mut i: u32 = 0;
-    while i < times {
-        write_line(disk, 7, number_at(i, last), false, 0);
-        i += 1;
+    for i in 0..times {
+        write_line(disk, 7, i.min(last), None);
     }
 }
 
 // ---- the drive ----
 
-fn make_by(disk: &mut [u8], made: u8, times: u32)
+fn make_by(disk: &mut [u8], made: Made)
     requires { 512 ≤ length disk.old }
-    ensures { disk.new ≡ made_by made times disk.old }
+    ensures { disk.new ≡ made_by made disk.old }
 {
     match made {
-        1 => {
+        Made::Fresh => {
+            format_small(disk);
+        }
+        Made::Slot => {
             make_slot(disk);
         }
-        2 => {
+        Made::Three => {
             format_small(disk);
             write_three(disk);
         }
-        3 => {
+        Made::Five => {
             write_five(disk);
         }
-        4 => {
+        Made::Written(times) => {
             format_small(disk);
             write_times(disk, times, 2);
         }
-        5 => {
-            format_drive(disk, TWO_BITMAPS);
+        Made::Moved(times) => {
+            let _ = format_drive(disk, TWO_BITMAPS);
             write_times(disk, times, 0);
-        }
-        _ => {
-            format_small(disk);
         }
     }
 }
@@ -129,9 +117,9 @@ pub fn make_drive(disk: &mut [u8], drive: Drive)
     requires { 512 ≤ length disk.old }
     ensures { disk.new ≡ drive_on drive disk.old }
 {
-    make_by(disk, drive.made, drive.times);
-    put_on(disk, drive.index, drive.value);
-    put_on(disk, drive.later, drive.other);
+    make_by(disk, drive.made);
+    put_said(disk, drive.put);
+    put_said(disk, drive.later);
 }
 
 // The drive on a disk of 512 bytes.
@@ -145,29 +133,22 @@ pub fn small_drive(drive: Drive) -> [u8; 512]
 
 // ---- its label ----
 
-fn print_made(output: &mut Output, made: u8, times: u32) {
+fn print_made(output: &mut Output, made: Made) {
     match made {
-        1 => print_text(output, b"slot 0"),
-        2 => print_text(output, b"three lines"),
-        3 => print_text(output, b"five lines"),
-        4 => print_named(output, b"writes ", times as u64),
-        5 => print_named(output, b"moves ", times as u64),
-        _ => print_text(output, b"fresh"),
-    }
-}
-
-fn print_put(output: &mut Output, index: usize, value: u32) {
-    if index < NO {
-        print_named(output, b", entry ", index as u64);
-        print_named(output, b" is ", value as u64);
+        Made::Fresh => put_bytes(output, b"fresh"),
+        Made::Slot => put_bytes(output, b"slot 0"),
+        Made::Three => put_bytes(output, b"three lines"),
+        Made::Five => put_bytes(output, b"five lines"),
+        Made::Written(times) => print_named(output, b"writes ", u64::from(times)),
+        Made::Moved(times) => print_named(output, b"moves ", u64::from(times)),
     }
 }
 
 // Prints how the drive is made, what is put, and the bytes lent.
 pub fn print_drive(output: &mut Output, drive: Drive, bytes: usize) {
-    print_made(output, drive.made, drive.times);
-    print_put(output, drive.index, drive.value);
-    print_put(output, drive.later, drive.other);
+    print_made(output, drive.made);
+    print_put(output, drive.put);
+    print_put(output, drive.later);
     print_named(output, b", ", bytes as u64);
-    print_text(output, b" bytes: ");
+    put_bytes(output, b" bytes: ");
 }

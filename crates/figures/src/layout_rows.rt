@@ -1,7 +1,8 @@
 // What document 01 says of geometries ("Figures to hold against", refusals 1 and 2), and document 02 of the
 // largest place of a bit (K4).
-use crate::layouts::{FormatRow, SizeRow, run_formats, run_sizes};
+use crate::layouts::{FormatRow, SizeRow};
 use figure_lines::output::Output;
+use figure_lines::rows::run_rows;
 
 // B, k, P, H, M, slot; answer, blocks T, bytes, start D of the data area, place of the slot's bit
 const SIZES: [SizeRow; 7] = [
@@ -78,10 +79,10 @@ const FORMATS: [FormatRow; 33] = [
 
 // Answers how many sizes agree.
 pub fn size_rows(output: &mut Output) -> u32 {
-    run_sizes(output, SIZES)
+    run_rows(output, &SIZES)
 }
 
 // Answers how many formattings agree.
 pub fn format_rows(output: &mut Output) -> u32 {
-    run_formats(output, FORMATS)
+    run_rows(output, &FORMATS)
 }

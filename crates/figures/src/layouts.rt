@@ -3,15 +3,15 @@
 ghost use Rattle.std.specs.Prelude.{◌≡◌};
 ghost use Rattle.model.specs.Calls.{formatted};
 ghost use Rattle.layout.specs.Geometries.{geometry_of};
-ghost use Rattle.figure_lines.specs.Counts.{agreeing};
 ghost use Rattle.figures.specs.Layouts.{start_of, place_of, size_agrees, formatted_agrees, format_agrees};
 
-use figure_lines::lines::{
-    at_most, byte_or, print_answer, print_count, print_figure, print_named, print_text, tally,
-};
+use answers_c::drives::Size;
+use figure_lines::lines::{byte_or, print_count, print_figure, print_named};
 use figure_lines::output::Output;
+use figure_lines::rows::Row;
 use layout::bitmap::bit_place;
 use layout::geometry::{Geometry, area_start, is_geometry};
+use layout::refusals::answer_number;
 use mapper::{drive_size, format_drive};
 
 // B, k, P, H, M and a slot; the answer, the blocks T and the bytes, the start D of the data area, and the
@@ -24,7 +24,7 @@ pub struct SizeRow(
     pub u32,
     pub u32,
     pub u32,
-    pub u8,
+    pub u32,
     pub u32,
     pub u64,
     pub u32,
@@ -42,18 +42,18 @@ pub struct FormatRow(
     pub u32,
     pub usize,
     pub usize,
-    pub u8,
+    pub u32,
     pub u32,
 );
 
 // ---- geometries ----
 
 fn print_geometry(output: &mut Output, g: Geometry) {
-    print_named(output, b"B ", g.block_size as u64);
-    print_named(output, b", k ", g.height as u64);
-    print_named(output, b", P ", g.publics as u64);
-    print_named(output, b", H ", g.hidden as u64);
-    print_named(output, b", M ", g.slots as u64);
+    print_named(output, b"B ", u64::from(g.block_size));
+    print_named(output, b", k ", u64::from(g.height));
+    print_named(output, b", P ", u64::from(g.publics));
+    print_named(output, b", H ", u64::from(g.hidden));
+    print_named(output, b", M ", u64::from(g.slots));
 }
 
 // ---- sizes ----
@@ -79,40 +79,27 @@ fn place_of(g: Geometry, slot: u32) -> u32
     0
 }
 
-// Prints a row; answers whether it agrees.
-fn run_size(output: &mut Output, row: SizeRow) -> bool
-    ensures { result ≡ size_agrees row }
-{
-    let g = Geometry {
-        block_size: row.0,
-        height: row.1,
-        publics: row.2,
-        hidden: row.3,
-        slots: row.4,
-    };
-    print_geometry(output, g);
-    print_text(output, b": size");
-    let size = drive_size(g);
-    let answered = print_answer(output, row.6, size.answer);
-    let counted = print_count(output, b"  blocks", row.7, size.blocks);
-    let filled = print_figure(output, b"  bytes", row.8, size.bytes);
-    let started = print_count(output, b"  data area", row.9, start_of(g));
-    print_named(output, b"  bit place of slot ", row.5 as u64);
-    let placed = print_count(output, b"", row.10, place_of(g, row.5));
-    answered & counted & filled & started & placed
-}
+impl Row for SizeRow {
+    ghost agrees = { size_agrees };
 
-// Prints every row; answers how many agree.
-pub fn run_sizes(output: &mut Output, rows: [SizeRow; 7]) -> u32
-    ensures { result ≡ agreeing size_agrees rows }
-{
-    let mut agreed: u32 = 0;
-    let mut i = 0;
-    while i < 7 {
-        agreed = tally(agreed, run_size(output, rows[i]));
-        i += 1;
+    fn run(self, output: &mut Output) -> bool {
+        let g = Geometry {
+            block_size: self.0,
+            height: self.1,
+            publics: self.2,
+            hidden: self.3,
+            slots: self.4,
+        };
+        print_geometry(output, g);
+        let size = Size::from(drive_size(g));
+        let answered = print_count(output, b": size", self.6, size.answer);
+        let counted = print_count(output, b"  blocks", self.7, size.blocks);
+        let filled = print_figure(output, b"  bytes", self.8, size.bytes);
+        let started = print_count(output, b"  data area", self.9, start_of(g));
+        print_named(output, b"  bit place of slot ", u64::from(self.5));
+        let placed = print_count(output, b"", self.10, place_of(g, self.5));
+        answered & counted & filled & started & placed
     }
-    agreed
 }
 
 // ---- formatting ----
@@ -123,45 +110,34 @@ fn format_on(
     disk: &mut [u8],
     g: Geometry,
     index: usize,
-    answer: u8,
+    answer: u32,
     value: u32,
 ) -> bool
     ensures agreed { result ≡ formatted_agrees disk.old (geometry_of g) index answer value }
     ensures stored { disk.new ≡ formatted disk.old (geometry_of g) }
 {
-    let answered = print_answer(output, answer, format_drive(disk, g));
+    let told = answer_number(format_drive(disk, g));
+    let answered = print_count(output, b"", answer, u32::from(told));
     print_named(output, b"  byte ", index as u64);
     let shown = print_count(output, b"", value, byte_or(disk, index));
     answered & shown
 }
 
-// Prints a row; answers whether it agrees.
-fn run_format(output: &mut Output, row: FormatRow) -> bool
-    ensures { result ≡ format_agrees row }
-{
-    let g = Geometry {
-        block_size: row.0,
-        height: row.1,
-        publics: row.2,
-        hidden: row.3,
-        slots: row.4,
-    };
-    let mut disk = [170u8; 5696];
-    let bytes = at_most(row.5, 5696);
-    print_geometry(output, g);
-    print_named(output, b": formatting bytes ", bytes as u64);
-    format_on(output, &mut disk[..bytes], g, row.6, row.7, row.8)
-}
+impl Row for FormatRow {
+    ghost agrees = { format_agrees };
 
-// Prints every row; answers how many agree.
-pub fn run_formats(output: &mut Output, rows: [FormatRow; 33]) -> u32
-    ensures { result ≡ agreeing format_agrees rows }
-{
-    let mut agreed: u32 = 0;
-    let mut i = 0;
-    while i < 33 {
-        agreed = tally(agreed, run_format(output, rows[i]));
-        i += 1;
+    fn run(self, output: &mut Output) -> bool {
+        let g = Geometry {
+            block_size: self.0,
+            height: self.1,
+            publics: self.2,
+            hidden: self.3,
+            slots: self.4,
+        };
+        let mut disk = [170u8; 5696];
+        let bytes = self.5.min(5696);
+        print_geometry(output, g);
+        print_named(output, b": formatting bytes ", bytes as u64);
+        format_on(output, &mut disk[..bytes], g, self.6, self.7, self.8)
     }
-    agreed
 }

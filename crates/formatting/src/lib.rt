@@ -8,11 +8,12 @@ ghost use Rattle.model.specs.Blocks.{packed};
 ghost use Rattle.model.specs.Refusals.{format_refusal};
 ghost use Rattle.model.specs.Calls.{formatted};
 ghost use Rattle.layout.specs.Geometries.{geometry_of};
+ghost use Rattle.layout.specs.Refusals.{answer_number};
 ghost use Rattle.formatting.specs.Headers.{header_entries};
 
 use layout::entries::put_entry;
 use layout::geometry::{Geometry, area_start};
-use layout::refusals::size_fault;
+use layout::refusals::{Refusal, check_size};
 use stores::copies::clear_at;
 
 // Puts B, k, P, H, M and the head 0 into the first six entries; the other bytes stay.
@@ -28,17 +29,14 @@ fn put_header(disk: &mut [u8], g: Geometry)
     put_entry(disk, 5, 0);
 }
 
-// Formats a disk for a geometry and answers 0; answers 1 or 2 and changes no byte where it refuses.
-pub fn format_drive(disk: &mut [u8], geometry: Geometry) -> u8
-    ensures answered { result ≡ format_refusal disk.old (geometry_of geometry) }
+// Formats a disk for a geometry; 1 or 2 and no byte changed where it refuses.
+pub fn format_drive(disk: &mut [u8], geometry: Geometry) -> Result<(), Refusal>
+    ensures answered { answer_number result ≡ format_refusal disk.old (geometry_of geometry) }
     ensures stored { disk.new ≡ formatted disk.old (geometry_of geometry) }
 {
-    let fault = size_fault(disk.len(), geometry);
-    if fault != 0 {
-        return fault;
-    }
+    check_size(disk.len(), geometry)?;
     let start = area_start(geometry);
     clear_at(disk, 0, (start.0 as usize) * (geometry.block_size as usize));
     put_header(disk, geometry);
-    0
+    Ok(())
 }

@@ -1,7 +1,6 @@
 pub mod Branches
 pub mod Steps
 pub mod Answers
-pub mod Trees
 pub mod Levels
 pub mod Nodes
 pub mod Walks

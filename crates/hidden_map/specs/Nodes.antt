@@ -1,37 +1,42 @@
 -- The nodes below the root that a walk reads, by level (document 02, K7): the address that a level's node is
 -- read at, and none for a level that is not reached. Assumes nothing.
-use Rattle.std.specs.Prelude.{◌≡◌, true, cond, List, [], ◌∷◌, ℕ, zero, suc, ◌-◌, eqb}
+use Rattle.std.specs.Prelude.{◌≡◌, true, cond, List, [], ◌∷◌, ℕ, zero, suc, ◌-◌, eqb, ltb, get_or}
+use Rattle.std.specs.Prelude.{Some, None}
+use Rattle.std.specs.Prelude as code
 use Rattle.std.proofs.Math.Option.{Option, none, some}
 use Rattle.model.specs.Geometry.{Geometry, root_address, block_width}
 use Rattle.model.specs.Blocks.{Bytes, DiskAddress, block_at, zero_block}
 use Rattle.model.specs.Layout.{is_well_formed}
 use Rattle.model.specs.HiddenTree.{End, found, unmapped, damaged}
-use Rattle.hidden_map.specs.declared.nodes.Node.{Node}
-use Rattle.hidden_map.specs.declared.nodes.Node.TheVariants.{Read, NotReached}
+use Rattle.layout.specs.declared.numbers.DiskAddress.{DiskAddress as Address}
 use Rattle.hidden_map.specs.declared.nodes.Nodes.{Nodes}
 use Rattle.hidden_map.specs.Ends.{step_of}
 
 -- ---- what is handed back ----
 
 -- where a node is read, none where it was not reached
-abbrev pub node_of : Node → Option DiskAddress
-node_of (Read address) = some address.0
-node_of NotReached = none
+abbrev pub node_of : code.Option Address → Option DiskAddress
+node_of (Some address) = some address.0
+node_of None = none
 
 -- the nodes of levels 1, 2 and 3, by level
-unfoldable pub by_level : (leaf middle upper : Option DiskAddress) → (level : ℕ) → Option DiskAddress
-by_level leaf middle upper level =
-    cond (eqb level 1) leaf (cond (eqb level 2) middle (cond (eqb level 3) upper none))
+unfoldable pub by_level : List (code.Option Address) → (level : ℕ) → Option DiskAddress
+by_level nodes zero = none
+by_level nodes (suc index) = cond (ltb index 3) (node_of (get_or nodes index None)) none
 
 -- where the node of a level is read
 abbrev pub address_at : Nodes → (level : ℕ) → Option DiskAddress
-address_at nodes level =
-    by_level (node_of nodes.leaf) (node_of nodes.middle) (node_of nodes.upper) level
+address_at nodes level = by_level nodes.by_level level
 
 -- addresses by level, with one more
 abbrev pub with_address :
     (at : ℕ → Option DiskAddress) → (level : ℕ) → DiskAddress → (wanted : ℕ) → Option DiskAddress
 with_address at level address wanted = cond (eqb wanted level) (some address) (at wanted)
+
+-- what is read, or what was there where nothing is
+abbrev pub read_over : (read before : Option DiskAddress) → Option DiskAddress
+read_over (some address) before = some address
+read_over none before = before
 
 -- ---- what a walk reads ----
 

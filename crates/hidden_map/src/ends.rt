@@ -10,20 +10,12 @@ use layout::numbers::DiskAddress;
 pub fn is_at(end: Reached, address: DiskAddress) -> bool
     ensures { result ≡ is_found_at address.0 (end_of end) }
 {
-    match end {
-        Reached::Found(reached) => reached.0 == address.0,
-        Reached::Unmapped => false,
-        Reached::Damaged => false,
-    }
+    end == Reached::Found(address)
 }
 
 // Whether a walk ended at an ill-formed entry.
 pub fn is_damaged(end: Reached) -> bool
     ensures { result ≡ is_damaged (end_of end) }
 {
-    match end {
-        Reached::Found(_) => false,
-        Reached::Unmapped => false,
-        Reached::Damaged => true,
-    }
+    end == Reached::Damaged
 }

@@ -5,19 +5,11 @@ ghost use Rattle.hidden_map.specs.Nodes.{node_of, address_at, with_address};
 
 use layout::numbers::DiskAddress;
 
-// A level's node: read at an address, or not reached.
-#[derive(Clone, Copy)]
-pub enum Node {
-    Read(DiskAddress),
-    NotReached,
-}
-
-// The nodes of levels 1, 2 and 3; those of levels from k on are never reached.
+// Where the nodes of levels 1, 2 and 3 were read, the leaf's first; none for a level that was not reached, as
+// those from k on never are.
 #[derive(Clone, Copy)]
 pub struct Nodes {
-    pub leaf: Node,
-    pub middle: Node,
-    pub upper: Node,
+    pub by_level: [Option<DiskAddress>; 3],
 }
 
 // No level's node is reached.
@@ -25,53 +17,24 @@ pub fn no_nodes() -> Nodes
     ensures { (level : ℕ) → address_at result level ≡ none }
 {
     Nodes {
-        leaf: Node::NotReached,
-        middle: Node::NotReached,
-        upper: Node::NotReached,
+        by_level: [None, None, None],
     }
 }
 
-// The node of a level.
-pub fn node_at(nodes: Nodes, level: u32) -> Node
+// Where the node of a level was read.
+pub fn node_at(nodes: Nodes, level: u32) -> Option<DiskAddress>
     requires { (1 ≤ level) × (level ≤ 3) }
     ensures { node_of result ≡ address_at nodes level }
 {
-    if level == 1 {
-        return nodes.leaf;
-    }
-    if level == 2 {
-        return nodes.middle;
-    }
-    nodes.upper
+    let index = level as usize - 1;
+    nodes.by_level[index]
 }
 
-// The nodes with that of a level read at an address.
-pub fn with_node(nodes: Nodes, level: u32, address: DiskAddress) -> Nodes
+// The node of a level is set, as read at an address.
+pub fn set_node(nodes: &mut Nodes, level: u32, address: DiskAddress)
     requires { (1 ≤ level) × (level ≤ 3) }
     ensures { (wanted : ℕ) →
-        address_at result wanted ≡ with_address (address_at nodes) level address.0 wanted }
+        address_at nodes.new wanted ≡ with_address (address_at nodes.old) level address.0 wanted }
 {
-    let node = Node::Read(address);
-    let leaf = nodes.leaf;
-    let middle = nodes.middle;
-    let upper = nodes.upper;
-    if level == 1 {
-        return Nodes {
-            leaf: node,
-            middle,
-            upper,
-        };
-    }
-    if level == 2 {
-        return Nodes {
-            leaf,
-            middle: node,
-            upper,
-        };
-    }
-    Nodes {
-        leaf,
-        middle,
-        upper: node,
-    }
+    nodes.by_level[level as usize - 1] = Some(address);
 }

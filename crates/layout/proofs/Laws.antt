@@ -3,4 +3,5 @@ pub mod Geometry
 pub mod Slots
 pub mod Bitmap
 pub mod PublicMap
+pub mod Refusals
 pub mod Opened

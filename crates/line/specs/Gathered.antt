@@ -1,6 +1,10 @@
--- How many offers of a line count that is said to have so many. Assumes nothing.
-use Rattle.std.specs.Prelude.{ℕ, min}
-use Rattle.model.specs.Line.{most_offers}
+-- The offers that two runs of numbers say. Assumes nothing.
+use Rattle.std.specs.Prelude.{List, [], ◌∷◌, ℕ}
+use Rattle.model.specs.Line.{Offer}
 
-abbrev pub most_waiting : (waiting : ℕ) → ℕ
-most_waiting waiting = min waiting most_offers
+-- offers by their numbers and their places
+unfoldable pub offers_by : (numbers places : List ℕ) → List Offer
+offers_by [] places = []
+offers_by (number ∷ numbers) [] = []
+offers_by (number ∷ numbers) (place ∷ places) =
+    record { number = number; place = place } ∷ offers_by numbers places

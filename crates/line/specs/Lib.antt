@@ -1,6 +1,5 @@
 pub mod Offers
 pub mod Numbers
 pub mod Turns
-pub mod Changes
 pub mod Waiting
 pub mod Gathered

@@ -1,12 +1,12 @@
 // An offer, and a line of at most 16.
 ghost use Rattle.std.specs.Prelude.{◌≡◌, length};
-ghost use Rattle.line.specs.Offers.{no_line, pushed, offer_in, line_of};
+ghost use Rattle.line.specs.Offers.{no_line, pushed, offer_in, offers_of, line_of};
 
 use layout::numbers::HiddenNumber;
 
 // A hidden number and the place of its block among the lent blocks, counted in blocks.
 #[repr(C)]
-#[derive(Clone, Copy)]
+#[derive(Clone, Copy, PartialEq, Eq)]
 pub struct Offer {
     pub number: HiddenNumber,
     pub place: u32,
@@ -34,17 +34,12 @@ pub fn no_line() -> Line
 }
 
 // A line with one offer more at its end; a full line as it is.
-pub fn push_offer(line: Line, offer: Offer) -> Line
+pub fn push_offer(mut line: Line, offer: Offer) -> Line
     ensures { result ≡ pushed line offer }
 {
-    let waiting = line.waiting;
-    let mut offers = line.offers;
-    if waiting < 16 {
-        offers[waiting] = offer;
-        return Line {
-            offers,
-            waiting: waiting + 1,
-        };
+    if line.waiting < 16 {
+        line.offers[line.waiting] = offer;
+        line.waiting += 1;
     }
     line
 }
@@ -53,23 +48,23 @@ pub fn push_offer(line: Line, offer: Offer) -> Line
 pub fn offer_of(line: Line, index: usize) -> Offer
     ensures { result ≡ offer_in line index }
 {
-    let offers = line.offers;
-    if index < 16 {
-        return offers[index];
-    }
-    Offer {
+    let none = Offer {
         number: HiddenNumber(0),
         place: 0,
-    }
+    };
+    line.offers.get(index).copied().unwrap_or(none)
 }
 
 // How many offers of a line wait, at most 16.
 pub fn held(line: Line) -> usize
     ensures { result ≡ length (line_of line) }
 {
-    let waiting = line.waiting;
-    if waiting < 16 {
-        return waiting;
-    }
-    16
+    line.waiting.min(16)
+}
+
+// The offers of a line that wait.
+pub fn waiting_offers<'a>(line: &'a Line) -> &'a [Offer]
+    ensures { offers_of result.now ≡ line_of line.now }
+{
+    &line.offers[..line.waiting.min(16)]
 }

@@ -1,6 +1,6 @@
 -- Where a hidden number's block is, where offers wait: at a place among the lent blocks, or as a read of the
 -- drive finds it. Then what a read shows of it. Assumes nothing.
-use Rattle.std.specs.Prelude.{◌≡◌, cond, List, ℕ, ◌+◌, ◌*◌, ◌≤◌, eqb, length}
+use Rattle.std.specs.Prelude.{◌≡◌, cond, List, ℕ, ◌+◌, ◌*◌, ◌≤◌, eqb, length, Result, Ok, Err}
 use Rattle.std.proofs.Math.Option.{Option, none, some}
 use Rattle.model.specs.Geometry.{block_width}
 use Rattle.model.specs.Blocks.{Bytes, block_at}
@@ -8,19 +8,24 @@ use Rattle.model.specs.Layout.{geometry_in}
 use Rattle.model.specs.Refusals.{drive_refusal}
 use Rattle.model.specs.Line.{Offer}
 use Rattle.model.specs.Calls.{line_read_refusal}
+use Rattle.layout.specs.declared.refusals.Refusal.{Refusal}
+use Rattle.layout.specs.Refusals.{refusal_number}
 use Rattle.line.specs.Waiting.{counting_offer}
-use Rattle.reads.specs.Finds.{Find, refused_find, find_of, hidden_find, refusal_of, shown_find, BlockInside}
+use Rattle.reads.specs.Finds.{Find, refused_find, blank_find, block_find, hidden_find, refusal_of, shown_find}
+use Rattle.reads.specs.Finds.{BlockInside}
 use Rattle.line_calls.specs.declared.finds.LineFind as declared
-use Rattle.line_calls.specs.declared.finds.LineFind.TheVariants.{Drive, Lent}
+use Rattle.line_calls.specs.declared.finds.LineFind.TheVariants.{Blank, Drive, Lent}
 
 pub data LineFind : Type 0 where
   drive_find : (find : Find) → LineFind
   lent_find : (place : ℕ) → LineFind
 
--- what a declared find says
-abbrev pub line_find_of : declared.LineFind → LineFind
-line_find_of (Drive find) = drive_find (find_of find)
-line_find_of (Lent place) = lent_find place
+-- what the answer of a find says
+abbrev pub line_find_of : Result declared.LineFind Refusal → LineFind
+line_find_of (Err refusal) = drive_find (refused_find (refusal_number refusal))
+line_find_of (Ok Blank) = drive_find blank_find
+line_find_of (Ok (Drive address)) = drive_find (block_find address.0)
+line_find_of (Ok (Lent place)) = lent_find place
 
 -- the place of the offer that counts, or else what is found on the drive
 abbrev pub offer_find : (counting : Option Offer) → (otherwise : Find) → LineFind

@@ -2,17 +2,18 @@
 ghost use Rattle.std.specs.Prelude.{◌≡◌, ◌-◌, length};
 ghost use Rattle.model.specs.Promises.LineFigures.{three_blocks};
 ghost use Rattle.line.specs.Offers.{line_of};
-ghost use Rattle.mapper.specs.Writes.{LineAnswered};
+ghost use Rattle.mapper.specs.Writes.{LineAnswered, told_by_line_write};
 ghost use Rattle.line_cases.specs.Cases.{case_drive, written_with, case_on, case_after, case_from};
 ghost use Rattle.line_cases.specs.Cases.{CaseLeft};
 
 use crate::blocks::three_blocks;
 use crate::offers::{line_by, print_line};
-use figure_lines::lines::{number_at, print_named, print_text, put_on};
+use figure_lines::lines::{print_named, put_on};
 use figure_lines::lists::print_entries;
-use figure_lines::output::Output;
+use figure_lines::output::{Output, put_bytes};
 use layout::geometry::Geometry;
 use layout::numbers::PublicNumber;
+use layout::refusals::Refusal;
 use line::offers::{Line, no_line};
 use mapper::{LineWritten, format_drive, write_line};
 
@@ -36,7 +37,7 @@ pub struct Start {
 fn make_drive(disk: &mut [u8], start: Start)
     ensures { disk.new ≡ case_drive start disk.old }
 {
-    format_drive(
+    let _ = format_drive(
         disk,
         Geometry {
             block_size: 32,
@@ -52,7 +53,12 @@ fn make_drive(disk: &mut [u8], start: Start)
 // ---- writes ----
 
 // Writes bytes 7 with a line of the three blocks; the random bytes are 165.
-pub fn write_with(disk: &mut [u8], number: u32, line: Line, list: &mut [u32]) -> LineWritten
+pub fn write_with(
+    disk: &mut [u8],
+    number: u32,
+    line: Line,
+    list: &mut [u32],
+) -> Result<LineWritten, Refusal>
     ensures { LineAnswered
         (written_with disk.old number (line_of line) (length list.old))
         disk.old list.old three_blocks line disk.new list.new result }
@@ -69,6 +75,16 @@ pub fn write_with(disk: &mut [u8], number: u32, line: Line, list: &mut [u32]) ->
     )
 }
 
+// What a write leaves of a line: all of it, where the write is refused.
+pub fn left_after(line: Line, made: Result<LineWritten, Refusal>) -> Line
+    ensures { result ≡ (told_by_line_write line made).line }
+{
+    match made {
+        Ok(made) => made.line,
+        Err(_) => line,
+    }
+}
+
 // Makes the writes from one to another of those that go to numbers 0, 1 and so on up to the last and then to
 // the last, each with what the one before left of the line; answers what the last one left.
 fn carry(disk: &mut [u8], from: u32, to: u32, last: u32, line: Line) -> Line
@@ -76,11 +92,9 @@ fn carry(disk: &mut [u8], from: u32, to: u32, last: u32, line: Line) -> Line
         (case_after from (to - from) last (case_on disk.old (line_of line))) disk.new result }
 {
     let mut left = line;
-    let mut i = from;
-    while i < to {
-        let made = write_with(disk, number_at(i, last), left, &mut [99u32; 23]);
-        left = made.line;
-        i += 1;
+    for i in from..to {
+        let made = write_with(disk, i.min(last), left, &mut [99u32; 23]);
+        left = left_after(left, made);
     }
     left
 }
@@ -99,8 +113,8 @@ pub fn print_start(output: &mut Output, fill: u8, bytes: usize, start: Start) {
         start.writes,
     ];
     print_named(output, b"", bytes as u64);
-    print_named(output, b" bytes of ", fill as u64);
-    print_text(output, b", P, H, M, root entry, plain writes, all writes:");
+    print_named(output, b" bytes of ", u64::from(fill));
+    put_bytes(output, b", P, H, M, root entry, plain writes, all writes:");
     print_entries(output, &said, 6);
     print_line(output, b", line ", line_by(start.line));
 }

@@ -1,12 +1,12 @@
 // The line of waiting offers of a row: made of a number, printed, and held to another one.
 ghost use Rattle.std.specs.Prelude.{◌≡◌};
-ghost use Rattle.line.specs.Offers.{offer_of, line_of};
-ghost use Rattle.line_cases.specs.Offers.{offer_said, line_said, same_offer, same_line};
+ghost use Rattle.line.specs.Offers.{line_of};
+ghost use Rattle.line_cases.specs.Offers.{offer_said, line_said, same_line};
 
-use figure_lines::lines::{print_named, print_text};
-use figure_lines::output::Output;
+use figure_lines::lines::print_named;
+use figure_lines::output::{Output, put_bytes};
 use layout::numbers::HiddenNumber;
-use line::offers::{Line, Offer, held, no_line, offer_of, push_offer};
+use line::offers::{Line, Offer, held, no_line, offer_of, push_offer, waiting_offers};
 
 // The offer at an index of a line that is said in hex digits: number and place of the first four, and past
 // them number i at place 0.
@@ -30,38 +30,26 @@ fn offer_said(said: u64, i: u32) -> Offer
 pub fn line_by(said: u64) -> Line
     ensures { result ≡ line_said said }
 {
-    let most = said >> 32;
     let mut line = no_line();
-    let mut i: u32 = 0;
-    while (i as u64) < most {
+    for i in 0..(said >> 32) as u32 {
         line = push_offer(line, offer_said(said, i));
-        i += 1;
     }
     line
 }
 
 // Prints an offer as its number and its place.
 pub fn print_offer(output: &mut Output, offer: Offer) {
-    print_named(output, b" (", offer.number.0 as u64);
-    print_named(output, b",", offer.place as u64);
-    print_text(output, b")");
+    print_named(output, b" (", u64::from(offer.number.0));
+    print_named(output, b",", u64::from(offer.place));
+    put_bytes(output, b")");
 }
 
 // Prints how many offers wait after a text, and each with its place.
 pub fn print_line(output: &mut Output, text: &[u8], line: Line) {
-    let most = held(line);
-    print_named(output, text, most as u64);
-    let mut i = 0;
-    while i < most {
-        print_offer(output, offer_of(line, i));
-        i += 1;
+    print_named(output, text, held(line) as u64);
+    for offer in waiting_offers(&line) {
+        print_offer(output, *offer);
     }
-}
-
-fn is_offer(said: Offer, got: Offer) -> bool
-    ensures { result ≡ same_offer (offer_of said) (offer_of got) }
-{
-    (said.number.0 == got.number.0) & (said.place == got.place)
 }
 
 // Whether the same offers wait, in the same turn.
@@ -73,10 +61,8 @@ fn is_line(said: Line, got: Line) -> bool
         return false;
     }
     let mut same = true;
-    let mut i = 0;
-    while i < most {
-        same = same & is_offer(offer_of(said, i), offer_of(got, i));
-        i += 1;
+    for i in 0..most {
+        same &= offer_of(said, i) == offer_of(got, i);
     }
     same
 }
@@ -88,7 +74,7 @@ pub fn print_lines(output: &mut Output, text: &[u8], said: Line, got: Line) -> b
 {
     print_line(output, text, said);
     print_line(output, b" got ", got);
-    print_text(output, b"\n");
+    put_bytes(output, b"\n");
     is_line(said, got)
 }
 

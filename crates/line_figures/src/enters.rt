@@ -1,10 +1,10 @@
 // Rows of a line that an offer enters.
-ghost use Rattle.std.specs.Prelude.{◌≡◌};
-ghost use Rattle.figure_lines.specs.Counts.{agreeing};
 ghost use Rattle.line_figures.specs.Enters.{enter_agrees, EnteredOn};
 
-use figure_lines::lines::{at_most, print_answer, print_named, print_text, tally};
-use figure_lines::output::Output;
+use answers_c::enters::entered_as;
+use figure_lines::lines::{print_count, print_named};
+use figure_lines::output::{Output, put_bytes};
+use figure_lines::rows::Row;
 use layout::numbers::HiddenNumber;
 use line::offers::Offer;
 use line_cases::blocks::three_blocks;
@@ -26,12 +26,12 @@ pub struct EnterRow(
     pub u32,
     pub u32,
     pub usize,
-    pub u8,
+    pub u32,
     pub u64,
 );
 
 fn print_enter(output: &mut Output, offer: Offer, room: usize) {
-    print_text(output, b": enter");
+    put_bytes(output, b": enter");
     print_offer(output, offer);
     print_named(output, b" of room ", room as u64);
 }
@@ -59,30 +59,19 @@ fn enter_on(output: &mut Output, disk: &mut [u8], row: EnterRow) -> bool
     let line = prepare(disk, start);
     let blocks = three_blocks();
     let entered = enter_line(disk, offer, &blocks, line, row.9);
-    let left = entered.line;
-    let answered = print_answer(output, row.10, entered.answer);
+    let left = entered.unwrap_or(line);
+    let told = entered_as(line, entered);
+    let answered = print_count(output, b"", row.10, told.answer);
     let kept = print_left(output, line_by(row.11), left);
     answered & kept
 }
 
-// Prints a row; answers whether it agrees.
-fn run_enter(output: &mut Output, row: EnterRow) -> bool
-    ensures { result ≡ enter_agrees row }
-{
-    let mut disk = [row.0; 1952];
-    let count = at_most(row.1, 1952);
-    enter_on(output, &mut disk[..count], row)
-}
+impl Row for EnterRow {
+    ghost agrees = { enter_agrees };
 
-// Prints every row; answers how many agree.
-pub fn run_enters(output: &mut Output, rows: [EnterRow; 8]) -> u32
-    ensures { result ≡ agreeing enter_agrees rows }
-{
-    let mut agreed: u32 = 0;
-    let mut i = 0;
-    while i < 8 {
-        agreed = tally(agreed, run_enter(output, rows[i]));
-        i += 1;
+    fn run(self, output: &mut Output) -> bool {
+        let mut disk = [self.0; 1952];
+        let count = self.1.min(1952);
+        enter_on(output, &mut disk[..count], self)
     }
-    agreed
 }

@@ -1,8 +1,9 @@
 // What document 02 says of a line of waiting offers (K3). The lent blocks are three, of bytes 9, 10 and 11,
 // the blank is of bytes 5.
-use crate::enters::{EnterRow, run_enters};
-use crate::writes::{WriteRow, run_writes};
+use crate::enters::EnterRow;
+use crate::writes::WriteRow;
 use figure_lines::output::Output;
+use figure_lines::rows::run_rows;
 
 // ---- lines ----
 
@@ -146,10 +147,10 @@ const WRITES: [WriteRow; 12] = [
 
 // Answers how many rows of offers that enter agree.
 pub fn enter_rows(output: &mut Output) -> u32 {
-    run_enters(output, ENTERS)
+    run_rows(output, &ENTERS)
 }
 
 // Answers how many rows of writes with a line agree.
 pub fn line_write_rows(output: &mut Output) -> u32 {
-    run_writes(output, WRITES)
+    run_rows(output, &WRITES)
 }

@@ -1,25 +1,23 @@
 // Rows of a write with a line, and of reads through the line before and after it.
 ghost use Rattle.std.specs.Prelude.{◌≡◌, get_or};
-ghost use Rattle.model.specs.Calls.{line_read, outcome_number};
+ghost use Rattle.model.specs.Calls.{line_read};
 ghost use Rattle.line.specs.Offers.{line_of};
-ghost use Rattle.mapper.specs.Writes.{outcome_of};
-ghost use Rattle.figure_lines.specs.Counts.{agreeing};
 ghost use Rattle.line_figures.specs.Writes.{line_read_agrees, reads_agree, made_agrees, stored_agrees};
 ghost use Rattle.line_figures.specs.Writes.{kept_agrees, WrittenOn, line_agrees};
 
-use figure_lines::lines::{
-    at_most, byte_or, entry_or, number_at, print_answer, print_count, print_named, print_text,
-    tally,
-};
+use answers_c::line_writes::{LineWritten, line_written_as};
+use figure_lines::lines::{byte_or, entry_or, print_count, print_named};
 use figure_lines::lists::print_list;
 use figure_lines::output::Output;
+use figure_lines::rows::Row;
 use layout::numbers::HiddenNumber;
+use layout::refusals::answer_number;
 use line::offers::Line;
 use line_cases::blocks::three_blocks;
-use line_cases::cases::{Start, prepare, print_start, write_with};
+use line_cases::cases::{Start, left_after, prepare, print_start, write_with};
 use line_cases::lents::print_lent;
 use line_cases::offers::{line_by, print_left};
-use mapper::{LineWritten, hidden_fault_line, hidden_read_line, outcome_number};
+use mapper::{check_hidden_line, hidden_read_line};
 
 // The byte that the disk is filled with, its bytes, P, H, M and the root's first entry; how many writes go
 // before with an empty line, how many in all, and the last number that they go to; the line. The answer, the
@@ -39,10 +37,10 @@ pub struct WriteRow(
     pub u32,
     pub u32,
     pub u64,
-    pub u8,
     pub u32,
     pub u32,
-    pub u8,
+    pub u32,
+    pub u32,
     pub u32,
     pub u64,
     pub u32,
@@ -80,10 +78,10 @@ fn print_read(
 {
     let blank = [5u8; 32];
     let blocks = three_blocks();
-    let fault = hidden_fault_line(disk, HiddenNumber(number), &blank, &blocks, line);
+    let fault = answer_number(check_hidden_line(disk, HiddenNumber(number), &blank, &blocks, line));
     let got = read_shown(disk, line, number, &blank, &blocks);
-    print_named(output, b"  read ", number as u64);
-    let answered = print_count(output, b"", answer, fault as u32);
+    print_named(output, b"  read ", u64::from(number));
+    let answered = print_count(output, b"", answer, u32::from(fault));
     let seen = print_count(output, b"  shows", shown, got);
     answered & seen
 }
@@ -101,16 +99,13 @@ fn print_reads(output: &mut Output, disk: &[u8], line: Line, row: WriteRow) -> b
 
 // Prints five figures of a write; answers whether they agree.
 fn print_made(output: &mut Output, row: WriteRow, number: u32, made: LineWritten) -> bool
-    ensures { result ≡ made_agrees row made.answer made.rounds made.stores
-        (outcome_number (outcome_of made.outcome)) made.placed }
+    ensures { result ≡ made_agrees row made.answer made.rounds made.stores made.outcome made.placed }
 {
-    let outcome = made.outcome;
-    print_named(output, b"  write ", number as u64);
-    let answered = print_answer(output, row.10, made.answer);
+    print_named(output, b"  write ", u64::from(number));
+    let answered = print_count(output, b"", row.10, made.answer);
     let ran = print_count(output, b"  rounds", row.11, made.rounds);
     let stored = print_count(output, b"  stores", row.12, made.stores);
-    print_text(output, b"  outcome");
-    let told = print_answer(output, row.13, outcome_number(outcome));
+    let told = print_count(output, b"  outcome", row.13, made.outcome);
     let placed = print_count(output, b"  placed", row.14, made.placed);
     answered & ran & stored & told & placed
 }
@@ -150,40 +145,26 @@ fn write_on(output: &mut Output, disk: &mut [u8], row: WriteRow) -> bool
         last: row.8,
         line: row.9,
     };
-    let number = number_at(row.7, row.8);
+    let number = row.7.min(row.8);
     print_start(output, row.0, row.1, start);
     let line = prepare(disk, start);
     let seen = print_reads(output, disk, line, row);
     let mut list = [99u32; 23];
     let made = write_with(disk, number, line, &mut list);
-    let left = made.line;
-    let told = print_made(output, row, number, made);
+    let left = left_after(line, made);
+    let told = print_made(output, row, number, line_written_as(line, made));
     let stored = print_stored(output, disk, &list, row);
     let kept = print_kept(output, row, line, left);
     let shown = print_reads(output, disk, left, row);
     seen & told & stored & kept & shown
 }
 
-// ---- rows ----
+impl Row for WriteRow {
+    ghost agrees = { line_agrees };
 
-// Prints a row; answers whether it agrees.
-fn run_write(output: &mut Output, row: WriteRow) -> bool
-    ensures { result ≡ line_agrees row }
-{
-    let mut disk = [row.0; 1952];
-    let count = at_most(row.1, 1952);
-    write_on(output, &mut disk[..count], row)
-}
-
-// Prints every row; answers how many agree.
-pub fn run_writes(output: &mut Output, rows: [WriteRow; 12]) -> u32
-    ensures { result ≡ agreeing line_agrees rows }
-{
-    let mut agreed: u32 = 0;
-    let mut i = 0;
-    while i < 12 {
-        agreed = tally(agreed, run_write(output, rows[i]));
-        i += 1;
+    fn run(self, output: &mut Output) -> bool {
+        let mut disk = [self.0; 1952];
+        let count = self.1.min(1952);
+        write_on(output, &mut disk[..count], self)
     }
-    agreed
 }

@@ -1,11 +1,12 @@
 -- The write of one line of the listing's input, and its line of output (document 01, "Figures to hold
 -- against"). Assumes nothing.
-use Rattle.std.specs.Prelude.{◌≡◌, Bool, true, false, ℕ, ◌%◌, replicate}
+use Rattle.std.specs.Prelude.{◌≡◌, List, ℕ, ◌%◌, replicate, take}
 use Rattle.std.proofs.Math.Option.{Option, none, some}
 use Rattle.model.specs.Blocks.{Bytes}
 use Rattle.model.specs.Layout.{head_in}
 use Rattle.model.specs.Stores.{addresses}
 use Rattle.model.specs.Calls.{Offered, nothing, one, Written, written, written_disk, outcome_number}
+use Rattle.mapper.specs.Writes.{WriteTold}
 use Rattle.script.specs.Texts.{Put}
 use Rattle.script.specs.Reports.{report_line}
 
@@ -23,10 +24,14 @@ random_bytes = replicate 256 165
 abbrev pub list_room : ℕ
 list_room = 23
 
+-- the hidden write of these bytes, where a number is offered
+abbrev pub offered_with : (content : Bytes) → (offer : Option ℕ) → Offered
+offered_with content none = nothing
+offered_with content (some number) = one (record { number = number; content = content })
+
 -- the hidden write that a line offers, if any
 abbrev pub offered_write : (line : ℕ) → (offer : Option ℕ) → Offered
-offered_write line none = nothing
-offered_write line (some number) = one (record { number = number; content = line_data line })
+offered_write line offer = offered_with (line_data line) offer
 
 -- ---- what it does and prints ----
 
@@ -52,10 +57,10 @@ line_text disk line number offer =
 
 -- ---- what the code says ----
 
--- an offered number, or none
-abbrev pub offer_from : (is_offered : Bool) → (number : ℕ) → Option ℕ
-offer_from true number = some number
-offer_from false number = none
+-- the line of output of what a write told, of its stores at the front of a list
+abbrev pub told_text : (line : ℕ) → WriteTold → (head : ℕ) → (list : List ℕ) → Bytes
+told_text line told head list =
+    report_line line told.answer told.rounds (outcome_number told.outcome) head (take told.stores list)
 
 -- the disk is written and the line of output stands at the front of the buffer
 pub record Reported (line number : ℕ) (offer : Option ℕ) (disk disk_after out outAfter : Bytes)

@@ -57,14 +57,8 @@ fn list_byte(
         buffer.new disk.new out.old out.new result }
 {
     let next = step_byte(progress, byte, buffer, disk, out);
-    let feed = next.feed;
     let put = print_front(streams, out, next.put);
-    Progress {
-        feed,
-        is_open: next.is_open,
-        line: next.line,
-        put,
-    }
+    Progress { put, ..next }
 }
 
 // Takes the end of the input and prints what comes of it, as a byte's.
@@ -83,14 +77,8 @@ fn list_end(
         buffer.now disk.new out.old out.new result }
 {
     let last = step_end(progress, buffer, disk, out);
-    let feed = last.feed;
     let put = print_front(streams, out, last.put);
-    Progress {
-        feed,
-        is_open: last.is_open,
-        line: last.line,
-        put,
-    }
+    Progress { put, ..last }
 }
 
 // Takes a piece of the input, byte by byte.
@@ -109,10 +97,8 @@ fn list_bytes(
     ensures line_bound { result.line ≤ progress.line + length piece.now }
 {
     let mut current = progress;
-    let mut i = 0;
-    while i < piece.len() {
-        current = list_byte(streams, current, piece[i], buffer, disk, out);
-        i += 1;
+    for byte in piece {
+        current = list_byte(streams, current, *byte, buffer, disk, out);
     }
     current
 }
@@ -159,13 +145,11 @@ fn list_input(
         (listing_of result buffer.new disk.new) }
 {
     let mut current = progress;
-    let mut turns = TURNS;
-    while turns > 0 {
+    for _ in 0..TURNS {
         if !current.is_open {
             return current;
         }
         current = list_piece(streams, current, piece, buffer, disk, out);
-        turns -= 1;
     }
     current
 }

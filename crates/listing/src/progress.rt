@@ -11,7 +11,6 @@ ghost use Rattle.listing.specs.Listings.{WentOn};
 
 use crate::writes::report_line;
 use layout::geometry::Geometry;
-use layout::numbers::HiddenNumber;
 use mapper::format_drive;
 use script::feeding::{Feed, feed_byte, feed_end, read_held};
 use script::lines::Line;
@@ -37,7 +36,7 @@ pub fn begin(disk: &mut [u8]) -> Progress
         hidden: 2,
         slots: 4,
     };
-    format_drive(disk, small);
+    let _ = format_drive(disk, small);
     Progress {
         feed: Feed::NoLine,
         is_open: true,
@@ -48,7 +47,7 @@ pub fn begin(disk: &mut [u8]) -> Progress
 
 // Takes a line that has ended: a good one is written and its line of output put, another one ends the
 // listing.
-fn take_line(feed: Feed, line: u64, said: Line, disk: &mut [u8], out: &mut [u8]) -> Progress
+fn take_line(feed: Feed, line: u64, said: Option<Line>, disk: &mut [u8], out: &mut [u8]) -> Progress
     requires line_bound { line + 1 < 2 ^ 64 }
     requires in_bounds { 24 ≤ length disk.old }
     requires list_room_in_bounds { report_room list_room ≤ length out.old }
@@ -58,8 +57,8 @@ fn take_line(feed: Feed, line: u64, said: Line, disk: &mut [u8], out: &mut [u8])
         buffer disk.new out.old out.new result }
 {
     match said {
-        Line::Bare(number) => {
-            let put = report_line(disk, line, number, false, HiddenNumber(0), out);
+        Some(good) => {
+            let put = report_line(disk, line, good.number, good.offer, out);
             Progress {
                 feed,
                 is_open: true,
@@ -67,16 +66,7 @@ fn take_line(feed: Feed, line: u64, said: Line, disk: &mut [u8], out: &mut [u8])
                 put,
             }
         }
-        Line::Offering(number, offer) => {
-            let put = report_line(disk, line, number, true, offer, out);
-            Progress {
-                feed,
-                is_open: true,
-                line: line + 1,
-                put,
-            }
-        }
-        Line::Bad => Progress {
+        None => Progress {
             feed,
             is_open: false,
             line,
@@ -95,13 +85,7 @@ fn move_to(feed: Feed, line: u64, buffer: &[u8], disk: &mut [u8], out: &mut [u8]
         buffer.now disk.new out.old out.new result }
 {
     match feed {
-        Feed::NoLine => Progress {
-            feed,
-            is_open: true,
-            line,
-            put: 0,
-        },
-        Feed::Inside(_) => Progress {
+        Feed::NoLine | Feed::Inside(_) => Progress {
             feed,
             is_open: true,
             line,
@@ -119,13 +103,7 @@ fn stay(progress: Progress) -> Progress
     ensures same { (buffer disk : Bytes) → listing_of result buffer disk ≡ listing_of progress buffer disk }
     ensures nothing { result.put ≡ 0 }
 {
-    let feed = progress.feed;
-    Progress {
-        feed,
-        is_open: progress.is_open,
-        line: progress.line,
-        put: 0,
-    }
+    Progress { put: 0, ..progress }
 }
 
 // One more byte of input.
@@ -146,8 +124,7 @@ pub fn step_byte(
     if !progress.is_open {
         return stay(progress);
     }
-    let feed = progress.feed;
-    let next = feed_byte(feed, buffer, byte);
+    let next = feed_byte(progress.feed, buffer, byte);
     move_to(next, progress.line, buffer, disk, out)
 }
 
@@ -163,14 +140,10 @@ pub fn step_end(progress: Progress, buffer: &[u8], disk: &mut [u8], out: &mut [u
     if !progress.is_open {
         return stay(progress);
     }
-    let feed = progress.feed;
-    let next = feed_end(feed, buffer);
+    let next = feed_end(progress.feed, buffer);
     let last = move_to(next, progress.line, buffer, disk, out);
-    let ended = last.feed;
     Progress {
-        feed: ended,
         is_open: false,
-        line: last.line,
-        put: last.put,
+        ..last
     }
 }

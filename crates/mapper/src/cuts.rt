@@ -3,17 +3,18 @@
 ghost use Rattle.std.specs.Prelude.{length};
 ghost use Rattle.model.specs.Calls.{in_line, written};
 ghost use Rattle.line.specs.Offers.{line_of};
-ghost use Rattle.mapper.specs.Writes.{call_offer};
+ghost use Rattle.mapper.specs.Writes.{brought_by};
 ghost use Rattle.mapper.specs.Cuts.{CutAnswered, LineCutAnswered};
 
+use crate::offers::HiddenOffer;
 use crate::within::{line_within, write_within};
-use layout::numbers::{HiddenNumber, PublicNumber};
+use layout::numbers::PublicNumber;
+use layout::refusals::Refusal;
 use line::offers::Line;
 
-// 0 or the refusal, the stores that were made, and whether some were left out.
+// The stores that were made of a write that is not refused, and whether some were left out.
 #[derive(Clone, Copy)]
 pub struct CutWritten {
-    pub answer: u8,
     pub stores: u32,
     pub is_cut: bool,
 }
@@ -21,9 +22,7 @@ pub struct CutWritten {
 // Likewise, and the line without the numbers that were placed; as it was lent where the write is cut.
 #[derive(Clone, Copy)]
 pub struct LineCutWritten {
-    pub answer: u8,
-    pub stores: u32,
-    pub is_cut: bool,
+    pub cut: CutWritten,
     pub line: Line,
 }
 
@@ -32,34 +31,21 @@ pub fn write_cut(
     disk: &mut [u8],
     number: PublicNumber,
     content: &[u8],
-    offered: bool,
-    hidden_number: HiddenNumber,
-    hidden: &[u8],
+    offer: Option<HiddenOffer>,
     random: &[u8],
     list: &mut [u32],
     bound: usize,
-) -> CutWritten
+) -> Result<CutWritten, Refusal>
     ensures { CutAnswered (written disk.old number.0 content.now
         random.now (length list.old)
-        (call_offer offered hidden_number.0 hidden.now)) bound disk.old
+        (brought_by offer.entry)) bound disk.old
         list.old disk.new list.new result }
 {
-    let done = write_within(
-        disk,
-        number,
-        content,
-        offered,
-        hidden_number,
-        hidden,
-        random,
-        list,
-        bound,
-    );
-    CutWritten {
-        answer: done.answer,
-        stores: done.stores,
+    let done = write_within(disk, number, content, offer, random, list, bound)?;
+    Ok(CutWritten {
+        stores: done.written.stores,
         is_cut: done.is_cut,
-    }
+    })
 }
 
 // The first so many stores of a write with a line.
@@ -72,18 +58,18 @@ pub fn write_line_cut(
     random: &[u8],
     list: &mut [u32],
     bound: usize,
-) -> LineCutWritten
+) -> Result<LineCutWritten, Refusal>
     ensures { LineCutAnswered (written disk.old number.0 content.now
         random.now (length list.old) (in_line blocks.now (line_of line)))
         bound disk.old list.old blocks.now line disk.new
         list.new result }
 {
-    let done = line_within(disk, number, content, line, blocks, random, list, bound);
-    let left = done.line;
-    LineCutWritten {
-        answer: done.answer,
-        stores: done.stores,
-        is_cut: done.is_cut,
-        line: left,
-    }
+    let done = line_within(disk, number, content, line, blocks, random, list, bound)?;
+    Ok(LineCutWritten {
+        cut: CutWritten {
+            stores: done.written.written.stores,
+            is_cut: done.is_cut,
+        },
+        line: done.written.line,
+    })
 }

@@ -13,13 +13,15 @@ mod write; // the whole write
 
 pub use cuts::{CutWritten, LineCutWritten, write_cut, write_line_cut};
 pub use formatting::format_drive;
-pub use line_calls::enters::{Entered, enter_line};
-pub use line_calls::hidden::{hidden_fault_line, hidden_read_line};
+pub use layout::refusals::{Refusal, answer_number, refusal_number};
+pub use line_calls::enters::enter_line;
+pub use line_calls::hidden::{check_hidden_line, hidden_read_line};
+pub use offers::HiddenOffer;
 pub use questions::drives::{Identified, Size, drive_size, identify};
-pub use questions::needs::{Needs, write_fault, write_needs};
-pub use questions::waits::{Waited, wait_rounds};
-pub use reads::hidden::{hidden_fault, hidden_read};
-pub use reads::public::{public_fault, public_read};
+pub use questions::needs::{Needs, check_write, write_needs};
+pub use questions::waits::wait_rounds;
+pub use reads::hidden::{check_hidden, hidden_read};
+pub use reads::public::{check_public, public_read};
 pub use recovery::recover;
 pub use tree_check::check_tree;
 pub use write::{LineWritten, Outcome, Written, outcome_number, write_block, write_line};

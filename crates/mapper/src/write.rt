@@ -4,10 +4,12 @@
 ghost use Rattle.std.specs.Prelude.{◌≡◌, length};
 ghost use Rattle.model.specs.Calls.{in_line, outcome_number, written};
 ghost use Rattle.line.specs.Offers.{line_of};
-ghost use Rattle.mapper.specs.Writes.{outcome_of, call_offer, WriteAnswered, LineAnswered};
+ghost use Rattle.mapper.specs.Writes.{outcome_of, brought_by, WriteAnswered, LineAnswered};
 
+use crate::offers::HiddenOffer;
 use crate::within::{line_within, write_within};
-use layout::numbers::{HiddenNumber, PublicNumber};
+use layout::numbers::PublicNumber;
+use layout::refusals::Refusal;
 use line::offers::Line;
 
 // What has become of the offer: none was made, placed, waiting, not tried since the write is refused, 10, 11,
@@ -38,10 +40,9 @@ pub fn outcome_number(outcome: Outcome) -> u8
     }
 }
 
-// 0 or the refusal, the rounds, the stores, and what has become of the offer.
+// What a write came to that is not refused: its rounds, its stores, and what has become of the offer.
 #[derive(Clone, Copy)]
 pub struct Written {
-    pub answer: u8,
     pub rounds: u32,
     pub stores: u32,
     pub outcome: Outcome,
@@ -50,10 +51,7 @@ pub struct Written {
 // Likewise, how many offers it placed, and the line without their numbers.
 #[derive(Clone, Copy)]
 pub struct LineWritten {
-    pub answer: u8,
-    pub rounds: u32,
-    pub stores: u32,
-    pub outcome: Outcome,
+    pub written: Written,
     pub placed: u32,
     pub line: Line,
 }
@@ -64,40 +62,22 @@ pub fn write_block(
     disk: &mut [u8],
     number: PublicNumber,
     content: &[u8],
-    offered: bool,
-    hidden_number: HiddenNumber,
-    hidden: &[u8],
+    offer: Option<HiddenOffer>,
     random: &[u8],
     list: &mut [u32],
-) -> Written
+) -> Result<Written, Refusal>
     ensures { WriteAnswered (written disk.old number.0 content.now
         random.now (length list.old)
-        (call_offer offered hidden_number.0 hidden.now)) disk.old
+        (brought_by offer.entry)) disk.old
         list.old disk.new list.new result }
 {
     let room = list.len();
-    let done = write_within(
-        disk,
-        number,
-        content,
-        offered,
-        hidden_number,
-        hidden,
-        random,
-        list,
-        room,
-    );
-    let outcome = done.outcome;
-    Written {
-        answer: done.answer,
-        rounds: done.rounds,
-        stores: done.stores,
-        outcome,
-    }
+    let done = write_within(disk, number, content, offer, random, list, room)?;
+    Ok(done.written)
 }
 
 // Writes a public number's data, and offers of the line where slots take them, the first first. A refused
-// write changes neither disk nor list, and hands the line back as it is.
+// write changes neither disk nor list, and its line is the one that was lent.
 pub fn write_line(
     disk: &mut [u8],
     number: PublicNumber,
@@ -106,22 +86,13 @@ pub fn write_line(
     blocks: &[u8],
     random: &[u8],
     list: &mut [u32],
-) -> LineWritten
+) -> Result<LineWritten, Refusal>
     ensures { LineAnswered (written disk.old number.0 content.now
         random.now (length list.old) (in_line blocks.now (line_of line)))
         disk.old list.old blocks.now line disk.new
         list.new result }
 {
     let room = list.len();
-    let done = line_within(disk, number, content, line, blocks, random, list, room);
-    let outcome = done.outcome;
-    let left = done.line;
-    LineWritten {
-        answer: done.answer,
-        rounds: done.rounds,
-        stores: done.stores,
-        outcome,
-        placed: done.placed,
-        line: left,
-    }
+    let done = line_within(disk, number, content, line, blocks, random, list, room)?;
+    Ok(done.written)
 }

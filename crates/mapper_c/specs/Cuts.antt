@@ -9,7 +9,13 @@ use Rattle.answers_c.specs.Cuts.{cut_said}
 
 -- the numbers of a write: its refusal or 0, the stores made, and 1 where others are left out
 abbrev pub cut_numbers : (bound : ℕ) → Written → Cut
-cut_numbers bound result = cut_said result.answer (length (cut_trace bound result)) (is_cut bound result)
+cut_numbers bound result =
+    cut_said
+    (record {
+      answer = result.answer;
+      stores = length (cut_trace bound result);
+      is_cut = is_cut bound result;
+    })
 
 pub record CutTold (result : Written) (bound : ℕ) (disk : Bytes) (list : List DiskAddress)
     (disk_after : Bytes) (listAfter : List DiskAddress) (answer : Cut) : Type 0 where

@@ -4,10 +4,8 @@ use Rattle.laws.specs.Lists.{over}
 use Rattle.model.specs.Blocks.{Bytes}
 use Rattle.model.specs.Line as model
 use Rattle.line.specs.declared.offers.Offer.{Offer}
-use Rattle.line.specs.declared.offers.Line.{Line}
-use Rattle.line.specs.Offers.{offers_of, line_of}
+use Rattle.line.specs.Offers.{offers_of}
 use Rattle.answers_c.specs.declared.enters.Entered.{Entered}
-use Rattle.mapper_c.specs.declared.line_enters.EnteredLine.{EnteredLine}
 
 -- a call's offer
 abbrev pub entering_offer : (number place : ℕ) → model.Offer
@@ -21,13 +19,6 @@ entered_numbers disk offer blocks line room =
       answer = model.enter_refusal disk offer blocks line room;
       waiting = length (model.entered disk offer blocks line room);
     }
-
--- with a line by value, of which so many offers are lent
-pub record HeldEntered (disk : Bytes) (offer : model.Offer) (blocks : Bytes) (line : Line) (room : ℕ)
-    (answer : EnteredLine) : Type 0 where
-  pub told_is : answer.told ≡ entered_numbers disk offer blocks (line_of line) room
-  pub line_left_lem : line_of answer.line ≡ model.entered disk offer blocks (line_of line) room
-  pub line_kept : answer.told.answer ≢ 0 → answer.line ≡ line
 
 -- with a lent line: what is left of the line handed over stands in its front, the rest is as it was; all is
 -- where the call is refused

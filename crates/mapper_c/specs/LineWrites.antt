@@ -6,10 +6,8 @@ use Rattle.model.specs.Blocks.{Bytes, DiskAddress}
 use Rattle.model.specs.Line as model
 use Rattle.model.specs.Calls.{Written, outcome_number, written_disk, written_list, line_left}
 use Rattle.line.specs.declared.offers.Offer.{Offer}
-use Rattle.line.specs.declared.offers.Line.{Line}
-use Rattle.line.specs.Offers.{offers_of, line_of}
+use Rattle.line.specs.Offers.{offers_of}
 use Rattle.answers_c.specs.declared.line_writes.LineWritten.{LineWritten}
-use Rattle.mapper_c.specs.declared.line_writes.WrittenLine.{WrittenLine}
 
 -- the numbers of a write: its refusal or 0, rounds, stores, document 01's number for the outcome, how many
 -- were placed, and how many offers are left
@@ -23,15 +21,6 @@ line_numbers result left =
       placed = result.placed;
       waiting = length left;
     }
-
--- with a line by value
-pub record HeldWritten (result : Written) (disk : Bytes) (list : List DiskAddress) (blocks : Bytes)
-    (line : Line) (disk_after : Bytes) (listAfter : List DiskAddress) (answer : WrittenLine) : Type 0 where
-  pub told_is : answer.told ≡ line_numbers result (line_left result disk blocks (line_of line))
-  pub line_left_lem : line_of answer.line ≡ line_left result disk blocks (line_of line)
-  pub line_kept : answer.told.answer ≢ 0 → answer.line ≡ line
-  pub stored : disk_after ≡ written_disk result disk
-  pub listed : listAfter ≡ written_list result list
 
 -- with a lent line: what is left of the line handed over stands in its front, the rest is as it was; all is
 -- where the write is refused

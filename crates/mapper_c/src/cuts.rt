@@ -2,12 +2,13 @@
 ghost use Rattle.std.specs.Prelude.{length};
 ghost use Rattle.model.specs.Line.{handed_over};
 ghost use Rattle.model.specs.Calls.{in_line, written};
-ghost use Rattle.line.specs.Turns.{offers_by};
+ghost use Rattle.line.specs.Gathered.{offers_by};
 ghost use Rattle.mapper.specs.Writes.{call_offer};
 ghost use Rattle.mapper_c.specs.Cuts.{CutTold};
 
-use answers_c::cuts::{Cut, cut_as};
-use layout::numbers::{HiddenNumber, PublicNumber};
+use crate::offers::lent_offer;
+use answers_c::cuts::Cut;
+use layout::numbers::PublicNumber;
 use line::gathered::gather_line;
 use mapper::{write_cut, write_line_cut};
 
@@ -30,18 +31,17 @@ pub extern "C" fn pddm_write_cut(
         (length list.old) (call_offer offered hidden_number hidden.now)) bound
         disk.old list.old disk.new list.new result }
 {
+    let offer = lent_offer(offered, hidden_number, hidden);
     let written = write_cut(
         disk,
         PublicNumber(number),
         content,
-        offered,
-        HiddenNumber(hidden_number),
-        hidden,
+        offer,
         random,
         list,
         bound,
     );
-    cut_as(written.answer, written.stores, written.is_cut)
+    Cut::from(written)
 }
 
 // Likewise with the line that two runs of numbers hand over, which stays as it is lent.
@@ -75,5 +75,5 @@ pub extern "C" fn pddm_write_line_cut(
         list,
         bound,
     );
-    cut_as(carried.answer, carried.stores, carried.is_cut)
+    Cut::from(carried.map(|made| made.cut))
 }

@@ -4,7 +4,7 @@ ghost use Rattle.questions.specs.Drives.{identity_in, size_for};
 ghost use Rattle.answers_c.specs.Drives.{identity_said, size_said};
 ghost use Rattle.mapper_c.specs.Geometries.{geometry_for};
 
-use answers_c::drives::{Identified, Size, identified_as, sized_as};
+use answers_c::drives::{Identified, Size};
 use layout::geometry::Geometry;
 use mapper::{drive_size, identify};
 
@@ -13,7 +13,7 @@ use mapper::{drive_size, identify};
 pub extern "C" fn pddm_identify(disk: &[u8]) -> Identified
     ensures { result ≡ identity_said (identity_in disk.now) }
 {
-    identified_as(identify(disk))
+    Identified::from(identify(disk))
 }
 
 // How large a drive of the geometry of these five numbers is; 1 and zeros where they are outside the limits.
@@ -34,5 +34,5 @@ pub extern "C" fn pddm_drive_size(
         hidden,
         slots,
     };
-    sized_as(drive_size(geometry))
+    Size::from(drive_size(geometry))
 }

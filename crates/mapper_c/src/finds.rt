@@ -2,7 +2,7 @@
 ghost use Rattle.model.specs.Calls.{public_read, hidden_read};
 ghost use Rattle.mapper_c.specs.Finds.{found_public, found_hidden, FindAnswered};
 
-use answers_c::finds::{Found, found_as};
+use answers_c::finds::Found;
 use layout::numbers::{HiddenNumber, PublicNumber};
 use reads::finds::{find_hidden, find_public};
 
@@ -15,7 +15,7 @@ pub extern "C" fn pddm_public_find(disk: &[u8], number: u32, blank: &[u8]) -> Fo
         (public_read disk.now number blank.now)
         disk.now blank.now result }
 {
-    found_as(find_public(disk, PublicNumber(number), blank))
+    Found::from(find_public(disk, PublicNumber(number), blank))
 }
 
 // Finds the block of a hidden number. The block at the address, which lies wholly on the disk, or the blank
@@ -27,5 +27,5 @@ pub extern "C" fn pddm_hidden_find(disk: &[u8], number: u32, blank: &[u8]) -> Fo
         (hidden_read disk.now number blank.now)
         disk.now blank.now result }
 {
-    found_as(find_hidden(disk, HiddenNumber(number), blank))
+    Found::from(find_hidden(disk, HiddenNumber(number), blank))
 }

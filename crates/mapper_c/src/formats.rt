@@ -5,6 +5,7 @@ ghost use Rattle.model.specs.Calls.{formatted};
 ghost use Rattle.mapper_c.specs.Geometries.{geometry_for};
 
 use layout::geometry::Geometry;
+use layout::refusals::answer_number;
 use mapper::format_drive;
 
 // Formats a disk for the geometry of these five numbers and answers 0; answers 1 or 2 and changes no byte
@@ -30,5 +31,5 @@ pub extern "C" fn pddm_format(
         hidden,
         slots,
     };
-    format_drive(disk, geometry) as u32
+    answer_number(format_drive(disk, geometry)) as u32
 }

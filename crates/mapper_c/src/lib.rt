@@ -8,6 +8,7 @@ mod finds; // where the block of a number stands, in either volume
 mod line_finds; // where a hidden number's block stands where offers wait
 mod line_enters; // an offer that enters a lent line
 mod needs; // the buffers that a write takes
+mod offers; // the hidden write that is offered, as C lends it
 mod writes; // the write, with or without an offer
 mod line_writes; // the write with a lent line of offers
 mod cuts; // both writes, cut after so many stores

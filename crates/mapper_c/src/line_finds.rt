@@ -4,7 +4,7 @@ ghost use Rattle.model.specs.Calls.{line_read};
 ghost use Rattle.line.specs.Offers.{offers_of, line_of};
 ghost use Rattle.mapper_c.specs.LineFinds.{found_in_line, LineFound};
 
-use answers_c::finds::{Found, found_in};
+use answers_c::finds::Found;
 use layout::numbers::HiddenNumber;
 use lent_line::load_lent;
 use line::offers::{Line, Offer};
@@ -17,7 +17,7 @@ fn find_held(disk: &[u8], number: u32, blank: &[u8], blocks: &[u8], line: Line) 
         (line_read disk.now number blank.now blocks.now (line_of line))
         disk.now blank.now blocks.now result }
 {
-    found_in(find_hidden_line(disk, HiddenNumber(number), blank, blocks, line))
+    Found::from(find_hidden_line(disk, HiddenNumber(number), blank, blocks, line))
 }
 
 // Finds the block of a hidden number where offers of the lent line wait. The block at the address, which lies

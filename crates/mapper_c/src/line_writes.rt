@@ -2,53 +2,14 @@
 ghost use Rattle.std.specs.Prelude.{length};
 ghost use Rattle.model.specs.Line.{handed_over};
 ghost use Rattle.model.specs.Calls.{in_line, written};
-ghost use Rattle.line.specs.Offers.{offers_of, line_of};
-ghost use Rattle.mapper_c.specs.LineWrites.{HeldWritten, LentWritten};
+ghost use Rattle.line.specs.Offers.{offers_of};
+ghost use Rattle.mapper_c.specs.LineWrites.{LentWritten};
 
 use answers_c::line_writes::{LineWritten, line_written_as};
 use layout::numbers::PublicNumber;
 use lent_line::{load_lent, save_lent};
-use line::offers::{Line, Offer};
+use line::offers::Offer;
 use mapper::write_line;
-
-// What a write tells, and the line that it leaves.
-#[derive(Clone, Copy)]
-struct WrittenLine {
-    told: LineWritten,
-    line: Line,
-}
-
-// Writes a public number's data, and offers of a line by value where slots take them.
-fn write_held(
-    disk: &mut [u8],
-    number: u32,
-    content: &[u8],
-    blocks: &[u8],
-    line: Line,
-    random: &[u8],
-    list: &mut [u32],
-) -> WrittenLine
-    ensures { HeldWritten
-        (written disk.old number content.now random.now
-        (length list.old) (in_line blocks.now (line_of line)))
-        disk.old list.old blocks.now line
-        disk.new list.new result }
-{
-    let written = write_line(
-        disk,
-        PublicNumber(number),
-        content,
-        line,
-        blocks,
-        random,
-        list,
-    );
-    let left = written.line;
-    WrittenLine {
-        told: line_written_as(written),
-        line: left,
-    }
-}
 
 // Writes a public number's data, and offers of the lent line where slots take them, the first first. Those
 // that stay wait from its front on, and entries past them keep their values. A refused write changes neither
@@ -73,7 +34,19 @@ pub extern "C" fn pddm_write_line(
         disk.new list.new line.new result }
 {
     let held = load_lent(line, waiting);
-    let written = write_held(disk, number, content, blocks, held, random, list);
-    save_lent(line, written.line);
-    written.told
+    let written = write_line(
+        disk,
+        PublicNumber(number),
+        content,
+        held,
+        blocks,
+        random,
+        list,
+    );
+    let told = line_written_as(held, written);
+    match written {
+        Ok(made) => save_lent(line, made.line),
+        Err(_) => {}
+    }
+    told
 }

@@ -2,7 +2,7 @@
 ghost use Rattle.std.specs.Prelude.{◌≡◌};
 ghost use Rattle.mapper_c.specs.Needs.{needed_write};
 
-use answers_c::needs::{Needs, needed_as};
+use answers_c::needs::Needs;
 use layout::numbers::PublicNumber;
 use mapper::write_needs;
 
@@ -11,5 +11,5 @@ use mapper::write_needs;
 pub extern "C" fn pddm_write_needs(disk: &[u8], number: u32) -> Needs
     ensures { result ≡ needed_write disk.now number }
 {
-    needed_as(write_needs(disk, PublicNumber(number)))
+    Needs::from(write_needs(disk, PublicNumber(number)))
 }

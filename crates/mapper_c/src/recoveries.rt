@@ -1,6 +1,7 @@
 // Recovery (document 02, K5), for C.
 ghost use Rattle.recovery.specs.Drives.{RecoveredAs};
 
+use layout::refusals::answer_number;
 use mapper::recover;
 
 // Rebuilds the bitmap from the public map; a refused recovery changes no byte.
@@ -8,5 +9,5 @@ use mapper::recover;
 pub extern "C" fn pddm_recover(disk: &mut [u8]) -> u32
     ensures { RecoveredAs disk.old disk.new result }
 {
-    recover(disk) as u32
+    answer_number(recover(disk)) as u32
 }

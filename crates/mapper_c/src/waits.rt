@@ -3,7 +3,7 @@ ghost use Rattle.std.specs.Prelude.{◌≡◌};
 ghost use Rattle.questions.specs.Waits.{wait_in};
 ghost use Rattle.answers_c.specs.Waits.{wait_said};
 
-use answers_c::waits::{Waited, waited_as};
+use answers_c::waits::Waited;
 use mapper::wait_rounds;
 
 // In which round from here on the first offer that waits is placed, on a drive that passes the check; 1 to 3
@@ -12,5 +12,5 @@ use mapper::wait_rounds;
 pub extern "C" fn pddm_wait_rounds(disk: &[u8]) -> Waited
     ensures { result ≡ wait_said (wait_in disk.now) }
 {
-    waited_as(wait_rounds(disk))
+    Waited::from(wait_rounds(disk))
 }

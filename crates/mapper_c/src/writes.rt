@@ -4,8 +4,9 @@ ghost use Rattle.model.specs.Calls.{written};
 ghost use Rattle.mapper.specs.Writes.{call_offer};
 ghost use Rattle.mapper_c.specs.Writes.{Answered};
 
-use answers_c::writes::{Written, written_as};
-use layout::numbers::{HiddenNumber, PublicNumber};
+use crate::offers::lent_offer;
+use answers_c::writes::Written;
+use layout::numbers::PublicNumber;
 use mapper::write_block;
 
 // Writes a public number's data, and the hidden write that is offered where a slot takes it. A refused write
@@ -26,15 +27,7 @@ pub extern "C" fn pddm_write(
         (length list.old) (call_offer offered hidden_number hidden.now))
         disk.old list.old disk.new list.new result }
 {
-    let written = write_block(
-        disk,
-        PublicNumber(number),
-        content,
-        offered,
-        HiddenNumber(hidden_number),
-        hidden,
-        random,
-        list,
-    );
-    written_as(written)
+    let offer = lent_offer(offered, hidden_number, hidden);
+    let written = write_block(disk, PublicNumber(number), content, offer, random, list);
+    Written::from(written)
 }

@@ -1,5 +1,5 @@
 -- What is said of a slot by its owner and the owner's walk. Assumes nothing.
-use Rattle.std.specs.Prelude.{◌≡◌, Bool, false, ℕ, ◌≤◌, ◌<◌}
+use Rattle.std.specs.Prelude.{◌≡◌, Bool, false, ℕ, ◌≤◌, ◌<◌, Option, Some, None}
 use Rattle.model.specs.Geometry.{Geometry}
 use Rattle.model.specs.Blocks.{Bytes}
 use Rattle.model.specs.Layout.{level_address}
@@ -7,25 +7,24 @@ use Rattle.model.specs.HiddenTree.{is_found_at, is_damaged}
 use Rattle.hidden_map.specs.Ends.{end_of}
 use Rattle.hidden_map.specs.Walks.{Walked}
 use Rattle.owners.specs.declared.Owner.{Owner}
-use Rattle.owners.specs.declared.Owner.TheVariants.{Nobody, Number}
 
 -- the owner by a reverse number: nobody, where that is no hidden number, else the number with its walk
-abbrev pub OwnerWalked : Geometry → (disk : Bytes) → (number : ℕ) → Owner → Type 0
-OwnerWalked g disk number Nobody = g.hidden ≤ number
-OwnerWalked g disk number (Number own trail) =
-    (own.0 ≡ number) × ((number < g.hidden) × Walked g disk number trail)
+abbrev pub OwnerWalked : Geometry → (disk : Bytes) → (number : ℕ) → Option Owner → Type 0
+OwnerWalked g disk number None = g.hidden ≤ number
+OwnerWalked g disk number (Some owner) =
+    (owner.number.0 ≡ number) × ((number < g.hidden) × Walked g disk number owner.trail)
 
 -- an owner's trail is that of its walk
-abbrev pub OwnWalked : Geometry → (disk : Bytes) → Owner → Type 0
-OwnWalked g disk Nobody = Unit {0}
-OwnWalked g disk (Number own trail) = Walked g disk own.0 trail
+abbrev pub OwnWalked : Geometry → (disk : Bytes) → Option Owner → Type 0
+OwnWalked g disk None = Unit {0}
+OwnWalked g disk (Some owner) = Walked g disk owner.number.0 owner.trail
 
 -- whether the owner's walk ended at the data of a slot
-abbrev pub is_live_for : Geometry → (slot : ℕ) → Owner → Bool
-is_live_for g slot Nobody = false
-is_live_for g slot (Number own trail) = is_found_at (level_address g slot 0) (end_of trail.end)
+abbrev pub is_live_for : Geometry → (slot : ℕ) → Option Owner → Bool
+is_live_for g slot None = false
+is_live_for g slot (Some owner) = is_found_at (level_address g slot 0) (end_of owner.trail.end)
 
 -- whether the owner's walk is damaged
-abbrev pub is_damaged_for : Owner → Bool
-is_damaged_for Nobody = false
-is_damaged_for (Number own trail) = is_damaged (end_of trail.end)
+abbrev pub is_damaged_for : Option Owner → Bool
+is_damaged_for None = false
+is_damaged_for (Some owner) = is_damaged (end_of owner.trail.end)

@@ -18,11 +18,11 @@ use layout::geometry::{Geometry, fanout};
 use layout::levels::level_address;
 use layout::numbers::HiddenNumber;
 
-// Nobody, or the hidden number that a slot belongs to, with the trail of its walk.
+// The hidden number that a slot belongs to, with the trail of its walk.
 #[derive(Clone, Copy)]
-pub enum Owner {
-    Nobody,
-    Number(HiddenNumber, Trail),
+pub struct Owner {
+    pub number: HiddenNumber,
+    pub trail: Trail,
 }
 
 // The reverse number of a slot, the last entry of its leaf.
@@ -37,14 +37,17 @@ pub fn owner_of(disk: &[u8], g: Geometry, slot: u32) -> HiddenNumber
 }
 
 // The owner by a slot's reverse number, and its walk: nobody, where that is no hidden number.
-pub fn walk_owner(disk: &[u8], g: Geometry, number: HiddenNumber) -> Owner
+pub fn walk_owner(disk: &[u8], g: Geometry, number: HiddenNumber) -> Option<Owner>
     requires { Drive (geometry_of g) disk.now }
     ensures { OwnerWalked (geometry_of g) disk.now number.0 result }
 {
     if g.hidden <= number.0 {
-        return Owner::Nobody;
+        return None;
     }
-    Owner::Number(number, walk(disk, g, number))
+    Some(Owner {
+        number,
+        trail: walk(disk, g, number),
+    })
 }
 
 // Whether a walk ended at the last block of a slot, its hidden data.
@@ -57,29 +60,17 @@ pub fn ends_in(g: Geometry, end: Reached, slot: u32) -> bool
 }
 
 // Whether a slot holds its owner's current block: the owner's walk ended in it.
-pub fn is_live(g: Geometry, slot: u32, owner: Owner) -> bool
+pub fn is_live(g: Geometry, slot: u32, owner: Option<Owner>) -> bool
     requires fits { Fits (geometry_of g) }
     requires slot_lt_slots { slot < g.slots }
     ensures { result ≡ is_live_for (geometry_of g) slot owner }
 {
-    match owner {
-        Owner::Nobody => false,
-        Owner::Number(_, trail) => {
-            let end = trail.end;
-            ends_in(g, end, slot)
-        }
-    }
+    owner.is_some_and(|owner| ends_in(g, owner.trail.end, slot))
 }
 
 // Whether the walk of a slot's owner is damaged.
-pub fn is_owner_damaged(owner: Owner) -> bool
+pub fn is_owner_damaged(owner: Option<Owner>) -> bool
     ensures { result ≡ is_damaged_for owner }
 {
-    match owner {
-        Owner::Nobody => false,
-        Owner::Number(_, trail) => {
-            let end = trail.end;
-            is_damaged(end)
-        }
-    }
+    owner.is_some_and(|owner| is_damaged(owner.trail.end))
 }

@@ -9,14 +9,13 @@ ghost use Rattle.plans.specs.Plans.{kept_plan, placed_plan, FirstPlanned, HalfPl
 ghost use Rattle.plans.specs.Plans.{Planned};
 
 use crate::hidden_plans::{Data, HiddenPlan};
-use crate::states::{Turn, is_waiting};
+use crate::states::Turn;
 use hidden_map::ends::is_damaged;
 use hidden_map::walks::{Trail, walk};
 use layout::bitmap::is_allocated;
 use layout::geometry::Geometry;
 use layout::numbers::HiddenNumber;
 use line::offers::Offer;
-use line::turns::First;
 use owners::{Owner, is_live, is_owner_damaged, owner_of, walk_owner};
 use table::{HiddenChoice, PublicChoice, row_at};
 
@@ -31,32 +30,24 @@ pub struct Plans {
 // ---- the hidden half ----
 
 // The walk for a number: that of the slot's owner, where the owner is this number, else one of its own.
-fn next_trail(disk: &[u8], g: Geometry, owner: Owner, number: HiddenNumber) -> Trail
+fn next_trail(disk: &[u8], g: Geometry, owner: Option<Owner>, number: HiddenNumber) -> Trail
     requires drive { Drive (geometry_of g) disk.now }
     requires own_walked { OwnWalked (geometry_of g) disk.now owner }
     ensures { Walked (geometry_of g) disk.now number.0 result }
 {
     match owner {
-        Owner::Nobody => walk(disk, g, number),
-        Owner::Number(own, trail) => {
-            if own.0 == number.0 {
-                return trail;
-            }
-            walk(disk, g, number)
-        }
+        Some(owner) if owner.number == number => owner.trail,
+        _ => walk(disk, g, number),
     }
 }
 
 // The plan for a slot that is kept: its owner's path with the slot's own data. Nobody's slot is not kept.
-fn plan_kept(owner: Owner) -> HiddenPlan
+fn plan_kept(owner: Option<Owner>) -> HiddenPlan
     ensures { result ≡ kept_plan owner }
 {
     match owner {
-        Owner::Nobody => HiddenPlan::Fill,
-        Owner::Number(own, trail) => {
-            let nodes = trail.nodes;
-            HiddenPlan::Path(own, nodes, Data::Own)
-        }
+        None => HiddenPlan::Fill,
+        Some(owner) => HiddenPlan::Path(owner.number, owner.trail.nodes, Data::Own),
     }
 }
 
@@ -65,28 +56,21 @@ fn plan_kept(owner: Owner) -> HiddenPlan
 fn plan_placed(offer: Offer, trail: Trail) -> HiddenPlan
     ensures { result ≡ placed_plan offer trail }
 {
-    let number = offer.number;
-    let place = offer.place;
-    let end = trail.end;
-    let nodes = trail.nodes;
-    if is_damaged(end) {
+    if is_damaged(trail.end) {
         return HiddenPlan::Back;
     }
-    HiddenPlan::Path(number, nodes, Data::Offered(place))
+    HiddenPlan::Path(offer.number, trail.nodes, Data::Offered(offer.place))
 }
 
 // The plan for the first one waiting; where nobody waits, random bytes.
-fn plan_first(disk: &[u8], g: Geometry, owner: Owner, first: First) -> HiddenPlan
+fn plan_first(disk: &[u8], g: Geometry, owner: Option<Owner>, first: Option<Offer>) -> HiddenPlan
     requires drive { Drive (geometry_of g) disk.now }
     requires own_walked { OwnWalked (geometry_of g) disk.now owner }
     ensures { FirstPlanned (geometry_of g) disk.now first result }
 {
     match first {
-        First::Nobody => HiddenPlan::Fill,
-        First::Waits(offer) => {
-            let number = offer.number;
-            plan_placed(offer, next_trail(disk, g, owner, number))
-        }
+        None => HiddenPlan::Fill,
+        Some(offer) => plan_placed(offer, next_trail(disk, g, owner, offer.number)),
     }
 }
 
@@ -96,8 +80,8 @@ fn plan_half(
     disk: &[u8],
     g: Geometry,
     choice: HiddenChoice,
-    owner: Owner,
-    first: First,
+    owner: Option<Owner>,
+    first: Option<Offer>,
 ) -> HiddenPlan
     requires drive { Drive (geometry_of g) disk.now }
     requires own_walked { OwnWalked (geometry_of g) disk.now owner }
@@ -119,35 +103,29 @@ fn turn_of(plan: HiddenPlan) -> Turn
 {
     match plan {
         HiddenPlan::Back => Turn::Damaged,
-        HiddenPlan::Path(_, _, data) => match data {
-            Data::Own => Turn::Still,
-            Data::Offered(_) => Turn::Placed,
-        },
-        HiddenPlan::Fill => Turn::Still,
+        HiddenPlan::Path(_, _, Data::Offered(_)) => Turn::Placed,
+        HiddenPlan::Path(_, _, Data::Own) | HiddenPlan::Fill => Turn::Still,
     }
 }
 
 // ---- the round ----
 
 // What a round at a slot is to do, by the table's row.
-pub fn plan_round(disk: &[u8], g: Geometry, slot: u32, first: First) -> Plans
+pub fn plan_round(disk: &[u8], g: Geometry, slot: u32, first: Option<Offer>) -> Plans
     requires drive { Drive (geometry_of g) disk.now }
     requires slot_lt_slots { slot < g.slots }
     ensures { Planned (geometry_of g) disk.now slot first result }
 {
-    let waiting = is_waiting(first);
     let own = owner_of(disk, g, slot);
     let owner = walk_owner(disk, g, own);
     let row = row_at(
-        waiting,
+        first.is_some(),
         is_allocated(disk, g, slot),
         is_live(g, slot, owner),
     );
-    let choice = row.public;
-    let hidden_choice = row.hidden;
-    let plan = plan_half(disk, g, hidden_choice, owner, first);
+    let plan = plan_half(disk, g, row.hidden, owner, first);
     Plans {
-        choice,
+        choice: row.public,
         plan,
         turn: turn_of(plan),
     }

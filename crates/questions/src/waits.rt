@@ -5,18 +5,14 @@ ghost use Rattle.model.specs.Layout.{Drive, head_in};
 ghost use Rattle.model.specs.HiddenHalf.{is_live};
 ghost use Rattle.model.specs.Waits.{wait_rounds};
 ghost use Rattle.layout.specs.Geometries.{geometry_of};
+ghost use Rattle.checks.specs.Counts.{found_round};
 ghost use Rattle.questions.specs.Waits.{wait_of, wait_in};
 
-use layout::drives::{Opened, open_drive};
+use checks::counts::first_round;
+use layout::drives::open_drive;
 use layout::geometry::{Geometry, head_in};
+use layout::refusals::Refusal;
 use owners::{is_live, owner_of, walk_owner};
-
-// 0 with the rounds, or the refusal with 0.
-#[derive(Clone, Copy)]
-pub struct Waited {
-    pub answer: u8,
-    pub rounds: u32,
-}
 
 // Whether a slot holds the current block of its owner.
 fn is_slot_live(disk: &[u8], g: Geometry, slot: u32) -> bool
@@ -28,39 +24,21 @@ fn is_slot_live(disk: &[u8], g: Geometry, slot: u32) -> bool
     is_live(g, slot, walk_owner(disk, g, number))
 }
 
-// The round, from the head on, that comes to the first slot that is not live; 0 where every slot is live,
+// The round, from the head on, that comes to the first slot that is not live; none where every slot is live,
 // which no drive has, as live slots have different owners.
-fn rounds_to_place(disk: &[u8], g: Geometry) -> u32
+fn rounds_to_place(disk: &[u8], g: Geometry) -> Option<u32>
     requires drive { Drive (geometry_of g) disk.now }
     requires disk_bound { head_in disk.now < g.slots }
-    ensures { result ≡ wait_rounds (geometry_of g) disk.now }
+    ensures { result ≡ found_round (wait_rounds (geometry_of g) disk.now) }
 {
-    let slots = g.slots;
-    let mut slot = head_in(disk);
-    let mut done: u32 = 0;
-    while done < slots {
-        if !is_slot_live(disk, g, slot) {
-            return done + 1;
-        }
-        slot = (slot + 1) % slots;
-        done += 1;
-    }
-    0
+    first_round(g, head_in(disk), |slot| is_slot_live(disk, g, slot))
 }
 
 // In which round from here on the first offer that waits is placed, on a drive that passes the check of its
-// tree: from 1 to H + 1. 1 to 3 and 0 where the disk is no drive.
-pub fn wait_rounds(disk: &[u8]) -> Waited
+// tree: from 1 to H + 1. 1 to 3 where the disk is no drive.
+pub fn wait_rounds(disk: &[u8]) -> Result<u32, Refusal>
     ensures { wait_of result ≡ wait_in disk.now }
 {
-    match open_drive(disk) {
-        Opened::Refused(fault) => Waited {
-            answer: fault,
-            rounds: 0,
-        },
-        Opened::Good(g) => Waited {
-            answer: 0,
-            rounds: rounds_to_place(disk, g),
-        },
-    }
+    let g = open_drive(disk)?;
+    Ok(rounds_to_place(disk, g).unwrap_or(0))
 }

@@ -1,24 +1,25 @@
 -- Where a number's block is, in either volume: refused, never placed, or at an address, by the public map's
 -- entry or the hidden walk's end. Then what a read shows of it. Assumes nothing.
-use Rattle.std.specs.Prelude.{◌≡◌, cond, [], ℕ, ◌<◌, eqb}
+use Rattle.std.specs.Prelude.{◌≡◌, cond, [], ℕ, ◌<◌, eqb, Option, Some, None, Result, Ok, Err}
 use Rattle.model.specs.Geometry.{block_count, block_width}
 use Rattle.model.specs.Blocks.{Bytes, DiskAddress, block_at}
 use Rattle.model.specs.Layout.{geometry_in, map_entry}
 use Rattle.model.specs.HiddenTree.{End, found, unmapped, damaged, walk}
 use Rattle.model.specs.Refusals.{drive_refusal, public_read_refusal, hidden_read_refusal}
-use Rattle.reads.specs.declared.finds.Find as declared
-use Rattle.reads.specs.declared.finds.Find.TheVariants.{Refused, Blank, Block}
+use Rattle.layout.specs.declared.numbers.DiskAddress as declared
+use Rattle.layout.specs.declared.refusals.Refusal.{Refusal}
+use Rattle.layout.specs.Refusals.{refusal_number}
 
 pub data Find : Type 0 where
   refused_find : (fault : ℕ) → Find
   blank_find : Find
   block_find : (address : DiskAddress) → Find
 
--- what a declared find says
-abbrev pub find_of : declared.Find → Find
-find_of (Refused fault) = refused_find fault
-find_of Blank = blank_find
-find_of (Block address) = block_find address.0
+-- what the answer of a find says
+abbrev pub find_of : Result (Option declared.DiskAddress) Refusal → Find
+find_of (Err refusal) = refused_find (refusal_number refusal)
+find_of (Ok None) = blank_find
+find_of (Ok (Some address)) = block_find address.0
 
 -- what is found, or the refusal where there is one
 unfoldable pub unless_refused : (refusal : ℕ) → Find → Find

@@ -2,15 +2,18 @@
 ghost use Rattle.std.specs.Prelude.{◌≡◌};
 ghost use Rattle.model.specs.Refusals.{hidden_read_refusal};
 ghost use Rattle.model.specs.Calls.{hidden_read};
+ghost use Rattle.layout.specs.Refusals.{answer_number};
 
-use crate::finds::{find_fault, find_hidden, show};
+use crate::finds::{find_hidden, show};
 use layout::numbers::HiddenNumber;
+use layout::refusals::Refusal;
 
-// 1 to 3 and 10 to 12 of a hidden read, else 0.
-pub fn hidden_fault(disk: &[u8], number: HiddenNumber, blank: &[u8]) -> u8
-    ensures { result ≡ hidden_read_refusal disk.now number.0 blank.now }
+// 1 to 3 and 10 to 12 of a hidden read.
+pub fn check_hidden(disk: &[u8], number: HiddenNumber, blank: &[u8]) -> Result<(), Refusal>
+    ensures { answer_number result ≡ hidden_read_refusal disk.now number.0 blank.now }
 {
-    find_fault(find_hidden(disk, number, blank))
+    find_hidden(disk, number, blank)?;
+    Ok(())
 }
 
 // A hidden number's block, as a part of the disk; the blank for a number never placed; an empty part of the

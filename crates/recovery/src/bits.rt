@@ -28,11 +28,8 @@ pub fn set_marks(disk: &mut [u8], g: Geometry)
     ensures { disk.new ≡ with_marks (geometry_of g)
         (used_entries (geometry_of g) disk.old) disk.old }
 {
-    let publics = g.publics;
-    let mut number: u32 = 0;
-    while number < publics {
+    for number in 0..g.publics {
         let entry = map_entry(disk, g, PublicNumber(number));
         mark_entry(disk, g, entry);
-        number += 1;
     }
 }

@@ -16,10 +16,7 @@ fn is_formed(g: Geometry, entry: DiskAddress) -> bool
     requires { Fits (geometry_of g) }
     ensures { result ≡ are_starts (geometry_of g) (unless_zero entry.0 []) }
 {
-    if entry.0 == 0 {
-        return true;
-    }
-    is_slot_start(g, entry)
+    entry == DiskAddress(0) || is_slot_start(g, entry)
 }
 
 // Whether every entry of the map is 0 or block A of one of the slots.
@@ -27,15 +24,7 @@ pub fn is_map_formed(disk: &[u8], g: Geometry) -> bool
     requires { Drive (geometry_of g) disk.now }
     ensures { result ≡ are_starts (geometry_of g) (used_entries (geometry_of g) disk.now) }
 {
-    let publics = g.publics;
-    let mut number: u32 = 0;
-    while number < publics {
-        if !is_formed(g, map_entry(disk, g, PublicNumber(number))) {
-            return false;
-        }
-        number += 1;
-    }
-    true
+    (0..g.publics).all(|number| is_formed(g, map_entry(disk, g, PublicNumber(number))))
 }
 
 // Marks the slot of an entry that is 0 or block A of one of the slots; for 0 the disk stays as it is.
@@ -45,8 +34,7 @@ pub fn mark_entry(disk: &mut [u8], g: Geometry, entry: DiskAddress)
     ensures { disk.new ≡ with_marks (geometry_of g) (unless_zero entry.0 [])
         disk.old }
 {
-    if entry.0 == 0 {
-        return;
+    if entry != DiskAddress(0) {
+        mark_slot(disk, g, slot_of(g, entry));
     }
-    mark_slot(disk, g, slot_of(g, entry));
 }

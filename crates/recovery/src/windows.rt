@@ -36,22 +36,15 @@ fn is_window_apart(disk: &[u8], g: Geometry, first: u32) -> bool
     requires first_lt_slots { first < g.slots }
     ensures { result ≡ is_window_apart (geometry_of g) disk.now first }
 {
-    let publics = g.publics;
     let start = slot_start(g, first);
     let low = start.0;
     let width = slot_width(g);
     let mut seen = [0u8; 4096];
-    let mut number: u32 = 0;
-    while number < publics {
-        if note_entry(
-            &mut seen,
-            low,
-            width,
-            map_entry(disk, g, PublicNumber(number)),
-        ) {
+    for number in 0..g.publics {
+        let entry = map_entry(disk, g, PublicNumber(number));
+        if note_entry(&mut seen, low, width, entry) {
             return false;
         }
-        number += 1;
     }
     true
 }
@@ -61,13 +54,10 @@ pub fn is_map_apart(disk: &[u8], g: Geometry) -> bool
     requires { Started (geometry_of g) disk.now }
     ensures { result ≡ are_apart (used_entries (geometry_of g) disk.now) }
 {
-    let slots = g.slots;
-    let mut first: u32 = 0;
-    while first < slots {
+    for first in (0..g.slots).step_by(32768) {
         if !is_window_apart(disk, g, first) {
             return false;
         }
-        first += 32768;
     }
     true
 }

@@ -26,7 +26,7 @@ cut_stores = 7 ∷ 8 ∷ 9 ∷ 3 ∷ 0 ∷ 10 ∷ 11 ∷ 12 ∷ 3 ∷ 0 ∷ 13 �
 -- how many stores are made, whether some are left out, and the list
 unfoldable pub cut_told : CutRow → Written → Bool
 cut_told row result =
-    eqb row.1 (length (cut_trace row.0 result)) && eqb row.2 (digit (is_cut row.0 result)) &&
+    eqb row.1 (length (cut_trace row.0 result)) && eqb (digit row.2) (digit (is_cut row.0 result)) &&
     is_listed (take row.0 cut_stores) (cut_list row.0 result (replicate 23 99))
 
 -- ---- the recovery ----

@@ -32,7 +32,7 @@ line_pulled_on disk =
 unfoldable pub line_cut_told : LineCutRow → (disk : Bytes) → Bool
 line_cut_told row disk =
     let result = line_pulled_on disk in
-    eqb row.1 (length (cut_trace row.0 result)) && eqb row.2 (digit (is_cut row.0 result)) &&
+    eqb row.1 (length (cut_trace row.0 result)) && eqb (digit row.2) (digit (is_cut row.0 result)) &&
     eqb row.3 (length (line_within row.0 result disk two_blocks (line_of zero_one)))
 
 -- ---- the recovery ----

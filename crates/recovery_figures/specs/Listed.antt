@@ -1,9 +1,18 @@
 -- Lines of the listing, written on a disk. Assumes nothing.
-use Rattle.std.specs.Prelude.{replicate}
+use Rattle.std.specs.Prelude.{ℕ, replicate, Option, Some, None}
 use Rattle.model.specs.Blocks.{Bytes}
-use Rattle.model.specs.Calls.{formatted, nothing}
-use Rattle.model.specs.Promises.Figures.{small}
+use Rattle.model.specs.Calls.{Offered, one, formatted, nothing}
+use Rattle.model.specs.Promises.Figures.{filled, small}
 use Rattle.model.specs.Promises.Limits.{listed_on, one_offer}
+
+-- data that is offered to a hidden number, or nothing
+abbrev pub data_offered : Option ℕ → (content : Bytes) → Offered
+data_offered None content = nothing
+data_offered (Some number) content = one (record { number = number; content = content })
+
+-- what a line offers: data of its number
+abbrev pub listed_offer : Option ℕ → (line : ℕ) → Offered
+listed_offer offer line = data_offered offer (filled line)
 
 -- lines 0 -, 0 1 and 1 -
 unfoldable pub three_written : (disk : Bytes) → Bytes

@@ -1,30 +1,32 @@
 // Rows of a write with an offer that is cut after so many stores: what it tells, and what is shown once the
 // drive is recovered. The drive is that of the five lines; data 8 goes to number 0, with hidden 0, data 8,
 // offered.
-ghost use Rattle.std.specs.Prelude.{◌≡◌, length, take};
+ghost use Rattle.std.specs.Prelude.{◌≡◌, length};
 ghost use Rattle.recovery_model.specs.Cuts.{cut_disk};
 ghost use Rattle.mapper.specs.Cuts.{CutAnswered};
-ghost use Rattle.figure_lines.specs.Counts.{agreeing};
 ghost use Rattle.recovery_figures.specs.Cuts.{pulled_on, cut_stores, cut_told, shown_told, mended_told};
 ghost use Rattle.recovery_figures.specs.Cuts.{cut_agrees};
 
 use crate::listed::five_lines;
 use crate::tells::{hidden_first, tell_bits, tell_fault, tell_public, tell_recovery};
-use figure_lines::lines::{print_count, print_named, tally};
+use answers_c::cuts::Cut;
+use figure_lines::lines::{part_of, print_count, print_named};
 use figure_lines::lists::print_list;
 use figure_lines::output::Output;
+use figure_lines::rows::Row;
 use layout::numbers::{HiddenNumber, PublicNumber};
-use mapper::{CutWritten, write_cut};
+use layout::refusals::Refusal;
+use mapper::{CutWritten, HiddenOffer, write_cut};
 
-// After how many stores it is cut; how many it makes, whether it is cut, 1 or 0, what a public read of number
-// 0 is refused for before the recovery; and after it the first byte of public 0 and of hidden 0, and the
-// first two bytes of the bitmap.
+// After how many stores it is cut; how many it makes, whether it is cut, what a public read of number 0 is
+// refused for before the recovery; and after it the first byte of public 0 and of hidden 0, and the first two
+// bytes of the bitmap.
 #[derive(Clone, Copy)]
 pub struct CutRow(
     pub usize,
     pub u32,
+    pub bool,
     pub u32,
-    pub u8,
     pub u32,
     pub u32,
     pub u32,
@@ -40,30 +42,23 @@ fn all_stores() -> [u32; 17]
     STORES
 }
 
-// The first so many entries, or all.
-fn front_of(list: &[u32], count: usize) -> &[u32]
-    ensures { result.now ≡ take count list.now }
-{
-    if count < list.len() {
-        return &list[..count];
-    }
-    list
-}
-
 // ---- the write ----
 
 // Makes the first so many stores of the write; the random bytes are 165.
-fn cut_write(disk: &mut [u8], list: &mut [u32], bound: usize) -> CutWritten
+fn cut_write(disk: &mut [u8], list: &mut [u32], bound: usize) -> Result<CutWritten, Refusal>
     ensures { CutAnswered (pulled_on disk.old (length list.old)) bound
         disk.old list.old disk.new list.new result }
 {
+    let content = [8u8; 32];
+    let offer = HiddenOffer {
+        number: HiddenNumber(0),
+        content: &content,
+    };
     write_cut(
         disk,
         PublicNumber(0),
-        &[8u8; 32],
-        true,
-        HiddenNumber(0),
-        &[8u8; 32],
+        &content,
+        Some(offer),
         &[165u8; 256],
         list,
         bound,
@@ -78,11 +73,11 @@ fn tell_cut(output: &mut Output, disk: &mut [u8], row: CutRow) -> bool
         cut_disk row.0 (pulled_on disk.old 23) disk.old }
 {
     let mut list = [99u32; 23];
-    let made = cut_write(disk, &mut list, row.0);
+    let made = Cut::from(cut_write(disk, &mut list, row.0));
     let stores = all_stores();
     let counted = print_count(output, b": stores", row.1, made.stores);
-    let ended = print_count(output, b"  is cut", row.2, tally(0, made.is_cut));
-    let listed = print_list(output, front_of(&stores, row.0), &list);
+    let ended = print_count(output, b"  is cut", u32::from(row.2), made.cut);
+    let listed = print_list(output, part_of(&stores, row.0), &list);
     counted & ended & listed
 }
 
@@ -110,30 +105,18 @@ fn tell_mended(output: &mut Output, disk: &mut [u8], row: CutRow) -> bool
 
 // ---- rows ----
 
-// Prints a row; answers whether it agrees.
-fn run_cut(output: &mut Output, row: CutRow) -> bool
-    ensures { result ≡ cut_agrees row }
-{
-    print_named(
-        output,
-        b"five lines, write 0 with offer 0 cut after ",
-        row.0 as u64,
-    );
-    let mut disk = five_lines();
-    let told = tell_cut(output, &mut disk, row);
-    let mended = tell_mended(output, &mut disk, row);
-    told & mended
-}
+impl Row for CutRow {
+    ghost agrees = { cut_agrees };
 
-// Prints every row; answers how many agree.
-pub fn run_cuts(output: &mut Output, rows: [CutRow; 8]) -> u32
-    ensures { result ≡ agreeing cut_agrees rows }
-{
-    let mut agreed: u32 = 0;
-    let mut i = 0;
-    while i < 8 {
-        agreed = tally(agreed, run_cut(output, rows[i]));
-        i += 1;
+    fn run(self, output: &mut Output) -> bool {
+        print_named(
+            output,
+            b"five lines, write 0 with offer 0 cut after ",
+            self.0 as u64,
+        );
+        let mut disk = five_lines();
+        let told = tell_cut(output, &mut disk, self);
+        let mended = tell_mended(output, &mut disk, self);
+        told & mended
     }
-    agreed
 }

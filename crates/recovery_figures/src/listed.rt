@@ -1,14 +1,15 @@
 // A drive of document 01's geometry, B 32, k 2, P 3, H 2 and M 4, and lines of the listing written on it.
 ghost use Rattle.std.specs.Prelude.{◌≡◌};
 ghost use Rattle.model.specs.Calls.{formatted};
-ghost use Rattle.model.specs.Promises.Figures.{filled, small};
+ghost use Rattle.model.specs.Promises.Figures.{small};
 ghost use Rattle.model.specs.Promises.Limits.{listed_on};
-ghost use Rattle.mapper.specs.Writes.{call_offer};
-ghost use Rattle.recovery_figures.specs.Listed.{three_written, two_written, five_written, five_drive};
+ghost use Rattle.mapper.specs.Writes.{brought_by};
+ghost use Rattle.recovery_figures.specs.Listed.{data_offered, listed_offer, three_written, two_written};
+ghost use Rattle.recovery_figures.specs.Listed.{five_written, five_drive};
 
 use layout::geometry::Geometry;
 use layout::numbers::{HiddenNumber, PublicNumber};
-use mapper::{format_drive, write_block};
+use mapper::{HiddenOffer, format_drive, write_block};
 
 const SMALL: Geometry = Geometry {
     block_size: 32,
@@ -21,22 +22,33 @@ const SMALL: Geometry = Geometry {
 pub fn format_small(disk: &mut [u8])
     ensures { disk.new ≡ formatted disk.old small }
 {
-    format_drive(disk, SMALL);
+    let _ = format_drive(disk, SMALL);
 }
 
-// Writes a line: data and offered data are the line's number, the random bytes 165, the list has 23 entries.
-pub fn write_line(disk: &mut [u8], line: u8, number: u32, offered: bool, hidden: u32)
-    ensures { disk.new ≡
-        listed_on disk.old line number (call_offer offered hidden (filled line)) }
+// What is offered of data to a hidden number, or nothing.
+fn offer_of<'a>(number: Option<u32>, content: &'a [u8]) -> Option<HiddenOffer<'a>>
+    ensures { brought_by result ≡ data_offered number content.now }
+{
+    match number {
+        Some(number) => Some(HiddenOffer {
+            number: HiddenNumber(number),
+            content,
+        }),
+        None => None,
+    }
+}
+
+// Writes a line, with what is offered to a hidden number or none: data and offered data are the line's
+// number, the random bytes 165, the list has 23 entries.
+pub fn write_line(disk: &mut [u8], line: u8, number: u32, offer: Option<u32>)
+    ensures { disk.new ≡ listed_on disk.old line number (listed_offer offer line) }
 {
     let content = [line; 32];
-    write_block(
+    let _ = write_block(
         disk,
         PublicNumber(number),
         &content,
-        offered,
-        HiddenNumber(hidden),
-        &content,
+        offer_of(offer, &content),
         &[165u8; 256],
         &mut [99u32; 23],
     );
@@ -46,17 +58,17 @@ pub fn write_line(disk: &mut [u8], line: u8, number: u32, offered: bool, hidden:
 pub fn write_three(disk: &mut [u8])
     ensures { disk.new ≡ three_written disk.old }
 {
-    write_line(disk, 1, 0, false, 0);
-    write_line(disk, 2, 0, true, 1);
-    write_line(disk, 3, 1, false, 0);
+    write_line(disk, 1, 0, None);
+    write_line(disk, 2, 0, Some(1));
+    write_line(disk, 3, 1, None);
 }
 
 // Lines 2 - and 2 0: hidden 0 goes to slot 0.
 fn write_two(disk: &mut [u8])
     ensures { disk.new ≡ two_written disk.old }
 {
-    write_line(disk, 4, 2, false, 0);
-    write_line(disk, 5, 2, true, 0);
+    write_line(disk, 4, 2, None);
+    write_line(disk, 5, 2, Some(0));
 }
 
 // Formats a disk, and writes the five lines.

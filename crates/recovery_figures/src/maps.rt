@@ -1,14 +1,14 @@
 // Rows of a fresh drive with other map entries and every bit of its bitmap set: what a recovery answers, and
 // what it leaves of the bitmap.
 ghost use Rattle.std.specs.Prelude.{◌≡◌, ◌≤◌, length};
-ghost use Rattle.figure_lines.specs.Counts.{agreeing};
 ghost use Rattle.recovery_figures.specs.Maps.{map_made, map_told, map_agrees};
 
 use crate::listed::format_small;
 use crate::tells::{tell_bits, tell_recovery};
-use figure_lines::lines::{at_most, print_named, print_text, tally};
+use figure_lines::lines::print_named;
 use figure_lines::lists::print_entries;
-use figure_lines::output::Output;
+use figure_lines::output::{Output, put_bytes};
+use figure_lines::rows::Row;
 use layout::entries::put_entry;
 use stores::copies::copy_at;
 
@@ -22,7 +22,7 @@ pub struct MapRow(
     pub u32,
     pub u32,
     pub usize,
-    pub u8,
+    pub u32,
     pub u32,
     pub u32,
 );
@@ -52,33 +52,21 @@ fn tell_map(output: &mut Output, disk: &mut [u8], row: MapRow) -> bool
 
 fn print_map(output: &mut Output, row: MapRow) {
     let entries = [row.1, row.2, row.3, row.4];
-    print_named(output, b"fresh, bits set, head ", row.0 as u64);
-    print_text(output, b", map");
+    print_named(output, b"fresh, bits set, head ", u64::from(row.0));
+    put_bytes(output, b", map");
     print_entries(output, &entries, 4);
     print_named(output, b", ", row.5 as u64);
-    print_text(output, b" bytes:");
+    put_bytes(output, b" bytes:");
 }
 
-// Prints a row; answers whether it agrees.
-fn run_map(output: &mut Output, row: MapRow) -> bool
-    ensures { result ≡ map_agrees row }
-{
-    print_map(output, row);
-    let mut disk = [0u8; 512];
-    make_map(&mut disk, row);
-    let count = at_most(row.5, 512);
-    tell_map(output, &mut disk[..count], row)
-}
+impl Row for MapRow {
+    ghost agrees = { map_agrees };
 
-// Prints every row; answers how many agree.
-pub fn run_maps(output: &mut Output, rows: [MapRow; 11]) -> u32
-    ensures { result ≡ agreeing map_agrees rows }
-{
-    let mut agreed: u32 = 0;
-    let mut i = 0;
-    while i < 11 {
-        agreed = tally(agreed, run_map(output, rows[i]));
-        i += 1;
+    fn run(self, output: &mut Output) -> bool {
+        print_map(output, self);
+        let mut disk = [0u8; 512];
+        make_map(&mut disk, self);
+        let count = self.5.min(512);
+        tell_map(output, &mut disk[..count], self)
     }
-    agreed
 }

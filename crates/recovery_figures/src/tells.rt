@@ -6,31 +6,27 @@ ghost use Rattle.model.specs.Promises.Figures.{filled};
 ghost use Rattle.recovery_model.specs.Recovery.{recovered, recovery_refusal};
 ghost use Rattle.recovery_figures.specs.Tells.{public_first, hidden_first, bits_told};
 
-use figure_lines::lines::{byte_or, print_answer, print_count, print_text};
+use figure_lines::lines::{byte_or, print_count};
 use figure_lines::output::Output;
 use layout::numbers::{HiddenNumber, PublicNumber};
-use mapper::{hidden_read, public_fault, public_read, recover};
+use layout::refusals::answer_number;
+use mapper::{check_public, hidden_read, public_read, recover};
 
 // Recovers a disk, and prints the answer; answers whether it agrees.
-pub fn tell_recovery(output: &mut Output, disk: &mut [u8], answer: u8) -> bool
+pub fn tell_recovery(output: &mut Output, disk: &mut [u8], answer: u32) -> bool
     ensures told { result ≡ eqb answer (recovery_refusal disk.old) }
     ensures stored { disk.new ≡ recovered disk.old }
 {
-    let got = recover(disk);
-    print_text(output, b"  recovery");
-    print_answer(output, answer, got)
+    let got = answer_number(recover(disk));
+    print_count(output, b"  recovery", answer, u32::from(got))
 }
 
 // Prints what a public read of number 0 is refused for; answers whether it agrees.
-pub fn tell_fault(output: &mut Output, disk: &[u8], answer: u8) -> bool
+pub fn tell_fault(output: &mut Output, disk: &[u8], answer: u32) -> bool
     ensures { result ≡ eqb answer (public_read_refusal disk.now 0 (filled 0)) }
 {
-    print_text(output, b"  public read before it");
-    print_answer(
-        output,
-        answer,
-        public_fault(disk, PublicNumber(0), &[0u8; 32]),
-    )
+    let got = answer_number(check_public(disk, PublicNumber(0), &[0u8; 32]));
+    print_count(output, b"  public read before it", answer, u32::from(got))
 }
 
 // Prints the first byte that a public read of number 0 shows; answers whether it agrees.

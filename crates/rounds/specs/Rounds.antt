@@ -1,5 +1,5 @@
 -- What a round needs and does: the table's choice, its stores, and what it answers. Assumes nothing.
-use Rattle.std.specs.Prelude.{◌≡◌, ℕ, ◌+◌, ◌*◌, ◌-◌, ◌≤◌, ◌<◌, List, ltb, length, take}
+use Rattle.std.specs.Prelude.{◌≡◌, ℕ, ◌+◌, ◌*◌, ◌-◌, ◌≤◌, ◌<◌, List, ltb, length, take, Option}
 use Rattle.model.specs.Geometry.{Geometry, block_width}
 use Rattle.model.specs.Blocks.{Bytes, DiskAddress}
 use Rattle.model.specs.Layout.{map_entry}
@@ -9,7 +9,7 @@ use Rattle.model.specs.HiddenHalf.{HiddenWrite, HiddenState, hidden_half, row_of
 use Rattle.model.specs.Rounds.{choice_goes_on, round_trace}
 use Rattle.layout.specs.PublicMap.{OldEntry}
 use Rattle.stores.specs.Made.{LentFor, Made}
-use Rattle.line.specs.declared.turns.First.{First}
+use Rattle.line.specs.declared.offers.Offer.{Offer}
 use Rattle.plans.specs.HiddenPlans.{BlockLent}
 use Rattle.plans.specs.States.{first_place, waiting_by, turned}
 use Rattle.round_stores.specs.declared.planned.PlannedRound.{PlannedRound}
@@ -36,8 +36,8 @@ pub record StoresReady (g : Geometry) (disk buffer : Bytes) (list : List DiskAdd
 
 -- a public number with a place or none, a slot, a whole block of data, the first one's block lent whole, and
 -- random bytes for one round
-pub record RoundReady (g : Geometry) (disk : Bytes) (number slot : ℕ) (content random : Bytes) (first : First)
-    (blocks : Bytes) : Type 0 where
+pub record RoundReady (g : Geometry) (disk : Bytes) (number slot : ℕ) (content random : Bytes)
+    (first : Option Offer) (blocks : Bytes) : Type 0 where
   pub number_inside : number < g.publics
   pub slot_inside : slot < g.slots
   pub content_whole : length content ≡ g.block_size
@@ -48,7 +48,8 @@ pub record RoundReady (g : Geometry) (disk : Bytes) (number slot : ℕ) (content
 -- what is lent for all stores of a round, by some state in which this one is first, and a bound that the list
 -- has not passed
 pub record RoundLent (g : Geometry) (disk buffer : Bytes) (list : List DiskAddress)
-    (next bound number slot : ℕ) (content random : Bytes) (first : First) (blocks : Bytes) : Type 0 where
+    (next bound number slot : ℕ) (content random : Bytes) (first : Option Offer) (blocks : Bytes) :
+    Type 0 where
   pub state : HiddenState
   pub later : List HiddenWrite
   pub waits : state.waiting ≡ waiting_by g blocks first later

@@ -12,7 +12,7 @@ ghost use Rattle.rounds.specs.Rounds.{StoresReady, RoundReady, RoundLent, RoundD
 
 use layout::geometry::Geometry;
 use layout::numbers::PublicNumber;
-use line::turns::First;
+use line::offers::Offer;
 use plans::plans::plan_round;
 use plans::public_plans::plan_public;
 use plans::states::Turn;
@@ -34,20 +34,7 @@ pub struct Step {
 fn is_kept(choice: PublicChoice) -> bool
     ensures { result ≡ choice_goes_on (public_of choice) }
 {
-    match choice {
-        PublicChoice::Keep => true,
-        PublicChoice::Write => false,
-    }
-}
-
-// The lesser of a count and a room.
-fn within(count: u32, room: usize) -> u32
-    ensures { result ≡ min count room }
-{
-    if room < (count as usize) {
-        return room as u32;
-    }
-    count
+    choice == PublicChoice::Keep
 }
 
 // Makes the first so many stores of a planned round, one after another; answers the index after them in the
@@ -70,14 +57,12 @@ fn store_round(
         disk.old content.now blocks.now random.now))
         disk.old list.old first disk.new list.new result }
 {
-    let mut place: u32 = 0;
     let mut next = first;
-    while place < count {
+    for place in 0..count {
         let descriptor = round_store(g, round, place);
         next = make_store(
             disk, list, next, g, descriptor, content, blocks, random, buffer,
         );
-        place += 1;
     }
     next
 }
@@ -94,7 +79,7 @@ pub fn do_round(
     slot: u32,
     content: &[u8],
     random: &[u8],
-    first: First,
+    first: Option<Offer>,
     blocks: &[u8],
     buffer: &mut [u8],
 ) -> Step
@@ -117,7 +102,8 @@ pub fn do_round(
         hidden: plan,
     };
     let all = store_count(g, round);
-    let count = within(all, bound - next);
+    let room = bound - next;
+    let count = (all as usize).min(room) as u32;
     let last = store_round(
         disk, list, next, g, round, count, content, blocks, random, buffer,
     );

@@ -1,12 +1,13 @@
 // The rounds of a write, from the head on until one takes the call's data.
 ghost use Rattle.std.specs.Prelude.{length};
 ghost use Rattle.layout.specs.Geometries.{geometry_of};
-ghost use Rattle.line.specs.Turns.{offers_by};
+ghost use Rattle.line.specs.Offers.{offers_of};
 ghost use Rattle.rounds.specs.Runs.{turns_run, Runnable, RunLent, RunMade};
 
 use crate::rounds::do_round;
 use layout::geometry::Geometry;
 use layout::numbers::PublicNumber;
+use line::offers::Offer;
 use line::turns::first_of;
 use plans::states::{State, state_after};
 
@@ -32,20 +33,19 @@ pub fn do_rounds(
     head: u32,
     content: &[u8],
     random: &[u8],
-    numbers: &[u32],
-    places: &[u32],
+    turns: &[Offer],
     blocks: &[u8],
     buffer: &mut [u8],
 ) -> Ran
     requires runnable { Runnable (geometry_of g) disk.old number.0 head content.now random.now
-        (offers_by numbers.now places.now) blocks.now (turns_run (geometry_of g) disk.old number.0
-        head content.now random.now (offers_by numbers.now places.now) blocks.now) first
+        (offers_of turns.now) blocks.now (turns_run (geometry_of g) disk.old number.0
+        head content.now random.now (offers_of turns.now) blocks.now) first
         (length list.old) }
     requires run_lent { RunLent (geometry_of g) buffer.old first bound }
     ensures { RunMade (geometry_of g) disk.old list.old first bound (turns_run
         (geometry_of g) disk.old number.0 head content.now random.now
-        (offers_by numbers.now places.now) blocks.now)
-        (offers_by numbers.now places.now) blocks.now disk.new
+        (offers_of turns.now) blocks.now)
+        (offers_of turns.now) blocks.now disk.new
         list.new result }
 {
     let slots = g.slots;
@@ -56,11 +56,10 @@ pub fn do_rounds(
         placed: 0,
         met_damage: false,
     };
-    let mut done: u32 = 0;
-    while done < slots {
+    for done in 0..slots {
         let from = (done as usize) * width;
         let placed = reached.placed;
-        let waiting = first_of(numbers, places, placed);
+        let waiting = first_of(turns, placed);
         let step = do_round(
             disk,
             list,
@@ -89,11 +88,10 @@ pub fn do_rounds(
         }
         let turn = step.turn;
         reached = state_after(reached, turn);
-        done += 1;
         if !step.goes_on {
             return Ran {
                 next,
-                rounds: done,
+                rounds: done + 1,
                 state: reached,
                 is_cut: false,
             };
@@ -102,7 +100,7 @@ pub fn do_rounds(
     }
     Ran {
         next,
-        rounds: done,
+        rounds: slots,
         state: reached,
         is_cut: false,
     }
@@ -119,18 +117,17 @@ pub fn run_write(
     head: u32,
     content: &[u8],
     random: &[u8],
-    numbers: &[u32],
-    places: &[u32],
+    turns: &[Offer],
     blocks: &[u8],
 ) -> Ran
     requires { Runnable (geometry_of g) disk.old number.0 head content.now random.now
-        (offers_by numbers.now places.now) blocks.now (turns_run (geometry_of g) disk.old number.0
-        head content.now random.now (offers_by numbers.now places.now) blocks.now) 0
+        (offers_of turns.now) blocks.now (turns_run (geometry_of g) disk.old number.0
+        head content.now random.now (offers_of turns.now) blocks.now) 0
         (length list.old) }
     ensures { RunMade (geometry_of g) disk.old list.old 0 bound (turns_run
         (geometry_of g) disk.old number.0 head content.now random.now
-        (offers_by numbers.now places.now) blocks.now)
-        (offers_by numbers.now places.now) blocks.now disk.new
+        (offers_of turns.now) blocks.now)
+        (offers_of turns.now) blocks.now disk.new
         list.new result }
 {
     let size = g.block_size as usize;
@@ -145,8 +142,7 @@ pub fn run_write(
         head,
         content,
         random,
-        numbers,
-        places,
+        turns,
         blocks,
         &mut buffer[..size],
     )

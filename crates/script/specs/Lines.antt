@@ -1,9 +1,10 @@
 -- What a line of the listing's input means (document 01, "Figures to hold against"): public number, one
 -- space, and offered number or `-`, each number 1 to 9 digits. Assumes nothing.
-use Rattle.std.specs.Prelude.{◌≡◌, Bool, false, cond, ◌&&◌, [], ◌∷◌, ℕ, ◌+◌, ◌≤◌, eqb, ltb, leb, length, take}
-use Rattle.std.specs.Prelude.{drop}
+use Rattle.std.specs.Prelude.{◌≡◌, ◌≢◌, Bool, false, cond, ◌&&◌, [], ◌∷◌, ℕ, ◌<◌, eqb, ltb, leb, length}
+use Rattle.std.specs.Prelude.{slice_index, Option as Maybe, Some, None}
 use Rattle.std.proofs.Math.Option.{Option, none, some}
 use Rattle.script.specs.Texts.{Text, space, dash, is_digits, value_of_digits}
+use Rattle.layout.specs.declared.numbers.HiddenNumber.{HiddenNumber}
 use Rattle.script.specs.declared.lines.Field as declaredField
 use Rattle.script.specs.declared.lines.Line as declaredLine
 
@@ -19,11 +20,13 @@ unfoldable pub after_space : Text → Text
 after_space [] = []
 after_space (byte ∷ bytes) = cond (eqb byte space) bytes (after_space bytes)
 
--- the first space stands here, or the line ends here
-pub record Split (bytes : Text) (at : ℕ) : Type 0 where
-  pub inside : at ≤ length bytes
-  pub before : take at bytes ≡ before_space bytes
-  pub after : drop (at + 1) bytes ≡ after_space bytes
+-- none of so many bytes at the front is a space
+abbrev pub NoSpace : (bytes : Text) → (count : ℕ) → Type 0
+NoSpace bytes count = (index : ℕ) → index < count → slice_index bytes index ≢ space
+
+-- the first space stands here
+abbrev pub FirstSpace : (bytes : Text) → (at : ℕ) → Type 0
+FirstSpace bytes at = (at < length bytes) × (slice_index bytes at ≡ space) × NoSpace bytes at
 
 -- 1 to 9 digits
 abbrev pub is_number : Text → Bool
@@ -71,7 +74,11 @@ field_of (declaredField.TheVariants.Number value) = number value
 field_of declaredField.TheVariants.Dash = absent
 field_of declaredField.TheVariants.Other = other
 
-abbrev pub meaning_of : declaredLine.Line → Line
-meaning_of (declaredLine.TheVariants.Bare value) = good value.0 none
-meaning_of (declaredLine.TheVariants.Offering value offer) = good value.0 (some offer.0)
-meaning_of declaredLine.TheVariants.Bad = bad
+-- an offered number as a plain number
+abbrev pub plain_offer : Maybe HiddenNumber → Option ℕ
+plain_offer None = none
+plain_offer (Some offer) = some offer.0
+
+abbrev pub meaning_of : Maybe declaredLine.Line → Line
+meaning_of None = bad
+meaning_of (Some line) = good line.number.0 (plain_offer line.offer)

@@ -66,8 +66,8 @@ pub fn feed_end(state: Feed, buffer: &[u8]) -> Feed
     }
 }
 
-// What the line that is held says.
-pub fn read_held(buffer: &[u8], held: usize) -> Line
+// What the line that is held says, if it is of a good form.
+pub fn read_held(buffer: &[u8], held: usize) -> Option<Line>
     ensures { meaning_of result ≡ line_in (take held buffer.now) }
 {
     if held < buffer.len() {

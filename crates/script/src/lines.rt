@@ -1,6 +1,7 @@
 // A line of input: public number, one space, and offered number or `-`, each number 1 to 9 digits.
-ghost use Rattle.std.specs.Prelude.{◌≡◌};
-ghost use Rattle.script.specs.Lines.{is_dash, Split, field_in, field_of, line_from, line_in, meaning_of};
+ghost use Rattle.std.specs.Prelude.{◌≡◌, length, MatchOption};
+ghost use Rattle.script.specs.Lines.{is_dash, NoSpace, FirstSpace, field_in, field_of, line_from, line_in};
+ghost use Rattle.script.specs.Lines.{meaning_of};
 
 use layout::numbers::{HiddenNumber, PublicNumber};
 
@@ -12,38 +13,29 @@ pub enum Field {
     Other,
 }
 
-// What a line says: a public number alone, a public and an offered number, or a line of another form.
+// What a line of a good form says: a public number, and an offered number if there is one.
 #[derive(Clone, Copy)]
-pub enum Line {
-    Bare(PublicNumber),
-    Offering(PublicNumber, HiddenNumber),
-    Bad,
+pub struct Line {
+    pub number: PublicNumber,
+    pub offer: Option<HiddenNumber>,
 }
 
-// The place of the first space, or the length where there is none.
-fn space_in(bytes: &[u8]) -> usize
-    ensures { Split bytes.now result }
+// The place of the first space, if there is any.
+fn space_in(bytes: &[u8]) -> Option<usize>
+    ensures { MatchOption result (NoSpace bytes.now (length bytes.now)) (λ at. FirstSpace bytes.now at) }
 {
-    let mut i = 0;
-    while i < bytes.len() {
-        if bytes[i] == 32 {
-            return i;
-        }
-        i += 1;
-    }
-    i
+    bytes.iter().position(|byte| *byte == 32)
 }
 
 // Whether the bytes are `-` alone.
 fn is_dash(bytes: &[u8]) -> bool
     ensures { result ≡ is_dash bytes.now }
 {
-    if bytes.len() == 1 {
-        bytes[0] == 45
-    } else {
-        false
-    }
+    bytes == b"-".as_slice()
 }
+
+// Digits that a number has at most.
+const MOST_DIGITS: usize = 9;
 
 // What a field says.
 fn field_in(bytes: &[u8]) -> Field
@@ -53,51 +45,41 @@ fn field_in(bytes: &[u8]) -> Field
         return Field::Dash;
     }
     let len = bytes.len();
-    if len == 0 {
-        return Field::Other;
-    }
-    if 9 < len {
+    if len == 0 || MOST_DIGITS < len {
         return Field::Other;
     }
     let mut value: u32 = 0;
-    let mut i = 0;
-    while i < len {
-        let byte = bytes[i];
-        if byte < 48 {
+    for byte in bytes {
+        if !byte.is_ascii_digit() {
             return Field::Other;
         }
-        if 57 < byte {
-            return Field::Other;
-        }
-        value = value * 10 + (byte - 48) as u32;
-        i += 1;
+        value = value * 10 + (*byte - 48) as u32;
     }
     Field::Number(value)
 }
 
-// What two fields make of a line.
-fn line_from(first: Field, second: Field) -> Line
+// What two fields make of a line, if it is of a good form.
+fn line_from(first: Field, second: Field) -> Option<Line>
     ensures { meaning_of result ≡ line_from (field_of first) (field_of second) }
 {
-    match first {
-        Field::Number(number) => match second {
-            Field::Number(offer) => Line::Offering(PublicNumber(number), HiddenNumber(offer)),
-            Field::Dash => Line::Bare(PublicNumber(number)),
-            Field::Other => Line::Bad,
-        },
-        Field::Dash => Line::Bad,
-        Field::Other => Line::Bad,
+    match (first, second) {
+        (Field::Number(number), Field::Number(offer)) => Some(Line {
+            number: PublicNumber(number),
+            offer: Some(HiddenNumber(offer)),
+        }),
+        (Field::Number(number), Field::Dash) => Some(Line {
+            number: PublicNumber(number),
+            offer: None,
+        }),
+        _ => None,
     }
 }
 
-// What a line says, given without its newline; of any length.
-pub fn read_line(bytes: &[u8]) -> Line
+// What a line says, given without its newline and of any length, if it is of a good form.
+pub fn read_line(bytes: &[u8]) -> Option<Line>
     ensures { meaning_of result ≡ line_in bytes.now }
 {
-    let space = space_in(bytes);
-    if space == bytes.len() {
-        return Line::Bad;
-    }
+    let space = space_in(bytes)?;
     let after = space + 1;
     let first = field_in(&bytes[..space]);
     let second = field_in(&bytes[after..]);

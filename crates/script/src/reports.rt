@@ -30,19 +30,13 @@ fn put_word(out: &mut [u8], at: usize, outcome: u8) -> usize
     requires { at + 9 ≤ length out.old }
     ensures { Put (outcome_text outcome) out.old at out.new result }
 {
-    if outcome == 0 {
-        return put_text(out, at, b"none");
+    match outcome {
+        0 => put_text(out, at, b"none"),
+        1 => put_text(out, at, b"placed"),
+        2 => put_text(out, at, b"waiting"),
+        3 => put_text(out, at, b"not tried"),
+        _ => put_number(out, at, outcome as u64),
     }
-    if outcome == 1 {
-        return put_text(out, at, b"placed");
-    }
-    if outcome == 2 {
-        return put_text(out, at, b"waiting");
-    }
-    if outcome == 3 {
-        return put_text(out, at, b"not tried");
-    }
-    put_number(out, at, outcome as u64)
 }
 
 // Puts a hidden outcome and a space.
@@ -78,10 +72,8 @@ fn put_later(out: &mut [u8], at: usize, stores: &[u32]) -> usize
     ensures { Put (later_text stores.now) out.old at out.new result }
 {
     let mut next = at;
-    let mut i = 0;
-    while i < stores.len() {
-        next = put_store(out, next, DiskAddress(stores[i]));
-        i += 1;
+    for store in stores {
+        next = put_store(out, next, DiskAddress(*store));
     }
     next
 }
@@ -91,12 +83,16 @@ fn put_stores(out: &mut [u8], at: usize, stores: &[u32]) -> usize
     requires { at + stores_room (length stores.now) ≤ length out.old }
     ensures { Put (stores_text stores.now) out.old at out.new result }
 {
-    if stores.len() == 0 {
-        out[at] = 45;
-        return at + 1;
+    match stores {
+        [] => {
+            out[at] = 45;
+            at + 1
+        }
+        [first, later @ ..] => {
+            let next = put_address(out, at, DiskAddress(*first));
+            put_later(out, next, later)
+        }
     }
-    let next = put_address(out, at, DiskAddress(stores[0]));
-    put_later(out, next, &stores[1..])
 }
 
 // Puts a line's number, answer and rounds at the front.

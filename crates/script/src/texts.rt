@@ -7,12 +7,9 @@ pub fn put_text(out: &mut [u8], at: usize, text: &[u8]) -> usize
     requires { at + length text.now ≤ length out.old }
     ensures { Put text.now out.old at out.new result }
 {
-    let mut done = 0;
-    while done < text.len() {
-        out[at + done] = text[done];
-        done += 1;
-    }
-    at + done
+    let end = at + text.len();
+    out[at..end].copy_from_slice(text);
+    end
 }
 
 // Puts a number in decimal, without leading zeros.

@@ -14,7 +14,7 @@ ghost use Rattle.slot_stores.specs.Slots.{SlotPlace};
 ghost use Rattle.slot_stores.specs.Sources.{node_source, data_source};
 
 use hidden_map::branches::branch_at;
-use hidden_map::nodes::{Node, Nodes, node_at};
+use hidden_map::nodes::{Nodes, node_at};
 use layout::geometry::{Geometry, fanout, root_address};
 use layout::levels::level_address;
 use layout::numbers::{DiskAddress, HiddenNumber};
@@ -23,12 +23,12 @@ use stores::changes::Change;
 use stores::descriptors::{Descriptor, Source, own, plain};
 
 // Where a path's node is taken from: the disk, or zeros where it was not reached.
-fn node_source(node: Node) -> Source
+fn node_source(node: Option<DiskAddress>) -> Source
     ensures { result ≡ node_source node }
 {
     match node {
-        Node::Read(address) => Source::Disk(address),
-        Node::NotReached => Source::Zeros,
+        Some(address) => Source::Disk(address),
+        None => Source::Zeros,
     }
 }
 
@@ -38,7 +38,8 @@ fn node_store(g: Geometry, slot: u32, number: HiddenNumber, nodes: Nodes, level:
     requires slot_place { SlotPlace (geometry_of g) slot 1 (geometry_of g).height level }
     requires stands_by_level { StandsByLevel (geometry_of g) (address_at nodes) }
     ensures { Describes (geometry_of g) none level (λ disk content blocks random.
-        store (level_address (geometry_of g) slot level) (linked_node (geometry_of g) number.0 slot (level - 1)
+        store (level_address (geometry_of g) slot level)
+        (linked_node (geometry_of g) number.0 slot (level - 1)
         (block_of_node (geometry_of g) disk (address_at nodes level)))) result }
 {
     let address = level_address(g, slot, level);

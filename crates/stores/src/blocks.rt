@@ -55,12 +55,8 @@ pub fn make_store(
         content.now blocks.now random.now ∷ [])
         disk.old list.old next disk.new list.new result }
 {
-    let source = descriptor.source;
-    let first = descriptor.first;
-    let second = descriptor.second;
-    let address = descriptor.address;
-    take_source(disk, g, source, content, blocks, random, buffer);
-    change_block(buffer, first);
-    change_block(buffer, second);
-    store_block(disk, list, next, g, address, buffer)
+    take_source(disk, g, descriptor.source, content, blocks, random, buffer);
+    change_block(buffer, descriptor.first);
+    change_block(buffer, descriptor.second);
+    store_block(disk, list, next, g, descriptor.address, buffer)
 }

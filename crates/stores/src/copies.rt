@@ -7,11 +7,7 @@ pub fn copy_at(target: &mut [u8], at: usize, source: &[u8])
     requires { at + length source.now ≤ length target.old }
     ensures { target.new ≡ over at source.now target.old }
 {
-    let mut i = 0;
-    while i < source.len() {
-        target[at + i] = source[i];
-        i += 1;
-    }
+    target[at..at + source.len()].copy_from_slice(source);
 }
 
 // Sets so many bytes from an index on to 0; the other bytes stay.
@@ -19,9 +15,5 @@ pub fn clear_at(target: &mut [u8], at: usize, count: usize)
     requires { at + count ≤ length target.old }
     ensures { target.new ≡ over at (replicate count 0) target.old }
 {
-    let mut i = 0;
-    while i < count {
-        target[at + i] = 0;
-        i += 1;
-    }
+    target[at..at + count].fill(0);
 }

@@ -1,13 +1,11 @@
 // A store before it is made, and the block that it begins with.
-ghost use Rattle.std.specs.Prelude.{◌≡◌, ◌+◌, ◌*◌, ◌≤◌, length};
-ghost use Rattle.model.specs.Geometry.{block_width};
-ghost use Rattle.model.specs.Blocks.{block_at};
+ghost use Rattle.std.specs.Prelude.{◌≡◌};
 ghost use Rattle.layout.specs.Geometries.{geometry_of};
 ghost use Rattle.stores.specs.Descriptors.{plain_of, own_of, source_block, Fillable};
 
 use crate::changes::Change;
 use crate::copies::{clear_at, copy_at};
-use layout::blocks::block_at;
+use layout::blocks::{block_at, lent_block};
 use layout::geometry::Geometry;
 use layout::numbers::DiskAddress;
 
@@ -54,17 +52,6 @@ pub fn own(address: DiskAddress, first: Change, second: Change) -> Descriptor
         first,
         second,
     }
-}
-
-// The block that stands so many blocks into lent bytes.
-fn lent_block<'a>(lent: &'a [u8], g: Geometry, index: u32) -> &'a [u8]
-    requires { index * (geometry_of g).block_size + (geometry_of g).block_size ≤ length lent.now }
-    ensures { result.now ≡ block_at (block_width (geometry_of g)) lent.now index }
-{
-    let width = g.block_size as usize;
-    let from = (index as usize) * width;
-    let to = from + width;
-    &lent[from..to]
 }
 
 // Takes the block of a source into a lent buffer of one block.

@@ -2,12 +2,12 @@
 // hidden blocks of its slot, as a constant that is looked up by three answers.
 #![tactic(auto)]
 
-ghost use Rattle.std.specs.Prelude.{◌≡◌, ◌≤◌, ◌<◌};
-ghost use Rattle.model.specs.Table.{digit, row_index, row_at};
+ghost use Rattle.std.specs.Prelude.{◌≡◌, ◌<◌};
+ghost use Rattle.model.specs.Table.{row_index, row_at};
 ghost use Rattle.table.specs.Rows.{table_row_of};
 
 // A public block is kept, or takes the call's data.
-#[derive(Clone, Copy)]
+#[derive(Clone, Copy, PartialEq, Eq)]
 pub enum PublicChoice {
     Keep,
     Write,
@@ -73,18 +73,11 @@ const ROWS: [Row; 8] = [
 
 // ---- look-up ----
 
-// 1 for an answer that is true, else 0.
-fn digit_of(answer: bool) -> usize
-    ensures { (result ≡ digit answer) × (result ≤ 1) }
-{
-    if answer { 1 } else { 0 }
-}
-
-// A row's place in the table.
+// A row's place in the table: each answer that is true counts, 4, 2 and 1.
 fn row_index(is_waiting: bool, is_allocated: bool, is_live: bool) -> usize
     ensures { (result ≡ row_index is_waiting is_allocated is_live) × (result < 8) }
 {
-    4 * digit_of(is_waiting) + 2 * digit_of(is_allocated) + digit_of(is_live)
+    4 * usize::from(is_waiting) + 2 * usize::from(is_allocated) + usize::from(is_live)
 }
 
 // The row for whether a hidden write waits, the slot is allocated, and the slot is live.

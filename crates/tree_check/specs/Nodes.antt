@@ -1,14 +1,12 @@
 -- What is asked of a node and of a place in it: a node that is read, one of its entries, the entries that are
 -- gone through. Assumes nothing.
-use Rattle.std.specs.Prelude.{◌≡◌, ◌≢◌, ℕ, suc, ◌*◌, ◌/◌, ◌≤◌, ◌<◌, ◌+◌}
-use Rattle.std.proofs.Math.Option.{none}
+use Rattle.std.specs.Prelude.{◌≡◌, ℕ, suc, ◌*◌, ◌/◌, ◌≤◌, ◌<◌, ◌+◌}
 use Rattle.model.specs.Geometry.{Geometry, block_count, block_width, Fits, fanout}
 use Rattle.model.specs.Blocks.{Bytes, DiskAddress, block_at}
 use Rattle.model.specs.Layout.{Drive}
 use Rattle.model.specs.HiddenTree.{span}
 use Rattle.model.specs.Invariants.{entries_in}
-use Rattle.hidden_map.specs.Nodes.{read_from, read_at, address_at}
-use Rattle.hidden_map.specs.declared.nodes.Nodes.{Nodes}
+use Rattle.hidden_map.specs.Nodes.{read_from, read_at}
 
 -- a block of a drive that is read as a node with entries of a level, and whose numbers begin with this one
 pub record NodeOf (g : Geometry) (disk : Bytes) (level first : ℕ) (node : DiskAddress) : Type 0 where
@@ -43,9 +41,3 @@ pub record PlaceIn (g : Geometry) (level place : ℕ) : Type 0 where
   pub fits : Fits g
   pub level_lt : level < g.height
   pub place_lt : place < fanout g
-
--- the node of a level is one of those that a walk read
-pub record NodeRead (nodes : Nodes) (level : ℕ) : Type 0 where
-  pub level_low : 1 ≤ level
-  pub level_high : level ≤ 3
-  pub is_read : address_at nodes level ≢ none

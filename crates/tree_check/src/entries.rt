@@ -8,64 +8,64 @@ ghost use Rattle.layout.specs.Geometries.{geometry_of};
 ghost use Rattle.tree_check.specs.Entries.{TestedAs, Ownable};
 
 use crate::spans::is_below;
-use hidden_map::branches::is_well_formed;
+use hidden_map::branches::{area_of, is_well_formed};
 use hidden_map::nodes::Nodes;
 use hidden_map::walks::walk;
-use layout::geometry::{Geometry, area_start, slot_of, slot_width};
+use layout::geometry::{Geometry, slot_of};
 use layout::numbers::DiskAddress;
+use layout::refusals::Refusal;
 use owners::{ends_in, owner_of};
-
-// What the tests of an entry tell: its fault, or, of one that passed, the nodes of the walk of the owner of
-// the slot that it leads to.
-#[derive(Clone, Copy)]
-pub enum Tested {
-    Fault(u8),
-    Passed(Nodes),
-}
 
 // Whether an address is that of a block of a level in some slot.
 fn is_formed(g: Geometry, level: u32, address: DiskAddress) -> bool
     requires { Fits (geometry_of g) }
     ensures { result ≡ is_well_formed (geometry_of g) level address.0 }
 {
-    let height = g.height;
-    let start = area_start(g);
-    let count = start.0 + g.slots * slot_width(g);
-    is_well_formed(height, start, count, level, address)
+    is_well_formed(area_of(g), level, address)
 }
 
 // 15 of an entry that 13 and 14 do not meet: the owner of the slot that it leads to is not below it, or the
 // owner's walk does not end at the slot's last block.
-fn test_owner(disk: &[u8], g: Geometry, level: u32, first: u64, entry: DiskAddress) -> Tested
+fn test_owner(
+    disk: &[u8],
+    g: Geometry,
+    level: u32,
+    first: u64,
+    entry: DiskAddress,
+) -> Result<Nodes, Refusal>
     requires { Ownable (geometry_of g) disk.now level first entry.0 }
     ensures { TestedAs (geometry_of g) disk.now (met_entry level first entry.0) result }
 {
     let slot = slot_of(g, entry);
     let owner = owner_of(disk, g, slot);
     if !is_below(g, level, first, owner) {
-        return Tested::Fault(15);
+        return Err(Refusal::WrongOwner);
     }
     let trail = walk(disk, g, owner);
-    let end = trail.end;
-    if !ends_in(g, end, slot) {
-        return Tested::Fault(15);
+    if !ends_in(g, trail.end, slot) {
+        return Err(Refusal::WrongOwner);
     }
-    let nodes = trail.nodes;
-    Tested::Passed(nodes)
+    Ok(trail.nodes)
 }
 
 // 13, 14 or 15 of an entry of a level whose numbers begin with this one, the first that holds. The first
 // number may lie past every hidden number, and past 32 bits.
-pub fn test_entry(disk: &[u8], g: Geometry, level: u32, first: u64, entry: DiskAddress) -> Tested
+pub fn test_entry(
+    disk: &[u8],
+    g: Geometry,
+    level: u32,
+    first: u64,
+    entry: DiskAddress,
+) -> Result<Nodes, Refusal>
     requires drive { Drive (geometry_of g) disk.now }
     requires level_lt_height { level < g.height }
     ensures { TestedAs (geometry_of g) disk.now (met_entry level first entry.0) result }
 {
     if !is_formed(g, level, entry) {
-        return Tested::Fault(13);
+        return Err(Refusal::IllFormed);
     }
     if g.hidden as u64 <= first {
-        return Tested::Fault(14);
+        return Err(Refusal::PastHidden);
     }
     test_owner(disk, g, level, first, entry)
 }

@@ -28,17 +28,11 @@ pub fn span_of(g: Geometry, level: u32) -> u64
     requires level_lt_height { level < g.height }
     ensures { result ≡ span (geometry_of g) level }
 {
-    let fanout = fanout(g) as u64;
     if level == 0 {
         return 1;
     }
-    if level == 1 {
-        return fanout - 1;
-    }
-    if level == 2 {
-        return (fanout - 1) * fanout;
-    }
-    (fanout - 1) * (fanout * fanout)
+    let fanout = fanout(g) as u64;
+    (fanout - 1) * fanout.pow(level - 1)
 }
 
 // Whether a number is one of those below an entry of a level whose numbers begin with this one.

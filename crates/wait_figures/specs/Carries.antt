@@ -1,4 +1,5 @@
 -- When a line that writes carry along waits as long as its row says. Assumes nothing.
+use Rattle.std.specs.Prelude.{None}
 use Rattle.std.specs.Prelude.{Bool, ◌&&◌, cond, List, ℕ, zero, suc, ◌+◌, ◌*◌, ◌^◌, ◌≤◌, eqb, ltb, length}
 use Rattle.model.specs.Blocks.{Bytes}
 use Rattle.model.specs.Table.{digit}
@@ -58,5 +59,5 @@ pub record Few (times : ℕ) (carried : Carried) : Type 0 where
 
 unfoldable pub carry_agrees : CarryRow → Bool
 carry_agrees row =
-    let carry = carry_until 20 row.1 (carry_on (live_drive 65535 0) (line_of (line_said row.0))) in
+    let carry = carry_until 20 row.1 (carry_on (live_drive None) (line_of (line_said row.0))) in
     eqb row.2 carry.rounds && eqb row.3 carry.waits

@@ -1,7 +1,8 @@
 -- The drive of the rows: slots 0 to 6 are live, slot 7 is not. Assumes nothing.
-use Rattle.std.specs.Prelude.{ℕ, replicate}
+use Rattle.std.specs.Prelude.{Option, replicate}
 use Rattle.model.specs.Blocks.{Bytes}
-use Rattle.figure_lines.specs.Counts.{puts}
+use Rattle.figure_lines.specs.declared.lines.Put.{Put}
+use Rattle.figure_lines.specs.Counts.{puts_said}
 use Rattle.line_cases.specs.Cases.{case_from}
 use Rattle.line_cases.specs.declared.cases.Start.{Start}
 
@@ -19,9 +20,9 @@ live_start =
       line = 30065827888;
     }
 
--- on a disk, with an entry put
-abbrev pub live_made : (index value : ℕ) → (disk : Bytes) → Bytes
-live_made index value disk = puts index value (case_from live_start disk).disk
+-- on a disk, with an entry put or none
+abbrev pub live_made : Option Put → (disk : Bytes) → Bytes
+live_made put disk = puts_said put (case_from live_start disk).disk
 
-abbrev pub live_drive : (index value : ℕ) → Bytes
-live_drive index value = live_made index value (replicate 896 0)
+abbrev pub live_drive : Option Put → Bytes
+live_drive put = live_made put (replicate 896 0)

@@ -1,5 +1,5 @@
 -- When an offer that is made with each write fares as its row says. Assumes nothing.
-use Rattle.std.specs.Prelude.{Bool, true, ℕ, zero, suc, eqb, replicate}
+use Rattle.std.specs.Prelude.{Bool, true, None, ℕ, zero, suc, eqb, replicate}
 use Rattle.model.specs.Blocks.{Bytes}
 use Rattle.model.specs.Calls.{Written, written, written_disk, outcome_number}
 use Rattle.model.specs.Promises.Figures.{filled}
@@ -25,4 +25,4 @@ offers_written (suc times) number disk = offer_written number (offers_written ti
 
 unfoldable pub offer_agrees : OfferRow → Bool
 offer_agrees row =
-    eqb row.2 (offer_told row.0 (offers_written row.1 row.0 (live_drive 65535 0)))
+    eqb row.2 (offer_told row.0 (offers_written row.1 row.0 (live_drive None)))

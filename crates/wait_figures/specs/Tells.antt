@@ -9,10 +9,10 @@ use Rattle.wait_figures.specs.declared.tells.WaitRow.{WaitRow}
 -- the head, and what the call tells
 abbrev pub wait_told : WaitRow → (disk : Bytes) → Wait → Bool
 wait_told row disk wait =
-    eqb row.3 (entry_or 5 disk) && eqb row.4 wait.answer && eqb row.5 wait.rounds
+    eqb row.2 (entry_or 5 disk) && eqb row.3 wait.answer && eqb row.4 wait.rounds
 
 abbrev pub wait_holds : WaitRow → (disk : Bytes) → Bool
 wait_holds row disk = wait_told row disk (wait_in disk)
 
 unfoldable pub wait_agrees : WaitRow → Bool
-wait_agrees row = wait_holds row (take row.2 (live_drive row.0 row.1))
+wait_agrees row = wait_holds row (take row.1 (live_drive row.0))

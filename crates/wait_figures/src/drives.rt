@@ -4,18 +4,15 @@
 ghost use Rattle.std.specs.Prelude.{◌≡◌};
 ghost use Rattle.wait_figures.specs.Drives.{live_made, live_drive};
 
-use figure_lines::lines::put_on;
+use figure_lines::lines::{Put, put_said};
 use line_cases::cases::{Start, prepare};
-
-// The index of no entry: the drive has fewer.
-pub const NO: usize = 65535;
 
 // A line of seven: numbers 0 to 6, each at place 0. A write has one round here, and places one of them.
 const SEVEN: u64 = 0x7_0010_2030;
 
-// Makes the drive on a disk of its size, and puts an entry.
-fn make_live(disk: &mut [u8], index: usize, value: u32)
-    ensures { disk.new ≡ live_made index value disk.old }
+// Makes the drive on a disk of its size, and puts an entry or none.
+fn make_live(disk: &mut [u8], put: Option<Put>)
+    ensures { disk.new ≡ live_made put disk.old }
 {
     let start = Start {
         publics: 1,
@@ -28,14 +25,14 @@ fn make_live(disk: &mut [u8], index: usize, value: u32)
         line: SEVEN,
     };
     prepare(disk, start);
-    put_on(disk, index, value);
+    put_said(disk, put);
 }
 
-// The drive, with an entry put.
-pub fn live_drive(index: usize, value: u32) -> [u8; 896]
-    ensures { result ≡ live_drive index value }
+// The drive, with an entry put or none.
+pub fn live_drive(put: Option<Put>) -> [u8; 896]
+    ensures { result ≡ live_drive put }
 {
     let mut disk = [0u8; 896];
-    make_live(&mut disk, index, value);
+    make_live(&mut disk, put);
     disk
 }

@@ -1,21 +1,22 @@
 // What document 02 says of how long an offer waits (K12). The drive has H 7: an offer is placed by round 8,
 // and the second of a line by round 16.
-use crate::carries::{CarryRow, run_carries};
-use crate::drives::NO;
-use crate::offers::{OfferRow, run_offers};
-use crate::tells::{WaitRow, run_waits};
+use crate::carries::CarryRow;
+use crate::offers::OfferRow;
+use crate::tells::WaitRow;
+use figure_lines::lines::Put;
 use figure_lines::output::Output;
+use figure_lines::rows::run_rows;
 
-// entry put and its value, bytes lent; head, answer, rounds
+// entry put, bytes lent; head, answer, rounds
 const WAITS: [WaitRow; 6] = [
     // from head 0 the eighth slot is the first that is not live, from head 7 the first one
-    WaitRow(NO, 0, 896, 0, 0, 8),
-    WaitRow(5, 1, 896, 1, 0, 7),
-    WaitRow(5, 7, 896, 7, 0, 1),
+    WaitRow(None, 896, 0, 0, 8),
+    WaitRow(Some(Put(5, 1)), 896, 1, 0, 7),
+    WaitRow(Some(Put(5, 7)), 896, 7, 0, 1),
     // 1 to 3, and no rounds
-    WaitRow(NO, 0, 23, 0, 1, 0),
-    WaitRow(NO, 0, 895, 0, 2, 0),
-    WaitRow(5, 8, 896, 8, 3, 0),
+    WaitRow(None, 23, 0, 1, 0),
+    WaitRow(None, 895, 0, 2, 0),
+    WaitRow(Some(Put(5, 8)), 896, 8, 3, 0),
 ];
 
 // hidden number, how many writes it is offered before; outcome
@@ -53,15 +54,15 @@ const CARRIES: [CarryRow; 5] = [
 
 // Answers how many rows of what the call tells agree.
 pub fn wait_rows(output: &mut Output) -> u32 {
-    run_waits(output, WAITS)
+    run_rows(output, &WAITS)
 }
 
 // Answers how many rows of an offer that is made with each write agree.
 pub fn offer_rows(output: &mut Output) -> u32 {
-    run_offers(output, OFFERS)
+    run_rows(output, &OFFERS)
 }
 
 // Answers how many rows of a line that is carried along agree.
 pub fn carry_rows(output: &mut Output) -> u32 {
-    run_carries(output, CARRIES)
+    run_rows(output, &CARRIES)
 }

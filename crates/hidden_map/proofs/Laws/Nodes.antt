@@ -54,6 +54,28 @@ module _ (g : Geometry) (disk : Bytes) (number : ℕ) (node : Bytes) (wanted : �
   read_from_goes (suc level) address ne h =
       let less : suc level - 1 ≡ level = omega arith in rw (← h, less)
 
+-- nothing is read above the level that the walk begins on
+pub read_from_above :
+    (g : Geometry) (disk : Bytes) (number level : ℕ) (node : Bytes) (wanted : ℕ) → level < wanted →
+    read_from g disk number level node wanted ≡ none
+unfolding read_from
+read_from_above g disk number zero node wanted h = refl
+read_from_above g disk number (suc level) node wanted h =
+    by (step_of g number (suc level) node)
+    (λ block. read_from_above g disk number level block wanted (omega arith))
+  where
+    by : (end : End) → ((block : Bytes) → read_from g disk number level block wanted ≡ none) →
+        read_on end (λ (address : DiskAddress).
+        with_address (read_from g disk number level (block_at (block_width g) disk address)) (suc level)
+        address wanted) ≡ none
+    by (found address) below =
+        let block = block_at (block_width g) disk address in
+        with_address_other (read_from g disk number level block) (suc level) address wanted
+        (λ z. omega arith)
+        ∙ below block
+    by unmapped below = refl
+    by damaged below = refl
+
 -- ---- where a node stands ----
 
 module _ (g : Geometry) (disk : Bytes) (number : ℕ) where

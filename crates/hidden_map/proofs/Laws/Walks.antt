@@ -3,8 +3,9 @@
 use mathlib.Core.Path.{◌≡◌, sym, ap, ◌∙◌}
 use mathlib.Core.Logic.{◌≢◌}
 use mathlib.Core.Bool.{false}
-use mathlib.Core.Option.{Option}
+use mathlib.Core.Option.{Option, none}
 use Prim.Native.Nat.{ℕ, ◌-◌}
+use native.Mathlib.Omega.{arith}
 use Rattle.model.specs.Geometry.{Geometry, root_address, block_width}
 use Rattle.model.specs.Blocks.{Bytes, DiskAddress, block_at}
 use Rattle.model.specs.HiddenTree.{Walk, walk, found}
@@ -12,67 +13,75 @@ use Rattle.hidden_map.specs.declared.nodes.Nodes.{Nodes}
 use Rattle.hidden_map.specs.declared.walks.Reached.{Reached}
 use Rattle.hidden_map.specs.declared.walks.Trail.{Trail}
 use Rattle.hidden_map.specs.Ends.{end_of, step_of}
-use Rattle.hidden_map.specs.Nodes.{address_at, with_address, read_at, path_blocks, StandsByLevel}
-use Rattle.hidden_map.specs.Walks.{Stopped, WalkedFrom, Walked}
+use Rattle.hidden_map.specs.Nodes.{address_at, with_address, read_over, read_from, read_at, path_blocks}
+use Rattle.hidden_map.specs.Nodes.{StandsByLevel}
+use Rattle.hidden_map.specs.Walks.{WalkedFrom, Walked}
+use Rattle.hidden_map.proofs.Laws.Levels.{read_over_with, read_over_none}
 use Rattle.hidden_map.proofs.Laws.Steps.{is_found, walk_from_leaf, walk_from_stop, walk_from_goes}
-use Rattle.hidden_map.proofs.Laws.Nodes.{read_from_leaf, read_from_stop, read_from_goes, placed_walk}
-use Rattle.hidden_map.proofs.Laws.Nodes.{placed_same, path_blocks_same, path_blocks-walk}
+use Rattle.hidden_map.proofs.Laws.Nodes.{read_from_leaf, read_from_stop, read_from_goes, read_from_above}
+use Rattle.hidden_map.proofs.Laws.Nodes.{placed_walk, placed_same, path_blocks_same, path_blocks-walk}
 
 module _ (g : Geometry) (disk : Bytes) (number level : ℕ) (node : Bytes) where
-  module _ (end : Reached) (trail : Trail) (stopped : Stopped end trail)
-      (told : end_of end ≡ step_of g number level node) where
-    abbrev told_by_lem : end_of trail.end ≡ step_of g number level node
-    told_by_lem = ap end_of stopped.end_is ∙ told
-
-    pub walked_leaf : level ≡ 0 → WalkedFrom g disk number level node trail
+  module _ (end : Reached) (nodes : Nodes) (told : end_of end ≡ step_of g number level node) where
+    pub walked_leaf : level ≡ 0 → WalkedFrom g disk number level node end nodes nodes
     walked_leaf z =
         record {
-          end_is =
-              told_by_lem
-              ∙ sym (ap (λ (path : Walk). path.end) (walk_from_leaf g disk number node level z));
+          end_is = told ∙ sym (ap (λ (path : Walk). path.end) (walk_from_leaf g disk number node level z));
           nodes_are = λ wanted.
-              stopped.no_nodes wanted ∙ sym (read_from_leaf g disk number node wanted level z);
+              sym (ap (λ (read : Option DiskAddress). read_over read (address_at nodes wanted))
+              (read_from_leaf g disk number node wanted level z));
         }
 
-    pub walked_stop : is_found (end_of end) ≡ false → WalkedFrom g disk number level node trail
+    pub walked_stop :
+        is_found (end_of end) ≡ false → WalkedFrom g disk number level node end nodes nodes
     walked_stop f =
         let stops : is_found (step_of g number level node) ≡ false = ap is_found (sym told) ∙ f in
         record {
           end_is =
-              told_by_lem
-              ∙ sym (ap (λ (path : Walk). path.end) (walk_from_stop g disk number node level stops));
+              told ∙ sym (ap (λ (path : Walk). path.end) (walk_from_stop g disk number node level stops));
           nodes_are = λ wanted.
-              stopped.no_nodes wanted ∙ sym (read_from_stop g disk number node wanted level stops);
+              sym (ap (λ (read : Option DiskAddress). read_over read (address_at nodes wanted))
+              (read_from_stop g disk number node wanted level stops));
         }
 
   pub walked_on :
-      (address : DiskAddress) (rest : Trail) (nodes : Nodes) → level ≢ 0 →
+      (address : DiskAddress) (end : Reached) (before set after : Nodes) → level ≢ 0 →
       found address ≡ step_of g number level node →
-      WalkedFrom g disk number (level - 1) (block_at (block_width g) disk address) rest →
-      ((wanted : ℕ) → address_at nodes wanted ≡ with_address (address_at rest.nodes) level address wanted) →
-      WalkedFrom g disk number level node (record { end = rest.end; nodes = nodes })
-  walked_on address rest nodes ne told below added =
+      ((wanted : ℕ) → address_at set wanted ≡ with_address (address_at before) level address wanted) →
+      WalkedFrom g disk number (level - 1) (block_at (block_width g) disk address) end set after →
+      WalkedFrom g disk number level node end before after
+  walked_on address end before set after ne told added below =
+      let block = block_at (block_width g) disk address in
+      let read = read_from g disk number (level - 1) block in
       record {
         end_is =
             below.end_is
             ∙ sym (ap (λ (path : Walk). path.end)
             (walk_from_goes g disk number node level address ne told).goes_on);
         nodes_are = λ wanted.
-            added wanted
-            ∙ ap (λ (read : Option DiskAddress). with_address (λ other. read) level address wanted)
-            (below.nodes_are wanted)
-            ∙ sym (read_from_goes g disk number node wanted level address ne told);
+            below.nodes_are wanted ∙ ap (read_over (read wanted)) (added wanted)
+            ∙ read_over_with read level address (address_at before)
+            (read_from_above g disk number (level - 1) block level (omega arith)) wanted
+            ∙ sym (ap (λ (read : Option DiskAddress). read_over read (address_at before wanted))
+            (read_from_goes g disk number node wanted level address ne told));
       }
 
--- from the root
+-- from the root, over no nodes
 pub walked_root :
-    (g : Geometry) (disk : Bytes) (number root : ℕ) (trail : Trail) → root ≡ root_address g →
-    WalkedFrom g disk number (g.height - 1) (block_at (block_width g) disk root) trail →
-    Walked g disk number trail
-walked_root g disk number root trail e from =
-    let w : WalkedFrom g disk number (g.height - 1) (block_at (block_width g) disk (root_address g)) trail =
+    (g : Geometry) (disk : Bytes) (number root : ℕ) (end : Reached) (before after : Nodes) →
+    root ≡ root_address g → ((level : ℕ) → address_at before level ≡ none) →
+    WalkedFrom g disk number (g.height - 1) (block_at (block_width g) disk root) end before after →
+    Walked g disk number (record { end = end; nodes = after })
+walked_root g disk number root end before after e unread from =
+    let w : WalkedFrom g disk number (g.height - 1) (block_at (block_width g) disk (root_address g))
+    end before after =
     rw e at from in
-    record { end_is = w.end_is; nodes_are = w.nodes_are }
+    record {
+      end_is = w.end_is;
+      nodes_are = λ level.
+          w.nodes_are level ∙ ap (read_over (read_at g disk number level)) (unread level)
+          ∙ read_over_none (read_at g disk number level);
+    }
 
 -- ---- the nodes that are handed back ----
 

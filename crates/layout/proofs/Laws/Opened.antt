@@ -2,24 +2,26 @@
 -- nothing.
 use mathlib.Core.Path.{◌≡◌, sym, subst}
 use Prim.Native.Nat.{ℕ, ◌<◌}
+use Rattle.std.specs.Prelude.{Result, Ok, Err}
 use Rattle.model.specs.Geometry as model
 use Rattle.model.specs.Blocks.{Bytes}
 use Rattle.model.specs.Layout.{head_in}
 use Rattle.model.specs.Refusals.{drive_refusal}
 use Rattle.model.proofs.Laws.Refusals.{accepted_of_refusal}
 use Rattle.layout.specs.declared.geometry.Geometry.{Geometry}
-use Rattle.layout.specs.declared.drives.Opened.{Opened}
-use Rattle.layout.specs.declared.drives.Opened.TheVariants.{Refused, Good}
+use Rattle.layout.specs.declared.refusals.Refusal.{Refusal}
 use Rattle.layout.specs.Geometries.{geometry_of}
+use Rattle.layout.specs.Refusals.{refusal_number}
 use Rattle.layout.specs.Drives.{RefusedBy, OpenedWith, OpenedAs}
 
 -- ---- the two arms ----
 
-module _ (refusal : ℕ) (disk : Bytes) (opened : Opened) (told : OpenedAs refusal disk opened) where
-  pub opened_refused : {fault : ℕ} → opened ≡ Refused fault → RefusedBy refusal fault
+module _ (refusal : ℕ) (disk : Bytes) (opened : Result Geometry Refusal)
+    (told : OpenedAs refusal disk opened) where
+  pub opened_refused : {fault : Refusal} → opened ≡ Err fault → RefusedBy refusal (refusal_number fault)
   opened_refused e = subst (OpenedAs refusal disk) e told
 
-  pub opened_good : {g : Geometry} → opened ≡ Good g → OpenedWith refusal disk (geometry_of g)
+  pub opened_good : {g : Geometry} → opened ≡ Ok g → OpenedWith refusal disk (geometry_of g)
   opened_good e = subst (OpenedAs refusal disk) e told
 
 -- ---- a drive that is opened ----

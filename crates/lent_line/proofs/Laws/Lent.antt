@@ -1,38 +1,20 @@
 -- Laws for callers: the line that a lent one hands over, and a lent line after a save, as the model has them.
 -- Assumes nothing.
 use mathlib.Core.Path.{◌≡◌, refl, sym, ap, ◌∙◌}
-use mathlib.Core.Logic.{⊎_elim}
 use mathlib.Core.List.{List, [], ◌∷◌, ◌++◌}
 use Prim.Native.Nat.{ℕ, ◌+◌, ◌≤◌, ◌<◌, min}
 use native.Mathlib.Omega.{arith}
 use lib.ListN.{length, take, drop, set, replicate, length-set, length-take, take-append-drop}
-use lib.Seq.{take_all, take-take}
+use lib.Seq.{take_all}
 use Rattle.laws.specs.Lists.{over}
-use Rattle.laws.proofs.Cases.{lt_cases}
 use Rattle.laws.proofs.Lists.{over_is, over_nil, over_one, over_append, length_over, take_over}
 use Rattle.model.specs.Line as model
 use Rattle.line.specs.declared.offers.Offer.{Offer}
 use Rattle.line.specs.declared.offers.Line.{Line}
 use Rattle.line.specs.Offers.{offers_of, line_of, no_offer, no_line}
 use Rattle.line.proofs.Laws.Offers.{pushed_room}
-use Rattle.line.proofs.Laws.Runs.{offers_of-length, offers_of-take, offers_of_over}
+use Rattle.line.proofs.Laws.Runs.{take_of-take, offers_of-length, offers_of-take, offers_of_over}
 use Rattle.lent_line.specs.Lent.{most_of, pushed_all, loaded_line, saved_offers}
-
--- ---- so many of the first ones ----
-
-module _ {A : Type 0} (xs : List A) (n m : ℕ) where
-  take_of-take : take n (take m xs) ≡ take (min n m) xs
-  take_of-take = ⊎_elim few all (lt_cases n m)
-    where
-      few : n < m → take n (take m xs) ≡ take (min n m) xs
-      few low =
-          let least : n ≡ min n m = omega (arith, low) in
-          take-take n m xs (omega (arith, low)) ∙ ap (λ (k : ℕ). take k xs) least
-
-      all : m ≤ n → take n (take m xs) ≡ take (min n m) xs
-      all high =
-          let least : m ≡ min n m = omega (arith, high) in
-          take_all n (take m xs) (omega (arith, high, length-take m xs)) ∙ ap (λ (k : ℕ). take k xs) least
 
 take-most_of :
     {A : Type 0} (xs : List A) (lent waiting : ℕ) →

@@ -1,8 +1,13 @@
--- `save_lent` meets its contract: all that is saved is put from the front. Assumes nothing.
-use Rattle.lent_line.proofs.Laws.Walks.{saved_offers_of_parts}
+-- `save_lent` meets its contract: the part in front is the line's. Assumes nothing.
+use Rattle.std.proofs.Common.{ℕ, ◌∙◌, ap, take, arith}
+use Rattle.laws.specs.Lists.{over}
+use Rattle.lent_line.specs.Lent.{saved_offers}
+use Rattle.lent_line.proofs.Laws.Parts.{front_over}
 use Rattle.lent_line.proofs.save_lent.Goals as goal
 
 pub returns : goal.returns
+unfolding saved_offers
 returns c =
-    saved_offers_of_parts c.args.held c.args.line.now c.save_line.new.line c.most_of.result c.most_of.ensures
-    c.save_line.ensures
+    let a = c.args in
+    rw c.copy_from_slice.ensures.after (front_over a.held.offers a.line.now c.most_of-most.result (omega arith))
+    ∙ ap (λ (n : ℕ). over 0 (take n a.held.offers) a.line.now) c.most_of-most.ensures

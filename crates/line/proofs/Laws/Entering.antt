@@ -19,27 +19,25 @@ use Rattle.model.proofs.Laws.LineSteps.{with_offer_first, with_offer_absent, len
 use Rattle.line.specs.declared.offers.Offer.{Offer}
 use Rattle.line.specs.declared.offers.Line.{Line}
 use Rattle.line.specs.Offers.{offer_of, line_of, pushed}
-use Rattle.line.specs.Numbers.{past_offer, FoundAt}
+use Rattle.line.specs.Numbers.{past_offer, FirstAt}
 use Rattle.line.proofs.Laws.Offers.{length-line_of_le, line_of-set, line_of-pushed}
-use Rattle.line.proofs.Laws.Numbers.{waits_of_found, absent_of_found}
 
 -- ---- 16 ----
 
-module _ (line : List model.Offer) (number room index : ℕ) (at : FoundAt line number index) where
-  pub room_known : index < length line → 0 ≡ first_of (model.room_checks line number room)
-  room_known inside =
-      sym (first_of_pass 16 [] (and_false_left _ (ap not (waits_of_found line number index at inside)))
-      ∙ first_of_nil)
+module _ (line : List model.Offer) (number room : ℕ) where
+  pub room_known :
+      model.is_waiting_in line number ≡ true → 0 ≡ first_of (model.room_checks line number room)
+  room_known waits = sym (first_of_pass 16 [] (and_false_left _ (ap not waits)) ∙ first_of_nil)
 
-  module _ (past : length line ≤ index) where
+  module _ (absent : model.is_waiting_in line number ≡ false) where
     pub room_most : 16 ≤ length line → 16 ≡ first_of (model.room_checks line number room)
     room_most full =
-        sym (first_of_stop 16 [] (and_both (ap not (absent_of_found line number index at past))
+        sym (first_of_stop 16 [] (and_both (ap not absent)
         (or_left (leb room (length line)) (le-leb 16 (length line) full))))
 
     pub room_full : room ≤ length line → 16 ≡ first_of (model.room_checks line number room)
     room_full full =
-        sym (first_of_stop 16 [] (and_both (ap not (absent_of_found line number index at past))
+        sym (first_of_stop 16 [] (and_both (ap not absent)
         (or_right (leb 16 (length line)) (le-leb room (length line) full))))
 
     pub room_left : length line < 16 → length line < room →
@@ -51,25 +49,24 @@ module _ (line : List model.Offer) (number room index : ℕ) (at : FoundAt line 
 
 -- ---- the line with an offer in it ----
 
-module _ (line : Line) (offer : Offer) (index : ℕ) (at : FoundAt (line_of line) offer.number.0 index) where
-  pub enters_in_turn : index < length (line_of line) →
+module _ (line : Line) (offer : Offer) where
+  pub enters_in_turn :
+      (index : ℕ) → FirstAt (line_of line) offer.number.0 index →
       line_of (record { offers = set line.offers index offer; waiting = line.waiting }) ≡
       take model.most_offers (model.with_offer (offer_of offer) (line_of line))
-  enters_in_turn inside =
+  enters_in_turn index at =
       let new = set (line_of line) index (offer_of offer) in
       let short : length new ≤ 16 = simp length-set (omega (arith, length-line_of_le line)) in
-      line_of-set line offer index inside ∙ sym (take_all 16 new short)
+      line_of-set line offer index at.inside ∙ sym (take_all 16 new short)
       ∙ ap (take 16)
-      (sym (with_offer_first (offer_of offer) (line_of line) index past_offer inside at.none_before
-      (at.found inside)))
+      (sym (with_offer_first (offer_of offer) (line_of line) index past_offer at.inside at.none_before
+      at.found))
 
-  pub enters_last : length line.offers ≡ 16 → length (line_of line) ≤ index →
+  pub enters_last : length line.offers ≡ 16 → model.is_waiting_in (line_of line) offer.number.0 ≡ false →
       line_of (pushed line offer) ≡ take model.most_offers (model.with_offer (offer_of offer) (line_of line))
-  enters_last whole past =
+  enters_last whole absent =
       line_of-pushed line offer whole
-      ∙ ap (take 16)
-      (sym (with_offer_absent (offer_of offer) (line_of line)
-      (absent_of_found (line_of line) offer.number.0 index at past)))
+      ∙ ap (take 16) (sym (with_offer_absent (offer_of offer) (line_of line) absent))
 
 -- where 16 does not refuse the offer, there is a place for it
 pub enters_whole :

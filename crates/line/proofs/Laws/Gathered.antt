@@ -1,92 +1,54 @@
 -- Laws of a line that is gathered offer by offer from two runs of numbers: what holds whenever the loop's
--- test is reached, its beginning, a turn and both ends. Assumes nothing.
+-- test is reached, a turn and its end. Assumes nothing.
 use mathlib.Core.Path.{◌≡◌, sym, ap, ◌∙◌}
-use mathlib.Core.Logic.{⊎_elim}
 use mathlib.Core.List.{List, [], ◌∷◌, ◌++◌}
-use Prim.Native.Nat.{ℕ, zero, suc, ◌+◌, ◌≤◌, ◌<◌}
+use Prim.Native.Nat.{ℕ, ◌+◌, ◌<◌, min}
 use native.Mathlib.Numerals.{add-one}
 use native.Mathlib.Omega.{arith}
-use lib.ListN.{length, take, length-take}
-use lib.Seq.{take_all, take-take}
-use Rattle.laws.proofs.Cases.{lt_cases}
+use lib.ListN.{length, take, get_or}
+use Rattle.std.proofs.lemmas.List.{take_min}
 use Rattle.model.specs.Line as model
 use Rattle.line.specs.declared.offers.Offer.{Offer}
 use Rattle.line.specs.declared.offers.Line.{Line}
-use Rattle.line.specs.declared.turns.First.TheVariants.{Nobody, Waits}
 use Rattle.line.specs.Offers.{offer_of, line_of, pushed}
-use Rattle.line.specs.Turns.{first_at}
-use Rattle.line.specs.Gathered.{most_waiting}
+use Rattle.line.specs.Gathered.{offers_by}
 use Rattle.line.proofs.Laws.Offers.{pushed_room, length-pushed, line_of-pushed_room}
-use Rattle.line.proofs.Laws.Turns.{first_at_nil, first_at-zero, first_at_suc}
-
--- ---- the next offer ----
-
-length_of_nobody : (offers : List model.Offer) (i : ℕ) → first_at offers i ≡ Nobody → length offers ≤ i
-length_of_nobody [] i e = omega arith
-length_of_nobody (offer ∷ later) zero e =
-    let z : ◌≡◌ {A = ℕ} 0 1 = cc (first_at-zero offer later) in omega arith
-length_of_nobody (offer ∷ later) (suc i) e =
-    omega (arith, length_of_nobody later i (sym (first_at_suc offer later i) ∙ e))
-
-take_suc_waits :
-    (offers : List model.Offer) (i : ℕ) (next : Offer) → first_at offers i ≡ Waits next →
-    take (suc i) offers ≡ take i offers ++ (offer_of next ∷ [])
-take_suc_waits [] i next e = let z : ◌≡◌ {A = ℕ} 0 1 = cc (first_at_nil i) in absurd (omega arith)
-take_suc_waits (offer ∷ later) zero next e =
-    let same : record { number = record { 0 = offer.number }; place = offer.place } ≡ next =
-    cc (first_at-zero offer later) in
-    ap (λ (first : Offer). offer_of first ∷ []) same
-take_suc_waits (offer ∷ later) (suc i) next e =
-    ap (λ (rest : List model.Offer). offer ∷ rest)
-    (take_suc_waits later i next (sym (first_at_suc offer later i) ∙ e))
-
--- ---- the loop ----
+use Rattle.line.proofs.Laws.Runs.{take_of-take}
+use Rattle.line.proofs.Laws.Turns.{length-offers_by, take-offers_by_more}
 
 -- the first so many offers stand in the line
-pub record Gathering (offers : List model.Offer) (waiting : ℕ) (line : Line) (i : ℕ) : Type 0 where
-  pub within : i ≤ most_waiting waiting
+pub record Gathering (numbers places : List ℕ) (line : Line) (i : ℕ) : Type 0 where
   pub whole : length line.offers ≡ 16
   pub count : line.waiting ≡ i
-  pub line_is : line_of line ≡ take i offers
+  pub line_is : line_of line ≡ take i (offers_by numbers places)
 
-module _ {offers : List model.Offer} {waiting : ℕ} {line : Line} {i : ℕ}
-    (gathering : Gathering offers waiting line i) where
+module _ (numbers places : List ℕ) (line : Line) (i : ℕ)
+    (gathering : Gathering numbers places line i) where
   pub gathering_next :
-      (next : Offer) → i < most_waiting waiting → first_at offers i ≡ Waits next →
-      Gathering offers waiting (pushed line next) (i + 1)
-  gathering_next next more waits =
+      (next : Offer) → i < 16 → i < length numbers → i < length places →
+      next.number.0 ≡ get_or numbers i 0 → next.place ≡ get_or places i 0 →
+      Gathering numbers places (pushed line next) (i + 1)
+  gathering_next next few low inside number place =
       let room : line.waiting < 16 = omega (arith, gathering.count) in
+      let same : offer_of next ≡ record { number = get_or numbers i 0; place = get_or places i 0 } =
+      (λ k. record { number = number k; place = place k }) in
       record {
-        within = omega arith;
         whole = length-pushed line next gathering.whole;
         count = ap (λ (l : Line). l.waiting) (pushed_room line next room) ∙ omega (arith, gathering.count);
         line_is =
             line_of-pushed_room line next gathering.whole room
             ∙ ap (λ (xs : List model.Offer). xs ++ (offer_of next ∷ [])) gathering.line_is
-            ∙ sym (rw add-one (take_suc_waits offers i next waits));
+            ∙ ap (λ (offer : model.Offer). take i (offers_by numbers places) ++ (offer ∷ [])) same
+            ∙ sym (rw add-one (take-offers_by_more numbers places i low inside));
       }
 
-  -- the runs have ended
+  -- the runs have ended, or so many are gathered
   pub gathered_all :
-      i < most_waiting waiting → first_at offers i ≡ Nobody → line_of line ≡ model.handed_over waiting offers
-  gathered_all more nobody =
-      let few = length_of_nobody offers i nobody in
-      gathering.line_is ∙ take_all i offers few
-      ∙ sym (take_all waiting offers (omega arith))
-      ∙ sym (ap (take waiting) (take_all 16 offers (omega arith)))
-
-  -- so many are gathered
-  pub gathered_most : most_waiting waiting ≤ i → line_of line ≡ model.handed_over waiting offers
-  gathered_most over = ⊎_elim few many (lt_cases waiting 16)
-    where
-      few : waiting < 16 → line_of line ≡ model.handed_over waiting offers
-      few low =
-          let same : i ≡ waiting = omega (arith, gathering.within, over, low) in
-          gathering.line_is ∙ ap (λ (n : ℕ). take n offers) same
-          ∙ sym (take-take waiting 16 offers (omega (arith, low)))
-
-      many : 16 ≤ waiting → line_of line ≡ model.handed_over waiting offers
-      many high =
-          let same : i ≡ 16 = omega (arith, gathering.within, over, high) in
-          gathering.line_is ∙ ap (λ (n : ℕ). take n offers) same
-          ∙ sym (take_all waiting (take 16 offers) (omega (arith, high, length-take 16 offers)))
+      (waiting : ℕ) → i ≡ min (min (min (length numbers) 16) waiting) (length places) →
+      line_of line ≡ model.handed_over waiting (offers_by numbers places)
+  gathered_all waiting all =
+      let offers = offers_by numbers places in
+      let some : i ≡ min (min waiting 16) (length offers) =
+      omega (arith, all, length-offers_by numbers places) in
+      gathering.line_is ∙ ap (λ (n : ℕ). take n offers) some ∙ take_min (min waiting 16) offers
+      ∙ sym (take_of-take offers waiting 16)

@@ -1,80 +1,98 @@
--- Laws of a number in a line: the step of a search for it, and what the index that is found says. Assumes
--- nothing.
+-- Laws of a number in a line: what a search for it finds, and whether it is one of some. Assumes nothing.
 use mathlib.Core.Path.{◌≡◌, refl, sym, ap, ◌∙◌}
-use mathlib.Core.Logic.{◌≢◌}
-use mathlib.Core.Bool.{true, false}
-use mathlib.Core.List.{List, [], ◌∷◌, ◌++◌}
+use mathlib.Core.Bool.{Bool, true, false, cond, not, ◌||◌}
+use mathlib.Core.List.{List, [], ◌∷◌}
 use Prim.Native.Nat.{ℕ, zero, suc, ◌+◌, ◌≤◌, ◌<◌}
-use native.Mathlib.Numerals.{add-one}
 use native.Mathlib.Omega.{arith}
-use lib.Dec.{eqb}
+use lib.Dec.{eqb, ltb}
 use lib.ListN.{length, take, get_or}
-use lib.Seq.{take-suc, take_all}
-use borrow.Author.Tests.{eq-eqb, ne_eqb}
-use Rattle.laws.proofs.Cases.{or_neither, or_left, or_right, or_false_left, or_false_right}
-use Rattle.model.specs.Geometry.{is_one_of}
+use borrow.Author.Tests.{eqb-true, ltb-false}
+use Rattle.std.specs.Prelude.{Option, None, Some, is_some}
+use Rattle.std.specs.List.{list_any, position, position_or_len}
+use Rattle.std.proofs.lemmas.List.Quantifiers.{position-Some}
+use Rattle.laws.proofs.Cases.{or_neither}
 use Rattle.model.specs.Line.{Offer, is_waiting_in}
-use Rattle.model.proofs.Laws.LineSteps.{is_waiting_in_at, is_waiting_in_snoc_other}
+use Rattle.model.proofs.Laws.LineSteps.{is_waiting_in_nil, is_waiting_in-cons, is_waiting_in_at}
 use Rattle.line.specs.declared.offers.Offer as declared
-use Rattle.line.specs.declared.offers.Line.{Line}
-use Rattle.line.specs.Offers.{line_of, offer_in}
+use Rattle.line.specs.Offers.{offer_of, offers_of, no_offer}
 use Rattle.line.specs.Numbers.{past_offer, FoundAt}
-use Rattle.line.proofs.Laws.Offers.{get_d-line_of}
+use Rattle.line.proofs.Laws.Runs.{offers_of-length}
+use Rattle.line.proofs.Laws.Offers.{get_or-offers_of}
 
--- ---- a search in a line ----
+module _ (number : ℕ) where
+  abbrev pub has_number : declared.Offer → Bool
+  has_number offer = eqb offer.number.0 number
 
--- at an index below the line's length, none of the number before it: the offer there has it or has not
-module _ (line : Line) (number i : ℕ) (inside : i < length (line_of line))
-    (absent : is_waiting_in (take i (line_of line)) number ≡ false) (offer : declared.Offer)
-    (e : offer ≡ offer_in line i) where
-  number_there : (get_or (line_of line) i past_offer).number ≡ offer.number.0
-  number_there =
-      ap (λ (that : Offer). that.number) (get_d-line_of line i inside)
-      ∙ ap (λ (that : declared.Offer). that.number.0) (sym e)
+  -- ---- whether it is one of some ----
 
-  pub found_here : offer.number.0 ≡ number → FoundAt (line_of line) number i
-  found_here same =
-      record { within = omega arith; none_before = absent; found = λ low. number_there ∙ same }
+  pub is_waiting_in-any :
+      (offers : List declared.Offer) → list_any has_number offers ≡ is_waiting_in (offers_of offers) number
+  unfolding offers_of
+  is_waiting_in-any [] = sym (is_waiting_in_nil number)
+  is_waiting_in-any (offer ∷ later) =
+      ap (λ (test : Bool). has_number offer || test) (is_waiting_in-any later)
+      ∙ sym (is_waiting_in-cons (offer_of offer) (offers_of later) number)
 
-  pub none_here : offer.number.0 ≢ number → is_waiting_in (take (i + 1) (line_of line)) number ≡ false
-  none_here other =
-      rw (add-one, take-suc (line_of line) i past_offer inside)
-      (is_waiting_in_snoc_other (take i (line_of line)) (get_or (line_of line) i past_offer) number absent
-      (λ same. other (sym number_there ∙ same)))
+  -- ---- a search ----
 
-pub found_none :
-    (line : List Offer) (number index : ℕ) → index ≡ length line →
-    is_waiting_in (take index line) number ≡ false → FoundAt line number index
-found_none line number index e absent =
-    record { within = omega arith; none_before = absent; found = λ low. absurd (omega arith) }
+  -- none of the first so many has it
+  none_before :
+      (offers : List declared.Offer) (i : ℕ) → i ≤ length offers →
+      ((k : ℕ) → k < i → has_number (get_or offers k no_offer) ≡ false) →
+      is_waiting_in (take i (offers_of offers)) number ≡ false
+  unfolding offers_of
+  none_before offers zero low other = is_waiting_in_nil number
+  none_before [] (suc i) low other = absurd (omega arith)
+  none_before (offer ∷ later) (suc i) low other =
+      is_waiting_in-cons (offer_of offer) (take i (offers_of later)) number
+      ∙ or_neither (other 0 (omega arith))
+      (none_before later i (omega arith) (λ k h. other (suc k) (omega arith)))
 
-module _ (line : List Offer) (number index : ℕ) (at : FoundAt line number index) where
-  pub waits_of_found : index < length line → is_waiting_in line number ≡ true
-  waits_of_found inside = is_waiting_in_at line index past_offer number inside (at.found inside)
+  -- none has it where the search has come to the end
+  none_at_all :
+      (offers : List declared.Offer) → length offers ≤ position_or_len has_number offers →
+      is_waiting_in (offers_of offers) number ≡ false
+  unfolding offers_of
+  none_at_all [] past = is_waiting_in_nil number
+  none_at_all (offer ∷ later) past = by (has_number offer) refl past (none_at_all later)
+    where
+      by : (has : Bool) → has_number offer ≡ has →
+          suc (length later) ≤ cond (not has) (1 + position_or_len has_number later) 0 →
+          (length later ≤ position_or_len has_number later → is_waiting_in (offers_of later) number ≡ false) →
+          is_waiting_in (offers_of (offer ∷ later)) number ≡ false
+      by true e low rest = absurd (omega arith)
+      by false e low rest =
+          is_waiting_in-cons (offer_of offer) (offers_of later) number
+          ∙ or_neither e (rest (omega arith))
 
-  pub absent_of_found : length line ≤ index → is_waiting_in line number ≡ false
-  absent_of_found past = rw (take_all index line past) at at.none_before
+  pub found_at :
+      (offers : List declared.Offer) (found : Option ℕ) → position has_number offers ≡ found →
+      FoundAt (offers_of offers) number found
+  found_at offers None e = none_at_all offers (by (ltb from all) refl e)
+    where
+      from : ℕ
+      from = position_or_len has_number offers
 
--- ---- a search in a run of numbers ----
+      all : ℕ
+      all = length offers
 
-is_one_of_snoc_other :
-    (number : ℕ) (xs : List ℕ) (x : ℕ) → is_one_of number xs ≡ false → x ≢ number →
-    is_one_of number (xs ++ (x ∷ [])) ≡ false
-is_one_of_snoc_other number [] x absent other = or_neither (ne_eqb number x (λ e. other (sym e))) refl
-is_one_of_snoc_other number (first ∷ xs) x absent other =
-    or_neither (or_false_left (eqb number first) (is_one_of number xs) absent)
-    (is_one_of_snoc_other number xs x (or_false_right (eqb number first) (is_one_of number xs) absent) other)
+      by : (low : Bool) → ltb from all ≡ low → cond low (Some from) None ≡ None → all ≤ from
+      by true e found = absurd (cc)
+      by false e found = ltb-false from all e
+  found_at offers (Some index) e =
+      let at = position-Some has_number offers index no_offer e in
+      record {
+        inside = omega (arith, at.0, offers_of-length offers);
+        none_before = none_before offers index (omega (arith, at.0)) at.2;
+        found =
+            ap (λ (that : Offer). that.number) (get_or-offers_of offers index no_offer)
+            ∙ eqb-true (get_or offers index no_offer).number.0 number at.1;
+      }
 
-pub is_one_of_more :
-    (number : ℕ) (xs : List ℕ) (i : ℕ) → i < length xs → is_one_of number (take i xs) ≡ false →
-    get_or xs i 0 ≢ number → is_one_of number (take (i + 1) xs) ≡ false
-is_one_of_more number xs i inside absent other =
-    rw (add-one, take-suc xs i 0 inside)
-    (is_one_of_snoc_other number (take i xs) (get_or xs i 0) absent other)
-
-pub is_one_of_at :
-    (number : ℕ) (xs : List ℕ) (i : ℕ) → i < length xs → get_or xs i 0 ≡ number → is_one_of number xs ≡ true
-is_one_of_at number [] i inside e = absurd (omega arith)
-is_one_of_at number (x ∷ xs) zero inside e = or_left (is_one_of number xs) (eq-eqb number x (sym e))
-is_one_of_at number (x ∷ xs) (suc i) inside e =
-    or_right (eqb number x) (is_one_of_at number xs i (omega arith) e)
+-- a number whose first offer is found waits, else it does not
+pub is_waiting_in-found :
+    (line : List Offer) (number : ℕ) (found : Option ℕ) → FoundAt line number found →
+    is_waiting_in line number ≡ is_some found
+is_waiting_in-found line number None absent = absent
+is_waiting_in-found line number (Some index) at =
+    is_waiting_in_at line index past_offer number at.inside at.found

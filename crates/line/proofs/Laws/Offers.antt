@@ -3,7 +3,7 @@
 use mathlib.Core.Path.{◌≡◌, refl, sym, ap, ◌∙◌}
 use mathlib.Core.Logic.{⊎_elim}
 use mathlib.Core.List.{List, [], ◌∷◌, ◌++◌}
-use Prim.Native.Nat.{ℕ, zero, suc, ◌+◌, ◌≤◌, ◌<◌}
+use Prim.Native.Nat.{ℕ, zero, suc, ◌+◌, ◌≤◌, ◌<◌, min}
 use native.Mathlib.Omega.{arith}
 use native.Mathlib.Numerals.{add-one}
 use lib.Dec.{ltb}
@@ -16,6 +16,7 @@ use Rattle.line.specs.declared.offers.Line.{Line}
 use Rattle.model.specs.Line as model
 use Rattle.line.specs.Offers.{offer_of, offers_of, line_of, no_offer, pushed, offer_in}
 use Rattle.line.specs.Numbers.{past_offer}
+use Rattle.line.proofs.Laws.Runs.{offers_of-length, offers_of-take, take_of-take}
 
 -- ---- one pushed ----
 
@@ -32,26 +33,33 @@ pushed_full line offer full = cond_false _ line (le-ltb line.waiting 16 full)
 
 -- ---- what is handed over ----
 
-length-offers_of : (offers : List Offer) → length (offers_of offers) ≡ length offers
+pub get_or-offers_of :
+    (offers : List Offer) (i : ℕ) (past : Offer) →
+    get_or (offers_of offers) i (offer_of past) ≡ offer_of (get_or offers i past)
 unfolding offers_of
-length-offers_of [] = refl
-length-offers_of (offer ∷ later) = ap suc (length-offers_of later)
+get_or-offers_of [] i past = refl
+get_or-offers_of (offer ∷ later) zero past = refl
+get_or-offers_of (offer ∷ later) (suc i) past = get_or-offers_of later i past
 
-get_d-offers_of :
-    (offers : List Offer) (i : ℕ) → get_or (offers_of offers) i past_offer ≡ offer_of (get_or offers i no_offer)
-unfolding offers_of
-get_d-offers_of [] i = refl
-get_d-offers_of (offer ∷ later) zero = refl
-get_d-offers_of (offer ∷ later) (suc i) = get_d-offers_of later i
+-- the first so many, and the next one
+pub take-offers_of_more :
+    (offers : List Offer) (i : ℕ) → i < length offers →
+    take (i + 1) (offers_of offers) ≡
+    take i (offers_of offers) ++ (offer_of (get_or offers i no_offer) ∷ [])
+take-offers_of_more offers i inside =
+    let low : i < length (offers_of offers) = omega (arith, offers_of-length offers, inside) in
+    rw add-one (take-suc (offers_of offers) i past_offer low)
+    ∙ ap (λ (next : model.Offer). take i (offers_of offers) ++ (next ∷ [])) (get_or-offers_of offers i no_offer)
 
 module _ (line : Line) where
   module _ (whole : length line.offers ≡ 16) where
-    pub length-line_of_few : line.waiting < 16 → line.waiting ≡ length (line_of line)
-    length-line_of_few few =
-        simp (length-take, length-take, length-offers_of) (omega arith)
+    pub length-line_of : min line.waiting 16 ≡ length (line_of line)
+    length-line_of = simp (length-take, length-take, offers_of-length) (omega arith)
 
-    pub length-line_of_most : 16 ≤ line.waiting → 16 ≡ length (line_of line)
-    length-line_of_most many = simp (length-take, length-take, length-offers_of) (omega arith)
+    pub offers_of_waiting : offers_of (take (min line.waiting 16) line.offers) ≡ line_of line
+    offers_of_waiting =
+        offers_of-take (min line.waiting 16) line.offers
+        ∙ sym (take_of-take (offers_of line.offers) line.waiting 16)
 
   pub get_d-line_of :
       (i : ℕ) → i < length (line_of line) → get_or (line_of line) i past_offer ≡ offer_of (offer_in line i)
@@ -60,19 +68,15 @@ module _ (line : Line) where
       let low : i < line.waiting = omega (arith, length-take line.waiting (take 16 xs)) in
       let most : i < 16 = omega (arith, length-take line.waiting (take 16 xs), length-take 16 xs) in
       get_or-take line.waiting (take 16 xs) i past_offer low ∙ get_or-take 16 xs i past_offer most
-      ∙ get_d-offers_of line.offers i
+      ∙ get_or-offers_of line.offers i no_offer
 
   pub length-line_of_le : length (line_of line) ≤ 16
-  length-line_of_le = simp (length-take, length-take, length-offers_of) (omega arith)
+  length-line_of_le = simp (length-take, length-take, offers_of-length) (omega arith)
 
-  -- the first so many, and the next one
-  pub take-line_of_more :
-      (i : ℕ) → i < length (line_of line) → (offer : Offer) → offer ≡ offer_in line i →
-      take (i + 1) (line_of line) ≡ take i (line_of line) ++ (offer_of offer ∷ [])
-  take-line_of_more i inside offer e =
-      rw add-one (take-suc (line_of line) i past_offer inside)
-      ∙ ap (λ (next : model.Offer). take i (line_of line) ++ (next ∷ []))
-      (get_d-line_of i inside ∙ ap offer_of (sym e))
+-- at most 16 wait
+pub offers_few : (offers : List Offer) (line : Line) → offers_of offers ≡ line_of line → length offers ≤ 16
+offers_few offers line same =
+    omega (arith, offers_of-length offers, ap (length {A = model.Offer}) same, length-line_of_le line)
 
 -- ---- an offer set, and one pushed ----
 
@@ -109,7 +113,7 @@ module _ (line : Line) (offer : Offer) where
         line.waiting < 16 → line_of (pushed line offer) ≡ line_of line ++ (offer_of offer ∷ [])
     line_of-pushed_room room =
         let xs = offers_of line.offers in
-        let long : length xs ≡ 16 = length-offers_of line.offers ∙ whole in
+        let long : length xs ≡ 16 = offers_of-length line.offers ∙ whole in
         let all : take 16 xs ≡ xs = take_all 16 xs (omega arith) in
         let new = set xs line.waiting (offer_of offer) in
         let new-all : take 16 new ≡ new = take_all 16 new (simp length-set (omega arith)) in
@@ -128,11 +132,11 @@ module _ (line : Line) (offer : Offer) where
         room h =
             line_of-pushed_room h
             ∙ sym (take_all 16 (line_of line ++ (offer_of offer ∷ []))
-            (simp length-append (omega (arith, length-line_of_few line whole h))))
+            (simp length-append (omega (arith, length-line_of line whole))))
 
         full : 16 ≤ line.waiting →
             line_of (pushed line offer) ≡ take 16 (line_of line ++ (offer_of offer ∷ []))
         full h =
-            let long = length-line_of_most line whole h in
+            let long = length-line_of line whole in
             ap line_of (pushed_full line offer h) ∙ sym (take_all 16 (line_of line) (omega arith))
             ∙ sym (take-append-le 16 (line_of line) (offer_of offer ∷ []) (omega arith))

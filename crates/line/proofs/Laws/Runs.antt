@@ -1,14 +1,42 @@
 -- Laws of the offers that a run of declared ones says: its length, its first ones, one run over another.
 -- Assumes nothing.
 use mathlib.Core.Path.{◌≡◌, refl, sym, ap, ap₂, ◌∙◌}
+use mathlib.Core.Logic.{⊎_elim}
 use mathlib.Core.List.{List, [], ◌∷◌, ◌++◌}
-use Prim.Native.Nat.{ℕ, zero, suc, ◌+◌}
-use lib.ListN.{length, take, drop}
+use Prim.Native.Nat.{ℕ, zero, suc, ◌+◌, ◌≤◌, ◌<◌, min}
+use native.Mathlib.Omega.{arith}
+use lib.ListN.{length, take, drop, length-take}
+use lib.Seq.{take_all, take-take}
 use Rattle.laws.specs.Lists.{over}
+use Rattle.laws.proofs.Cases.{lt_cases}
 use Rattle.laws.proofs.Lists.{over_is}
 use Rattle.model.specs.Line as model
 use Rattle.line.specs.declared.offers.Offer.{Offer}
 use Rattle.line.specs.Offers.{offer_of, offers_of}
+
+-- so many of the first ones
+module _ {A : Type 0} (xs : List A) (n m : ℕ) where
+  pub take_of-take : take n (take m xs) ≡ take (min n m) xs
+  take_of-take = ⊎_elim few all (lt_cases n m)
+    where
+      few : n < m → take n (take m xs) ≡ take (min n m) xs
+      few low =
+          let least : n ≡ min n m = omega (arith, low) in
+          take-take n m xs (omega (arith, low)) ∙ ap (λ (k : ℕ). take k xs) least
+
+      all : m ≤ n → take n (take m xs) ≡ take (min n m) xs
+      all high =
+          let least : m ≡ min n m = omega (arith, high) in
+          take_all n (take m xs) (omega (arith, high, length-take m xs)) ∙ ap (λ (k : ℕ). take k xs) least
+
+pub offers_of_nil : offers_of [] ≡ []
+unfolding offers_of
+offers_of_nil = refl
+
+pub offers_of-cons :
+    (offer : Offer) (later : List Offer) → offers_of (offer ∷ later) ≡ offer_of offer ∷ offers_of later
+unfolding offers_of
+offers_of-cons offer later = refl
 
 pub offers_of-length : (offers : List Offer) → length (offers_of offers) ≡ length offers
 unfolding offers_of

@@ -7,6 +7,7 @@ use mathlib.Core.Option.{Option, none, some}
 use Prim.Native.Nat.{ℕ}
 use lib.ListN.{length}
 use borrow.Author.Tests.{eq-eqb, ne_eqb}
+use Rattle.std.specs.Prelude.{Result, Ok, Err}
 use Rattle.laws.specs.Checks.{first_of}
 use Rattle.laws.proofs.Cases.{cond_true, cond_false, eq_cases}
 use Rattle.model.specs.Geometry.{Geometry}
@@ -20,13 +21,16 @@ use Rattle.model.proofs.Laws.LineChains.{line_read_refusal_drive, drive_refusal_
 use Rattle.model.proofs.Laws.LineChains.{line_read_refusal_number, line_read_refusal_some}
 use Rattle.model.proofs.Laws.LineCalls.{line_read_when_refused, line_read_refusal_disk, line_read_disk}
 use Rattle.model.proofs.Laws.LineCalls.{line_read_waiting}
+use Rattle.layout.specs.declared.refusals.Refusal.{Refusal}
+use Rattle.layout.specs.Refusals.{answer_number}
 use Rattle.layout.specs.Drives.{RefusedBy, OpenedWith}
 use Rattle.line.specs.Waiting.{counting_offer}
 use Rattle.line.proofs.Laws.CountingOffer.{offer_block, waiting_for_counting, counting_offer_good}
 use Rattle.reads.specs.Finds.{Find, refused_find, blank_find, block_find, hidden_find, refusal_of}
 use Rattle.reads.proofs.Laws.Finds.{refusal_of-hidden_find, shown_find-hidden_find, inside_hidden_find}
 use Rattle.line_calls.specs.Finds.{LineFind, drive_find, lent_find, offer_find, line_find, line_refusal_of}
-use Rattle.line_calls.specs.Finds.{shown_line_find, FoundInside}
+use Rattle.line_calls.specs.Finds.{line_find_of, shown_line_find, FoundInside}
+use Rattle.line_calls.specs.declared.finds.LineFind as declared
 
 -- a find with a refusal is that refusal
 find_refused :
@@ -34,6 +38,14 @@ find_refused :
 find_refused (refused_find fault) e f = ap refused_find e
 find_refused blank_find e f = absurd (f (sym e))
 find_refused (block_find address) e f = absurd (f (sym e))
+
+-- the answer of a find through a line is the refusal of what it says
+pub line_refusal_of-line_find_of :
+    (find : Result declared.LineFind Refusal) → line_refusal_of (line_find_of find) ≡ answer_number find
+line_refusal_of-line_find_of (Err refusal) = refl
+line_refusal_of-line_find_of (Ok declared.TheVariants.Blank) = refl
+line_refusal_of-line_find_of (Ok (declared.TheVariants.Drive address)) = refl
+line_refusal_of-line_find_of (Ok (declared.TheVariants.Lent place)) = refl
 
 module _ (disk : Bytes) (number : ℕ) (blank blocks : Bytes) (line : List Offer) where
   abbrev refusal : ℕ

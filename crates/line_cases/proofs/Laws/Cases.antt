@@ -9,10 +9,12 @@ use Rattle.model.specs.Line.{Offer}
 use Rattle.model.specs.Calls.{in_line, written}
 use Rattle.model.specs.Promises.Figures.{filled}
 use Rattle.model.specs.Promises.LineFigures.{three_blocks, line_written, disk_after_line, left_by}
+use Rattle.std.specs.Prelude.{Result}
+use Rattle.layout.specs.declared.refusals.Refusal.{Refusal}
 use Rattle.line.specs.declared.offers.Line.{Line}
 use Rattle.line.specs.Offers.{line_of, no_line}
 use Rattle.mapper.specs.declared.write.LineWritten.{LineWritten}
-use Rattle.mapper.specs.Writes.{LineAnswered}
+use Rattle.mapper.specs.Writes.{LineAnswered, told_by_line_write}
 use Rattle.line_cases.specs.Offers.{line_said}
 use Rattle.line_cases.specs.declared.cases.Start.{Start}
 use Rattle.line_cases.specs.Cases.{case_drive, written_with, Case, case_on, written_case, case_after}
@@ -37,8 +39,8 @@ case_is left = rw (left.disk_is, left.line_is)
 
 -- the blocks lent are the three
 pub written_with_lem :
-    {disk after blocks : Bytes} {line : Line} {list listAfter : List DiskAddress} {made : LineWritten}
-    (number : ℕ) → blocks ≡ three_blocks →
+    {disk after blocks : Bytes} {line : Line} {list listAfter : List DiskAddress}
+    {made : Result LineWritten Refusal} (number : ℕ) → blocks ≡ three_blocks →
     LineAnswered
     (written disk number (filled 7) (replicate 256 165) (length list) (in_line blocks (line_of line)))
     disk list blocks line after listAfter made →
@@ -48,10 +50,10 @@ written_with_lem number blocks-are wrote = rw blocks-are at wrote
 
 -- a write leaves the case after it
 pub case_written :
-    {case : Case} {disk after : Bytes} {line : Line} {list listAfter : List DiskAddress} {made : LineWritten}
-    {number other : ℕ} → CaseLeft case disk line → number ≡ other →
+    {case : Case} {disk after : Bytes} {line : Line} {list listAfter : List DiskAddress}
+    {made : Result LineWritten Refusal} {number other : ℕ} → CaseLeft case disk line → number ≡ other →
     LineAnswered (line_written disk number (line_of line)) disk list three_blocks line after listAfter made →
-    CaseLeft (written_case other case) after made.line
+    CaseLeft (written_case other case) after (told_by_line_write line made).line
 case_written left number_is made =
     record {
       disk_is = same_disk left.disk_is left.line_is number_is made.stored;
@@ -82,21 +84,22 @@ module _ {from to last : ℕ} {start : Case} {size i : ℕ} {disk : Bytes} {left
     (so_far : Carrying from to last start size i disk left) where
   -- one write more
   pub carrying_more :
-      {after : Bytes} {list listAfter : List DiskAddress} {made : LineWritten} {number : ℕ} → i < to →
+      {after : Bytes} {list listAfter : List DiskAddress} {made : Result LineWritten Refusal} {number : ℕ}
+      {next : Line} → i < to →
       number ≡ min i last →
       LineAnswered (line_written disk number (line_of left)) disk list three_blocks left after listAfter
       made →
-      length after ≡ length disk →
-      Carrying from to last start size (i + 1) after made.line
+      next ≡ (told_by_line_write left made).line → length after ≡ length disk →
+      Carrying from to last start size (i + 1) after next
   unfolding case_after
-  carrying_more more number_is made kept =
-      let next : i + 1 - from ≡ suc (i - from) = omega (arith, so_far.low) in
+  carrying_more {after = after} more number_is made next_is kept =
+      let one : i + 1 - from ≡ suc (i - from) = omega (arith, so_far.low) in
       let here : i ≡ from + (i - from) = omega (arith, so_far.low) in
       record {
         low = omega arith;
         within = omega (arith, so_far.low);
         reached =
-            rw next
+            rw (one, next_is)
             (case_written so_far.reached (number_is ∙ ap (λ (n : ℕ). min n last) here) made);
         same_size = kept ∙ so_far.same_size;
       }

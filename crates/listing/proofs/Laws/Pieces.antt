@@ -4,7 +4,7 @@ use mathlib.Core.Path.{◌≡◌, refl, sym, ap, ◌∙◌}
 use mathlib.Core.Logic.{◌≢◌, ◌⊎◌, inl, inr}
 use mathlib.Core.Bool.{true, false}
 use mathlib.Core.List.{[], ◌∷◌, ◌++◌}
-use Prim.Native.Nat.{ℕ, ◌+◌, ◌*◌, ◌-◌, ◌≤◌, ◌<◌}
+use Prim.Native.Nat.{ℕ, ◌+◌, ◌*◌, ◌≤◌, ◌<◌}
 use native.Mathlib.Numerals.{add-one}
 use native.Mathlib.Omega.{arith}
 use lib.ListN.{length, take, get_or}
@@ -36,49 +36,28 @@ after_bytes_suc at piece i h =
 
 -- ---- a piece, byte by byte ----
 
--- so many bytes of a piece are taken, and the buffers keep their lengths
-pub record Taken (start : Listing) (piece : Bytes) (buffer out : Bytes) (i : ℕ) (at : Listing)
-    (bufferNow outNow : Bytes) : Type 0 where
-  pub within : i ≤ length piece
+-- so many bytes of a piece are taken
+pub record Taken (start : Listing) (piece : Bytes) (i : ℕ) (at : Listing) : Type 0 where
   pub stands : at ≡ after_bytes start (take i piece)
   pub counted : at.line ≤ start.line + i
-  pub buffer_kept : length bufferNow ≡ length buffer
-  pub disk_kept : length at.disk ≡ length start.disk
-  pub out_kept : length outNow ≡ length out
 
-pub taken_none :
-    (start : Listing) (piece buffer out : Bytes) → Taken start piece buffer out 0 start buffer out
-taken_none start piece buffer out =
-    record {
-      within = omega arith;
-      stands = sym (after_bytes_nil start);
-      counted = omega arith;
-      buffer_kept = refl;
-      disk_kept = refl;
-      out_kept = refl;
-    }
+pub taken_none : (start : Listing) (piece : Bytes) → Taken start piece 0 start
+taken_none start piece = record { stands = sym (after_bytes_nil start); counted = omega arith }
 
 pub taken_one :
-    {start at : Listing} {piece buffer out bufferNow outNow : Bytes} {i : ℕ} →
-    Taken start piece buffer out i at bufferNow outNow → i < length piece →
-    (next : Listing) (bufferNext outNext : Bytes) → next ≡ after_byte at (get_or piece i 0) →
-    length bufferNext ≡ length bufferNow → length next.disk ≡ length at.disk →
-    length outNext ≡ length outNow → Taken start piece buffer out (i + 1) next bufferNext outNext
-taken_one {start} {at} {piece} {i = i} taken h next bufferNext outNext e buffer-same disk_same out-same =
+    {start at : Listing} {piece : Bytes} {i : ℕ} → Taken start piece i at → i < length piece →
+    (next : Listing) → next ≡ after_byte at (get_or piece i 0) → Taken start piece (i + 1) next
+taken_one {start} {at} {piece} {i} taken h next e =
     let one : next.line ≤ at.line + 1 = rw e (line_after_byte at (get_or piece i 0)) in
     record {
-      within = omega arith;
       stands = e ∙ ap (λ (l : Listing). after_byte l (get_or piece i 0)) taken.stands
           ∙ sym (after_bytes_suc start piece i h);
       counted = omega (arith, taken.counted);
-      buffer_kept = buffer-same ∙ taken.buffer_kept;
-      disk_kept = disk_same ∙ taken.disk_kept;
-      out_kept = out-same ∙ taken.out_kept;
     }
 
 pub taken_all :
-    {start at : Listing} {piece buffer out bufferNow outNow : Bytes} {i : ℕ} →
-    Taken start piece buffer out i at bufferNow outNow → length piece ≤ i → at ≡ after_bytes start piece
+    {start at : Listing} {piece : Bytes} {i : ℕ} → Taken start piece i at → length piece ≤ i →
+    at ≡ after_bytes start piece
 taken_all {start} {piece = piece} {i = i} taken h =
     taken.stands ∙ ap (after_bytes start) (take_all i piece h)
 
@@ -119,48 +98,20 @@ led_on start at after piece led goes_on fed = by led.led (eq_cases fed.count 0)
 
 -- ---- the turns of the loop over pieces ----
 
--- the turns that the loop begins with
-abbrev pub all_turns : ℕ
-all_turns = 1125899906842624
-
--- some input leads here, each turn has at most 4,097 lines, and the buffers keep their lengths
-pub record PieceTurned (start : Listing) (piece buffer out : Bytes) (turns : ℕ) (at : Listing)
-    (pieceNow bufferNow outNow : Bytes) : Type 0 where
+-- some input leads here, and each turn has at most 4,097 lines
+pub record PieceTurned (start : Listing) (turns : ℕ) (at : Listing) : Type 0 where
   pub led : Led start at
-  pub counted : at.line + 4097 * turns ≤ 1 + 4097 * all_turns
-  pub piece_kept : length pieceNow ≡ length piece
-  pub buffer_kept : length bufferNow ≡ length buffer
-  pub disk_kept : length at.disk ≡ length start.disk
-  pub out_kept : length outNow ≡ length out
+  pub counted : at.line ≤ 1 + 4097 * turns
 
-pub turned_none :
-    (start : Listing) (piece buffer out : Bytes) → start.line ≡ 1 →
-    PieceTurned start piece buffer out all_turns start piece buffer out
-turned_none start piece buffer out first =
-    record {
-      led = led_nowhere start;
-      counted = omega arith;
-      piece_kept = refl;
-      buffer_kept = refl;
-      disk_kept = refl;
-      out_kept = refl;
-    }
+pub turned_none : (start : Listing) → start.line ≡ 1 → PieceTurned start 0 start
+turned_none start first = record { led = led_nowhere start; counted = omega arith }
 
 pub turned_one :
-    {start at : Listing} {piece buffer out pieceNow bufferNow outNow : Bytes} {turns : ℕ} →
-    PieceTurned start piece buffer out turns at pieceNow bufferNow outNow → at.is_open ≡ true → 0 < turns →
-    length piece ≤ 4096 → (next : Listing) (pieceNext bufferNext outNext : Bytes) → Fed at pieceNext next →
-    next.line ≤ at.line + length pieceNow + 1 → length pieceNext ≡ length pieceNow →
-    length bufferNext ≡ length bufferNow → length next.disk ≡ length at.disk →
-    length outNext ≡ length outNow →
-    PieceTurned start piece buffer out (turns - 1) next pieceNext bufferNext outNext
-turned_one {start} {at} turned goes_on some short next pieceNext bufferNext outNext fed few piece-same
-    buffer-same disk_same out-same =
+    {start at : Listing} {turns : ℕ} → PieceTurned start turns at → at.is_open ≡ true → (next : Listing)
+    (piece : Bytes) → length piece ≤ 4096 → Fed at piece next → next.line ≤ at.line + length piece + 1 →
+    PieceTurned start (turns + 1) next
+turned_one {start} {at} turned goes_on next piece short fed few =
     record {
-      led = led_on start at next pieceNext turned.led goes_on fed;
-      counted = omega (arith, turned.counted, turned.piece_kept);
-      piece_kept = piece-same ∙ turned.piece_kept;
-      buffer_kept = buffer-same ∙ turned.buffer_kept;
-      disk_kept = disk_same ∙ turned.disk_kept;
-      out_kept = out-same ∙ turned.out_kept;
+      led = led_on start at next piece turned.led goes_on fed;
+      counted = omega (arith, turned.counted);
     }

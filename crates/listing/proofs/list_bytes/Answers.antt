@@ -5,28 +5,26 @@ use Rattle.listing.proofs.Laws.Steps.{lent_again}
 use Rattle.listing.proofs.Laws.Pieces.{taken_none, taken_one, taken_all}
 use Rattle.listing.proofs.list_bytes.Goals as goal
 
-pub loop-i-init : goal.loop-i-init
-loop-i-init c =
-    let a = c.args in
-    taken_none (listing_of a.progress a.buffer.now a.disk.now) a.piece.now a.buffer.now a.out.now
+pub loop-byte-init : goal.loop-byte-init
+loop-byte-init c =
+    let a = c.args in taken_none (listing_of a.progress a.buffer.now a.disk.now) a.piece.now
 
 pub list_byte-current-requires-clause-line_bound : goal.list_byte-current-requires-clause-line_bound
 list_byte-current-requires-clause-line_bound c =
-    let inv = c.loop-i.invariant in omega (arith, inv.counted, inv.within, c.requires.piece_bound)
+    omega (arith, c.loop-byte.invariant.counted, c.requires.piece_bound)
 
 pub list_byte-current-requires-clause-lent : goal.list_byte-current-requires-clause-lent
 list_byte-current-requires-clause-lent c =
-    let inv = c.loop-i.invariant in lent_again c.requires.lent inv.buffer_kept inv.disk_kept inv.out_kept
+    let kept = c.loop-byte.auto in lent_again c.requires.lent kept.buffer kept.disk kept.out
 
-pub loop-i-preserved : goal.loop-i-preserved
-loop-i-preserved c =
+pub loop-byte-preserved : goal.loop-byte-preserved
+loop-byte-preserved c =
     let call = c.list_byte-current in
-    taken_one c.loop-i.invariant c.loop-i-test.true (listing_of call.result call.new.buffer call.new.disk)
-    call.new.buffer call.new.out call.ensures.stands call.auto.buffer call.auto.disk call.auto.out
+    taken_one c.loop-byte.invariant c.loop-byte-test.true
+    (listing_of call.result call.new.buffer call.new.disk) call.ensures.stands
 
 pub returns-clause-disk_after : goal.returns-clause-disk_after
-returns-clause-disk_after c = taken_all c.loop-i.invariant c.loop-i-test.false
+returns-clause-disk_after c = taken_all c.loop-byte.invariant c.loop-byte-test.false
 
 pub returns-clause-line_bound : goal.returns-clause-line_bound
-returns-clause-line_bound c =
-    let inv = c.loop-i.invariant in omega (arith, inv.counted, inv.within)
+returns-clause-line_bound c = omega (arith, c.loop-byte.invariant.counted)

@@ -7,6 +7,7 @@ use mathlib.Core.Bool.{Bool, true, false, cond}
 use mathlib.Core.List.{List, [], ◌∷◌}
 use Prim.Native.Nat.{ℕ}
 use native.Mathlib.Omega.{arith}
+use Rattle.std.specs.Prelude.{Ok}
 use lib.ListN.{length, take}
 use Rattle.laws.proofs.Cases.{cond_cases}
 use Rattle.model.specs.Geometry.{Geometry}
@@ -22,17 +23,14 @@ use Rattle.model.proofs.Laws.Offers.{offer_refusal-in_line, offered_writes-in_li
 use Rattle.model.proofs.Volumes.Placed.{placed_le}
 use Rattle.recovery_model.specs.Cuts.{is_cut}
 use Rattle.line.specs.declared.offers.Line.{Line}
-use Rattle.line.specs.declared.turns.Turns.{Turns}
 use Rattle.line.specs.Offers.{line_of}
-use Rattle.line.specs.Turns.{turns_in, TurnsFound}
-use Rattle.line.proofs.Laws.Turns.{length-turns_in}
+use Rattle.line.specs.Turns.{TurnsFound}
 use Rattle.rounds.specs.declared.runs.Ran.{Ran}
 use Rattle.rounds.specs.Runs.{turns_run, RunMade}
-use Rattle.mapper.specs.declared.within.Bounded.{Bounded}
 use Rattle.mapper.specs.declared.within.LineBounded.{LineBounded}
-use Rattle.mapper.specs.declared.write.Outcome.TheVariants.{NotTried}
-use Rattle.mapper.specs.Within.{BoundedAnswered, LineFits, without_line, LineDone, line_within}
-use Rattle.mapper.specs.Within.{LineBoundedAnswered}
+use Rattle.mapper.specs.Within.{BoundedTold, bounded_refused, BoundedAnswered}
+use Rattle.mapper.specs.Within.{LineFits, without_line, LineDone}
+use Rattle.mapper.specs.Within.{LineBoundedTold, line_bounded_of, line_within, LineBoundedAnswered}
 use Rattle.mapper.proofs.Laws.Writes.{block_refused, placed_is, placed_most, next_fits, block_done}
 
 nil_of_length : (offers : List Offer) → length offers ≡ 0 → offers ≡ []
@@ -40,17 +38,8 @@ nil_of_length [] none = refl
 nil_of_length (offer ∷ later) none = absurd (omega arith)
 
 -- what a write told that placed none, and the line
-abbrev keeping_line : Bounded → Line → LineBounded
-keeping_line answer line =
-    record {
-      answer = answer.answer;
-      rounds = answer.rounds;
-      stores = answer.stores;
-      outcome = answer.outcome;
-      placed = 0;
-      line = line;
-      is_cut = answer.is_cut;
-    }
+abbrev keeping_line : BoundedTold → Line → LineBoundedTold
+keeping_line answer line = record { bounded = answer; placed = 0; line = line }
 
 module _ (disk : Bytes) (number : ℕ) (content random : Bytes) (list : List DiskAddress) (line : Line)
     (blocks : Bytes) (bound : ℕ) where
@@ -60,7 +49,7 @@ module _ (disk : Bytes) (number : ℕ) (content random : Bytes) (list : List Dis
   -- one that placed none keeps the line
   kept_line :
       (result : model.Written) → result.placed ≡ 0 → (disk_after : Bytes) (listAfter : List DiskAddress)
-      (answer : Bounded) → BoundedAnswered result bound disk list disk_after listAfter answer →
+      (answer : BoundedTold) → BoundedAnswered result bound disk list disk_after listAfter answer →
       LineBoundedAnswered result bound disk list blocks line disk_after listAfter (keeping_line answer line)
   kept_line result none disk_after listAfter answer said =
       record {
@@ -70,21 +59,12 @@ module _ (disk : Bytes) (number : ℕ) (content random : Bytes) (list : List Dis
             sym
             (cond_cases (λ (offers : List Offer). offers ≡ line_of line) (is_cut bound result) (λ e. refl)
             (λ e. line_left_none result disk blocks (line_of line) none));
-        line_kept = λ refused. refl;
       }
 
   pub line_refused :
       (fault : ℕ) → fault ≡ write_refusal disk number content (length random) (length list) → fault ≢ 0 →
       LineBoundedAnswered with_line bound disk list blocks line disk list
-      (record {
-        answer = fault;
-        rounds = 0;
-        stores = 0;
-        outcome = NotTried;
-        placed = 0;
-        line = line;
-        is_cut = false;
-      })
+      (keeping_line (bounded_refused fault) line)
   line_refused fault is some =
       let offered = model.in_line blocks (line_of line) in
       kept_line with_line
@@ -95,48 +75,43 @@ module _ (disk : Bytes) (number : ℕ) (content random : Bytes) (list : List Dis
   -- ---- not refused ----
 
   module _ (accepted : write_refusal disk number content (length random) (length list) ≡ 0) (g : Geometry)
-      (same : g ≡ geometry_in disk) (head : ℕ) (first : head ≡ head_in disk) (taken : Turns)
+      (same : g ≡ geometry_in disk) (head : ℕ) (first : head ≡ head_in disk) (taken : Line)
       (found : TurnsFound g (length blocks) (line_of line) taken) where
     pub brought_in_line :
-        hidden_writes_of g blocks (turns_in taken) ≡
+        hidden_writes_of g blocks (line_of taken) ≡
         model.offered_writes g (model.in_line blocks (line_of line))
     brought_in_line =
         ap (hidden_writes_of g blocks) (found.turns_are blocks refl)
         ∙ sym (offered_writes-in_line g blocks (line_of line))
 
-    module _ (numbers_whole : length taken.numbers ≡ 16) (places_whole : length taken.places ≡ 16)
-        (disk_after : Bytes) (listAfter : List DiskAddress) (ran : Ran)
+    module _ (disk_after : Bytes) (listAfter : List DiskAddress) (ran : Ran)
         (done : RunMade g disk list 0 bound
-        (turns_run g disk number head content random (turns_in taken) blocks) (turns_in taken) blocks disk_after
+        (turns_run g disk number head content random (line_of taken) blocks) (line_of taken) blocks disk_after
         listAfter ran) where
-      counted : length (turns_in taken) ≡ taken.count
-      counted = length-turns_in taken numbers_whole places_whole found.count_most
-
       pub line_fits : LineFits ran taken
       line_fits =
           let offered = model.in_line blocks (line_of line) in
           let most =
           placed_most disk number content random list offered blocks accepted g same head first
-          (turns_in taken) brought_in_line disk_after listAfter ran done in
+          (line_of taken) brought_in_line disk_after listAfter ran done in
           record {
-            placed_most = omega (arith, most, counted);
-            count_most = found.count_most;
+            placed_most = most;
             stores_few =
                 next_fits disk number content random list offered blocks accepted g same head first
-                (turns_in taken) brought_in_line disk_after listAfter ran done;
+                (line_of taken) brought_in_line disk_after listAfter ran done;
           }
 
       placed : ran.state.placed ≡ cond (is_cut bound with_line) 0 with_line.placed
       placed =
           placed_is disk number content random list (model.in_line blocks (line_of line)) blocks accepted g same
-          head first (turns_in taken) brought_in_line disk_after listAfter ran done
+          head first (line_of taken) brought_in_line disk_after listAfter ran done
 
-      turns_are : turns_in taken ≡ turns (geometry_in disk) blocks (line_of line)
+      turns_are : line_of taken ≡ turns (geometry_in disk) blocks (line_of line)
       turns_are =
           found.turns_are blocks refl ∙ ap (λ (h : Geometry). turns h blocks (line_of line)) same
 
       -- the first so many of its turns leave the line, none where it is cut
-      left : left_after (take ran.state.placed (turns_in taken)) (line_of line) ≡
+      left : left_after (take ran.state.placed (line_of taken)) (line_of line) ≡
           line_within bound with_line disk blocks (line_of line)
       left =
           ap₂ (λ (count : ℕ) (offers : List Offer). left_after (take count offers) (line_of line)) placed
@@ -152,24 +127,24 @@ module _ (disk : Bytes) (number : ℕ) (content random : Bytes) (list : List Dis
 
       pub line_done :
           (answer : LineBounded) → LineDone ran taken line answer →
-          LineBoundedAnswered with_line bound disk list blocks line disk_after listAfter answer
+          LineBoundedAnswered with_line bound disk list blocks line disk_after listAfter
+          (line_bounded_of line (Ok answer))
       line_done answer said =
           record {
             told =
                 block_done disk number content random list (model.in_line blocks (line_of line)) blocks accepted
-                g same head first (turns_in taken) brought_in_line disk_after listAfter ran done 0
-                taken.count (sym (offer_refusal-in_line g blocks (line_of line))) counted
+                g same head first (line_of taken) brought_in_line disk_after listAfter ran done 0
+                (length (line_of taken)) (sym (offer_refusal-in_line g blocks (line_of line))) refl
                 (without_line answer) said.told;
             placed_are = said.placed_are ∙ placed;
             line_left_lem = said.line_left_lem ∙ left;
-            line_kept = λ refused. absurd (refused said.told.answered);
           }
 
   -- ---- where nothing waits ----
 
   -- it is the write with nothing offered
   pub line_empty :
-      length (line_of line) ≡ 0 → (disk_after : Bytes) (listAfter : List DiskAddress) (answer : Bounded) →
+      length (line_of line) ≡ 0 → (disk_after : Bytes) (listAfter : List DiskAddress) (answer : BoundedTold) →
       BoundedAnswered (model.written disk number content random (length list) model.nothing) bound disk list
       disk_after listAfter answer →
       LineBoundedAnswered with_line bound disk list blocks line disk_after listAfter (keeping_line answer line)

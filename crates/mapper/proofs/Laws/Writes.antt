@@ -46,8 +46,7 @@ use Rattle.stores.proofs.Laws.Made.{disk_after_lem, list_after, next_after}
 use Rattle.rounds.specs.declared.runs.Ran.{Ran}
 use Rattle.rounds.specs.Runs.{turns_run, TurnsLent, Runnable, RunMade}
 use Rattle.mapper.specs.declared.within.Bounded.{Bounded}
-use Rattle.mapper.specs.declared.write.Outcome.TheVariants.{NotTried}
-use Rattle.mapper.specs.Within.{DoneAnswered, BoundedAnswered}
+use Rattle.mapper.specs.Within.{DoneAnswered, bounded_made, bounded_refused, BoundedAnswered}
 
 -- ---- choices by one test ----
 
@@ -72,7 +71,7 @@ module _ (disk : Bytes) (number : ℕ) (content random : Bytes) (list : List Dis
   pub block_refused :
       (offered : model.Offered) (bound : ℕ) →
       BoundedAnswered (model.written disk number content random (length list) offered) bound disk list disk
-      list (record { answer = fault; rounds = 0; stores = 0; outcome = NotTried; is_cut = false })
+      list (bounded_refused fault)
   block_refused offered bound =
       let nothing : take bound (model.refused_write 0).trace ≡ [] = take-nil bound in
       let whole : ltb bound 0 ≡ false = le-ltb bound 0 (omega arith) in
@@ -236,12 +235,12 @@ module _ (disk : Bytes) (number : ℕ) (content random : Bytes) (list : List Dis
         (bad count : ℕ) → bad ≡ model.offer_refusal g offered → length offers ≡ count → (answer : Bounded) →
         DoneAnswered bad ran count answer →
         BoundedAnswered (model.written disk number content random (length list) offered) bound disk list
-        disk_after listAfter answer
+        disk_after listAfter (bounded_made answer)
     block_done bad count judged counted answer said =
         let m = done_theirs in
         rw (written_done disk number content random (length list) offered accepted)
         (record {
-          answered = said.answered;
+          answered = refl;
           rounds_are =
               said.rounds_are ∙ m.rounds_are ∙ ap (λ (b : Bool). cond b 0 theirs.rounds) cut_is;
           stores_are = omega (arith, said.stores_are, next_after made);

@@ -10,8 +10,8 @@ use Rattle.model.specs.Blocks.{Bytes}
 use Rattle.model.specs.Layout.{geometry_in}
 use Rattle.model.specs.Calls.{public_read, hidden_read}
 use Rattle.model.proofs.Laws.Refusals.{drive_of_refusal}
-use Rattle.reads.specs.Finds.{Find, refused_find, blank_find, block_find, public_find, hidden_find, shown_find}
-use Rattle.reads.specs.Finds.{BlockInside}
+use Rattle.reads.specs.Finds.{Find, refused_find, blank_find, block_find, public_find, hidden_find}
+use Rattle.reads.specs.Finds.{shown_find, BlockInside}
 use Rattle.reads.proofs.Laws.Finds.{shown_find-public_find, inside_public_find, shown_find-hidden_find}
 use Rattle.reads.proofs.Laws.Finds.{inside_hidden_find}
 use Rattle.answers_c.specs.declared.finds.Found.{Found}

@@ -30,7 +30,8 @@ shown_in_line-found_line_of :
 unfolding shown_in_line
 shown_in_line-found_line_of (drive_find (refused_find fault)) disk blank blocks =
     shown_by-found_of (refused_find fault) disk blank
-shown_in_line-found_line_of (drive_find blank_find) disk blank blocks = shown_by-found_of blank_find disk blank
+shown_in_line-found_line_of (drive_find blank_find) disk blank blocks =
+    shown_by-found_of blank_find disk blank
 shown_in_line-found_line_of (drive_find (block_find address)) disk blank blocks =
     shown_by-found_of (block_find address) disk blank
 shown_in_line-found_line_of (lent_find place) disk blank blocks = refl
@@ -59,8 +60,8 @@ block_among_lent (lent_find place) disk blocks inside kind = inside.inside
 pub held_found :
     (disk : Bytes) (number : ℕ) (blank blocks : Bytes) (line : List model.Offer) (answer : Found) →
     answer ≡ found_in_line disk number blank blocks line →
-    LineFound (found_in_line disk number blank blocks line) (line_read disk number blank blocks line) disk blank
-    blocks answer
+    LineFound (found_in_line disk number blank blocks line) (line_read disk number blank blocks line) disk
+    blank blocks answer
 held_found disk number blank blocks line answer same =
     let find : LineFind = line_find disk number blank blocks line in
     let inside : FoundInside find disk blocks = inside_line_find disk number blank blocks line in

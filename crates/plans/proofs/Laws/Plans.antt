@@ -4,6 +4,8 @@ use mathlib.Core.Logic.{◌⊎◌, inl, inr}
 use mathlib.Core.Bool.{Bool, true, false, cond, not, ◌&&◌, ◌||◌}
 use mathlib.Core.List.{List, []}
 use Prim.Native.Nat.{ℕ}
+use Rattle.std.specs.Prelude.{Option, Some, None}
+use Rattle.std.specs.Option.{is_some}
 use Rattle.laws.proofs.Cases.{bool_cases, true_is_not_false}
 use Rattle.model.specs.Geometry.{Geometry, block_width}
 use Rattle.model.specs.Blocks.{Bytes, block_at}
@@ -12,7 +14,8 @@ use Rattle.model.specs.HiddenTree.{owner_of, walk, is_damaged}
 use Rattle.model.specs.Paths.{path_stores}
 use Rattle.model.specs.Table as model
 use Rattle.model.specs.HiddenHalf.{HiddenWrite, HiddenState, is_waiting, is_live}
-use Rattle.model.specs.HiddenHalf.{is_next_damaged, is_blocked, half, placed_state, hidden_by, row_of, hidden_half}
+use Rattle.model.specs.HiddenHalf.{is_next_damaged, is_blocked, half, placed_state, hidden_by, row_of}
+use Rattle.model.specs.HiddenHalf.{hidden_half}
 use Rattle.model.proofs.Laws.HiddenHalf.{row_of_hidden}
 use Rattle.model.proofs.Laws.Owners.{is_next_damaged_nil, is_next_damaged-cons, hidden_half_blocked}
 use Rattle.model.proofs.Laws.Owners.{hidden_half_free, hidden_by_keep, hidden_by_place, hidden_by_fill}
@@ -26,46 +29,43 @@ use Rattle.table.specs.declared.HiddenChoice.TheVariants.{Keep, Place, Fill}
 use Rattle.table.specs.declared.Row.{Row}
 use Rattle.table.specs.Rows as rows
 use Rattle.owners.specs.declared.Owner.{Owner}
-use Rattle.owners.specs.declared.Owner.TheVariants.{Nobody, Number}
 use Rattle.owners.specs.Owners.{OwnerWalked, is_live_for, is_damaged_for}
 use Rattle.owners.proofs.Laws.Owners.{is_live_owned, is_owner_damaged_owned}
 use Rattle.line.specs.declared.offers.Offer.{Offer}
-use Rattle.line.specs.declared.turns.First.{First}
-use Rattle.line.specs.declared.turns.First.TheVariants as firsts
 use Rattle.plans.specs.declared.hidden_plans.Data.TheVariants.{Offered}
 use Rattle.plans.specs.declared.hidden_plans.HiddenPlan.{HiddenPlan}
 use Rattle.plans.specs.declared.hidden_plans.HiddenPlan.TheVariants as plan
 use Rattle.plans.specs.declared.states.Turn.{Turn}
 use Rattle.plans.specs.declared.plans.Plans.{Plans}
 use Rattle.plans.specs.HiddenPlans.{BlockLent}
-use Rattle.plans.specs.States.{is_waiting_first, first_number, first_place, waiting_by}
+use Rattle.plans.specs.States.{first_number, first_place, waiting_by}
 use Rattle.plans.specs.Plans.{kept_plan, FirstPlanned, PlannedBy, HalfPlanned, turn_of, Planned}
 
 -- ---- what is known when a round is planned ----
 
 -- the table's row, and whose slot it is
-pub record Settled (g : Geometry) (disk : Bytes) (slot : ℕ) (first : First) (row : Row) (owner : Owner) :
-    Type 0 where
+pub record Settled (g : Geometry) (disk : Bytes) (slot : ℕ) (first : Option Offer) (row : Row)
+    (owner : Option Owner) : Type 0 where
   pub row_is :
       (blocks : Bytes) (later : List HiddenWrite) →
       rows.table_row_of row ≡ row_of g disk slot (waiting_by g blocks first later)
   pub owned : OwnerWalked g disk (owner_of g disk slot) owner
 
 module _ (g : Geometry) (disk : Bytes) (blocks : Bytes) (later : List HiddenWrite) where
-  is_waiting_is : (first : First) → is_waiting (waiting_by g blocks first later) ≡ is_waiting_first first
-  is_waiting_is firsts.Nobody = refl
-  is_waiting_is (firsts.Waits offer) = refl
+  is_waiting_is : (first : Option Offer) → is_waiting (waiting_by g blocks first later) ≡ is_some first
+  is_waiting_is None = refl
+  is_waiting_is (Some offer) = refl
 
   is_next_damaged_is :
-      (first : First) → is_next_damaged g disk (waiting_by g blocks first later) ≡
-      (is_waiting_first first && is_damaged (walk g disk (first_number first)).end)
-  is_next_damaged_is firsts.Nobody = is_next_damaged_nil g disk
-  is_next_damaged_is (firsts.Waits offer) = is_next_damaged-cons g disk _ later
+      (first : Option Offer) → is_next_damaged g disk (waiting_by g blocks first later) ≡
+      (is_some first && is_damaged (walk g disk (first_number first)).end)
+  is_next_damaged_is None = is_next_damaged_nil g disk
+  is_next_damaged_is (Some offer) = is_next_damaged-cons g disk _ later
 
 pub settled :
-    (g : Geometry) (disk : Bytes) (slot own : ℕ) (first : First) (row : Row) (owner : Owner)
+    (g : Geometry) (disk : Bytes) (slot own : ℕ) (first : Option Offer) (row : Row) (owner : Option Owner)
     (waiting allocated live : Bool) → own ≡ owner_of g disk slot → OwnerWalked g disk own owner →
-    waiting ≡ is_waiting_first first → allocated ≡ is_allocated g disk slot → live ≡ is_live_for g slot owner →
+    waiting ≡ is_some first → allocated ≡ is_allocated g disk slot → live ≡ is_live_for g slot owner →
     rows.table_row_of row ≡ model.row_at waiting allocated live → Settled g disk slot first row owner
 settled g disk slot own first row owner waiting allocated live e owned w a l r =
     record {
@@ -75,26 +75,9 @@ settled g disk slot own first row owner waiting allocated live e owned w a l r =
       owned = subst (λ (n : ℕ). OwnerWalked g disk n owner) e owned;
     }
 
--- ---- the hidden half, by the table's choice or stopped ----
-
-module _ (g : Geometry) (disk : Bytes) (choice : HiddenChoice) (owner : Owner) (first : First)
-    (damaged : Bool) (d : damaged ≡ is_damaged_for owner) where
-  pub half-stopped : damaged ≡ true → HalfPlanned g disk choice owner first plan.Back
-  half-stopped e =
-      record { stopped = λ h. refl; chosen = λ h. true_is_not_false (sym d ∙ e) h }
-
-  pub half_chosen :
-      damaged ≡ false → (told : HiddenChoice) → choice ≡ told → (hidden : HiddenPlan) →
-      PlannedBy told g disk owner first hidden → HalfPlanned g disk choice owner first hidden
-  half_chosen e told c hidden h =
-      record {
-        stopped = λ z. true_is_not_false z (sym d ∙ e);
-        chosen = λ z. subst (λ (which : HiddenChoice). PlannedBy which g disk owner first hidden) (sym c) h;
-      }
-
 -- ---- the plans ----
 
-module _ (g : Geometry) (disk : Bytes) (slot : ℕ) (first : First) (row : Row) (owner : Owner)
+module _ (g : Geometry) (disk : Bytes) (slot : ℕ) (first : Option Offer) (row : Row) (owner : Option Owner)
     (known : Settled g disk slot first row owner) where
   abbrev plans_by : HiddenPlan → Plans
   plans_by hidden = record { choice = row.public; plan = hidden; turn = turn_of hidden }
@@ -115,7 +98,7 @@ module _ (g : Geometry) (disk : Bytes) (slot : ℕ) (first : First) (row : Row) 
   blocked_is :
       (blocks : Bytes) (later : List HiddenWrite) → is_blocked g disk slot (waiting_by g blocks first later) ≡
       (is_damaged_for owner || not (is_live g disk slot) &&
-      (is_waiting_first first && is_damaged (walk g disk (first_number first)).end))
+      (is_some first && is_damaged (walk g disk (first_number first)).end))
   blocked_is blocks later =
       rw (
         is_owner_damaged_owned g disk slot (owner_of g disk slot) refl owner known.owned,
@@ -130,7 +113,8 @@ module _ (g : Geometry) (disk : Bytes) (slot : ℕ) (first : First) (row : Row) 
       record {
         chosen = chosen;
         half_is = λ blocks random later state w.
-            hidden_half_blocked g disk slot random state (ap (is_blocked g disk slot) w ∙ blocked blocks later);
+            hidden_half_blocked g disk slot random state
+            (ap (is_blocked g disk slot) w ∙ blocked blocks later);
         placed = tt;
         lent = λ blocks h. tt;
       }
@@ -153,7 +137,7 @@ module _ (g : Geometry) (disk : Bytes) (slot : ℕ) (first : First) (row : Row) 
   rule :
       (choice : model.HiddenChoice) → rows.hidden_of row.hidden ≡ choice →
       choice ≡ cond (is_live g disk slot) model.keep_hidden
-      (cond (is_waiting_first first) model.place_hidden model.fill_hidden)
+      (cond (is_some first) model.place_hidden model.fill_hidden)
   rule choice e =
       sym e ∙ ap (λ (r : model.Row). r.hidden) (known.row_is [] [])
       ∙ row_of_hidden g disk slot (waiting_by g [] first [])
@@ -163,14 +147,14 @@ module _ (g : Geometry) (disk : Bytes) (slot : ℕ) (first : First) (row : Row) 
 
   module _ (sound : is_damaged_for owner ≡ false) where
     planned_kept :
-        rows.hidden_of row.hidden ≡ model.keep_hidden → (told : Owner) → owner ≡ told →
+        rows.hidden_of row.hidden ≡ model.keep_hidden → (told : Option Owner) → owner ≡ told →
         Planned g disk slot first (plans_by (kept_plan told))
-    planned_kept e Nobody o =
+    planned_kept e None o =
         true_is_not_false
-        (live_of_keep (is_live g disk slot) (is_waiting_first first) (rule model.keep_hidden e))
+        (live_of_keep (is_live g disk slot) (is_some first) (rule model.keep_hidden e))
         (sym live_is ∙ ap (is_live_for g slot) o)
-    planned_kept e (Number own trail) o =
-        let live = live_of_keep (is_live g disk slot) (is_waiting_first first) (rule model.keep_hidden e) in
+    planned_kept e (Some own) o =
+        let live = live_of_keep (is_live g disk slot) (is_some first) (rule model.keep_hidden e) in
         let owned = subst (OwnerWalked g disk (owner_of g disk slot)) o known.owned in
         let walked = owned.1.1 in
         record {
@@ -181,16 +165,16 @@ module _ (g : Geometry) (disk : Bytes) (slot : ℕ) (first : First) (row : Row) 
               ∙ hidden_by_keep g disk slot random _ _
               ∙ ap₂ (λ (n : ℕ) (xs : List Bytes).
               half (path_stores g n slot (block_at (block_width g) disk (level_address g slot 0)) xs) state)
-              (sym owned.0) (sym (blocks_walked g disk (owner_of g disk slot) trail walked));
-          placed = placed_walked g disk (owner_of g disk slot) trail walked;
+              (sym owned.0) (sym (blocks_walked g disk (owner_of g disk slot) own.trail walked));
+          placed = placed_walked g disk (owner_of g disk slot) own.trail walked;
           lent = λ blocks h. tt;
         }
 
     module _ (e : rows.hidden_of row.hidden ≡ model.place_hidden) where
-      stale : (is_live g disk slot ≡ false) × (is_waiting_first first ≡ true)
-      stale = stale_of_place (is_live g disk slot) (is_waiting_first first) (rule model.place_hidden e)
+      stale : (is_live g disk slot ≡ false) × (is_some first ≡ true)
+      stale = stale_of_place (is_live g disk slot) (is_some first) (rule model.place_hidden e)
 
-      module _ (offer : Offer) (waits : first ≡ firsts.Waits offer) (trail : Trail)
+      module _ (offer : Offer) (waits : first ≡ Some offer) (trail : Trail)
           (walked : Walked g disk offer.number.0 trail) where
         -- the number's walk decides
         blocked_next : (blocks : Bytes) (later : List HiddenWrite) →
@@ -198,7 +182,7 @@ module _ (g : Geometry) (disk : Bytes) (slot : ℕ) (first : First) (row : Row) 
         blocked_next blocks later =
             blocked_is blocks later
             ∙ rw (sound, stale.0, stale.1)
-            (ap (λ (f : First). is_damaged (walk g disk (first_number f)).end) waits
+            (ap (λ (f : Option Offer). is_damaged (walk g disk (first_number f)).end) waits
             ∙ ap is_damaged (sym walked.end_is))
 
         placed_by :
@@ -207,7 +191,7 @@ module _ (g : Geometry) (disk : Bytes) (slot : ℕ) (first : First) (row : Row) 
             half (path_stores g offer.number.0 slot (block_at (block_width g) blocks offer.place)
             (walk g disk offer.number.0).nodes) (placed_state state later)
         placed_by blocks random later state =
-            ap (λ (f : First).
+            ap (λ (f : Option Offer).
             hidden_by model.place_hidden g disk slot random state (waiting_by g blocks f later)) waits
             ∙ hidden_by_place g disk slot random state _ later
 
@@ -227,21 +211,21 @@ module _ (g : Geometry) (disk : Bytes) (slot : ℕ) (first : First) (row : Row) 
                   half (path_stores g offer.number.0 slot (block_at (block_width g) blocks offer.place)
                   xs) (placed_state state later)) (sym (blocks_walked g disk offer.number.0 trail walked));
               placed = placed_walked g disk offer.number.0 trail walked;
-              lent = λ blocks h. subst (λ (f : First). BlockLent g blocks (first_place f)) waits h;
+              lent = λ blocks h. subst (λ (f : Option Offer). BlockLent g blocks (first_place f)) waits h;
             }
 
       planned_first :
-          (told : First) → first ≡ told → (hidden : HiddenPlan) → FirstPlanned g disk told hidden →
+          (told : Option Offer) → first ≡ told → (hidden : HiddenPlan) → FirstPlanned g disk told hidden →
           Planned g disk slot first (plans_by hidden)
-      planned_first firsts.Nobody waits hidden h =
-          true_is_not_false stale.1 (ap is_waiting_first waits)
-      planned_first (firsts.Waits offer) waits hidden (trail, (walked, h)) =
+      planned_first None waits hidden h =
+          true_is_not_false stale.1 (ap is_some waits)
+      planned_first (Some offer) waits hidden (trail, (walked, h)) =
           planned_as h (planned_placed offer waits trail walked (is_damaged (end_of trail.end)) refl)
 
     planned_filled :
         rows.hidden_of row.hidden ≡ model.fill_hidden → Planned g disk slot first (plans_by plan.Fill)
     planned_filled e =
-        let stale = stale_of_fill (is_live g disk slot) (is_waiting_first first) (rule model.fill_hidden e) in
+        let stale = stale_of_fill (is_live g disk slot) (is_some first) (rule model.fill_hidden e) in
         record {
           chosen = chosen;
           half_is = λ blocks random later state w.

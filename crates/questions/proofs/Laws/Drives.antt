@@ -34,7 +34,7 @@ module _ (disk : Bytes) where
 -- ---- how large a drive is ----
 
 module _ (g : Geometry) where
-  pub size_for_refused : is_geometry g ≡ false → refused_size ≡ size_for g
+  pub size_for_refused : is_geometry g ≡ false → refused_size 1 ≡ size_for g
   unfolding size_for
   size_for_refused e = sym (cond_false _ _ e)
 

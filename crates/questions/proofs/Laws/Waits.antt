@@ -1,15 +1,22 @@
 -- How long an offer waits: the ways to the answer. Assumes nothing.
-use mathlib.Core.Path.{◌≡◌, sym, ap, ◌∙◌}
+use mathlib.Core.Path.{◌≡◌, refl, sym, ap, ◌∙◌}
 use mathlib.Core.Logic.{◌≢◌}
-use Prim.Native.Nat.{ℕ}
+use Prim.Native.Nat.{ℕ, zero, suc}
 use borrow.Author.Tests.{eq-eqb, ne_eqb}
+use Rattle.std.specs.Prelude.{unwrap_or}
 use Rattle.laws.proofs.Cases.{cond_true, cond_false}
 use Rattle.model.specs.Geometry.{Geometry}
 use Rattle.model.specs.Blocks.{Bytes}
 use Rattle.model.specs.Layout.{geometry_in}
 use Rattle.model.specs.Refusals.{drive_refusal}
 use Rattle.model.specs.Waits.{wait_rounds}
+use Rattle.checks.specs.Counts.{found_round}
 use Rattle.questions.specs.Waits.{refused_wait, told_wait, wait_in}
+
+-- none is 0 rounds
+pub unwrap_or-found_round : (rounds : ℕ) → unwrap_or (found_round rounds) 0 ≡ rounds
+unwrap_or-found_round zero = refl
+unwrap_or-found_round (suc rounds) = refl
 
 module _ (disk : Bytes) where
   pub wait_in_refused :

@@ -7,6 +7,7 @@ use Prim.Native.Nat.{ℕ, ◌-◌}
 use native.Mathlib.Omega.{arith}
 use lib.ListN.{length}
 use borrow.Author.Tests.{eq-eqb, ne_eqb}
+use Rattle.std.specs.Prelude.{Option, Some, None, Result, Ok, Err}
 use Rattle.laws.specs.Checks.{first_of}
 use Rattle.laws.proofs.Cases.{cond_true, cond_false, eq_cases}
 use Rattle.model.specs.Geometry.{Geometry, root_address, block_width}
@@ -23,10 +24,22 @@ use Rattle.model.proofs.Laws.Chains.{entry_inside, public_read_refusal_drive, pu
 use Rattle.model.proofs.Laws.Chains.{drive_refusal_of-public_read, hidden_read_refusal_drive}
 use Rattle.model.proofs.Laws.Chains.{hidden_read_refusal_number, hidden_read_refusal_damaged}
 use Rattle.model.proofs.Laws.Chains.{hidden_read_refusal_good, drive_refusal_of-hidden_read}
+use Rattle.layout.specs.declared.numbers.DiskAddress as declared
+use Rattle.layout.specs.declared.refusals.Refusal.{Refusal}
+use Rattle.layout.specs.Refusals.{answer_number}
 use Rattle.layout.specs.Drives.{RefusedBy, OpenedWith}
 use Rattle.model.proofs.Laws.Walks.{found_inside}
-use Rattle.reads.specs.Finds.{Find, refused_find, blank_find, block_find, unless_refused, entry_find}
+use Rattle.reads.specs.Finds.{Find, find_of, refused_find, blank_find, block_find, unless_refused, entry_find}
 use Rattle.reads.specs.Finds.{public_find, end_find, hidden_find, refusal_of, shown_find, BlockInside}
+
+-- ---- the answer of a find ----
+
+-- it answers the refusal of what it says
+pub refusal_of-find_of :
+    (find : Result (Option declared.DiskAddress) Refusal) → refusal_of (find_of find) ≡ answer_number find
+refusal_of-find_of (Err refusal) = refl
+refusal_of-find_of (Ok None) = refl
+refusal_of-find_of (Ok (Some address)) = refl
 
 -- ---- a refusal or none ----
 

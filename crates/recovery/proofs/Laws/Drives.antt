@@ -22,14 +22,6 @@ use Rattle.recovery.specs.Drives.{MendedAs, RecoveredAs}
 -- ---- a drive mended ----
 
 module _ (g : Geometry) (disk : Bytes) where
-  pub mended_refused :
-      (fault : ℕ) → fault ≡ first_of (map_checks g disk) → fault ≢ 0 → MendedAs g disk disk fault
-  mended_refused fault e some =
-      record {
-        answered = e;
-        stored = sym (cond_false _ disk (ne_eqb (first_of (map_checks g disk)) 0 (λ z. some (e ∙ z))));
-      }
-
   module _ (drive : Drive g disk) (accepted : first_of (map_checks g disk) ≡ 0) (cleared : Bytes)
       (e : cleared ≡ without_bits g disk) where
     used_cleared : used_entries g cleared ≡ used_entries g disk

@@ -1,11 +1,15 @@
--- Laws of an entry of the map that is 0 or block A of one of the slots: where its slot is, and the loop that
--- holds every entry to it. Assumes nothing.
-use mathlib.Core.Path.{◌≡◌, sym, ap, ◌∙◌}
+-- Laws of an entry of the map that is 0 or block A of one of the slots: where its slot is, and what the whole
+-- map is told to be where every entry is held to it. Assumes nothing.
+use mathlib.Core.Path.{◌≡◌, refl, sym, ap, subst, ◌∙◌}
 use mathlib.Core.Logic.{◌≢◌}
 use mathlib.Core.Bool.{Bool, true, false, ◌&&◌}
 use mathlib.Core.List.{[]}
-use Prim.Native.Nat.{ℕ, ◌+◌, ◌≤◌, ◌<◌}
+use Prim.Native.Nat.{ℕ, zero, suc, ◌+◌, ◌≤◌, ◌<◌}
+use native.Mathlib.Numerals.{add-one}
 use native.Mathlib.Omega.{arith}
+use Rattle.std.specs.Prelude.{MatchBool, length, get_or}
+use Rattle.std.specs.List.{range_with_len, AllWithin, HoldsAt}
+use Rattle.std.proofs.lemmas.List.FromFn.{length-range_with_len, get_or-range_with_len}
 use Rattle.laws.proofs.Cases.{and_both, and_false_left, and_false_right}
 use Rattle.model.specs.Geometry.{Geometry, area_start}
 use Rattle.model.specs.Blocks.{Bytes, DiskAddress}
@@ -34,45 +38,53 @@ pub entry_marked :
 entry_marked g entry disk some slot e after marked =
     marked ∙ ap (λ (at : ℕ). with_mark g at disk) e ∙ sym (with_marks_some g entry disk some)
 
--- ---- the entries of the numbers before one ----
-
--- every one of them is 0 or a slot's start
-pub record Formed (g : Geometry) (disk : Bytes) (number : ℕ) : Type 0 where
-  pub number_le : number ≤ g.publics
-  pub starts : are_starts g (used_from g disk 0 number) ≡ true
+-- ---- the entries of the map ----
 
 module _ (g : Geometry) (disk : Bytes) where
-  pub formed_none : Formed g disk 0
-  formed_none =
-      record {
-        number_le = omega arith;
-        starts = ap (are_starts g) (used_from-zero g disk 0) ∙ are_starts_nil g;
-      }
+  -- the number's entry is 0 or a slot's start, or not
+  abbrev pub FormedAs : (is : Bool) (number : ℕ) → Type 0
+  FormedAs is number = is ≡ are_starts g (unless_zero (map_entry g disk number) [])
 
-  module _ (number : ℕ) (before : Formed g disk number) (inside : number < g.publics) (entry : DiskAddress)
-      (read : entry ≡ map_entry g disk number) (is : Bool)
-      (told : is ≡ are_starts g (unless_zero entry [])) where
-    one_more : are_starts g (used_from g disk 0 (number + 1)) ≡
-        (are_starts g (used_from g disk 0 number) && is)
-    one_more =
-        ap (are_starts g) (used_from_end g disk number)
-        ∙ are_starts-append g (used_from g disk 0 number) (unless_zero (map_entry g disk number) [])
-        ∙ ap (λ (b : Bool). are_starts g (used_from g disk 0 number) && b)
-        (sym (told ∙ ap (λ (at : DiskAddress). are_starts g (unless_zero at [])) read))
+  -- one more number
+  one_more : (number : ℕ) (is : Bool) → FormedAs is number →
+      are_starts g (used_from g disk 0 (number + 1)) ≡ (are_starts g (used_from g disk 0 number) && is)
+  one_more number is e =
+      ap (are_starts g) (used_from_end g disk number)
+      ∙ are_starts-append g (used_from g disk 0 number) (unless_zero (map_entry g disk number) [])
+      ∙ ap (λ (b : Bool). are_starts g (used_from g disk 0 number) && b) (sym e)
 
-    pub formed_next : is ≡ true → Formed g disk (number + 1)
-    formed_next e =
-        record { number_le = omega arith; starts = one_more ∙ and_both before.starts e }
+  -- every number
+  starts_before : (number : ℕ) → ((k : ℕ) → k < number → FormedAs true k) →
+      are_starts g (used_from g disk 0 number) ≡ true
+  starts_before zero each = ap (are_starts g) (used_from-zero g disk 0) ∙ are_starts_nil g
+  starts_before (suc number) each =
+      ap (λ (n : ℕ). are_starts g (used_from g disk 0 n)) (sym (add-one number))
+      ∙ one_more number true (each number (omega arith))
+      ∙ and_both (starts_before number (λ k h. each k (omega arith))) refl
 
-    pub formed_not : is ≡ false → false ≡ are_starts g (used_entries g disk)
-    formed_not e =
-        let next : number + 1 ≤ g.publics = omega arith in
-        sym (ap (are_starts g) (used_entries_split g disk (number + 1) next)
-        ∙ are_starts-append g (used_from g disk 0 (number + 1)) _
-        ∙ and_false_left _ (one_more ∙ and_false_right (are_starts g (used_from g disk 0 number)) e))
+  -- not every number
+  not_starts : (number : ℕ) → number < g.publics → FormedAs false number →
+      are_starts g (used_entries g disk) ≡ false
+  not_starts number inside e =
+      ap (are_starts g) (used_entries_split g disk (number + 1) (omega arith))
+      ∙ are_starts-append g (used_from g disk 0 (number + 1)) _
+      ∙ and_false_left _ (one_more number false e ∙ and_false_right (are_starts g (used_from g disk 0 number)) refl)
 
-  pub formed_all :
-      (number : ℕ) → Formed g disk number → g.publics ≤ number → true ≡ are_starts g (used_entries g disk)
-  formed_all number before past =
-      let e : number ≡ g.publics = omega arith in
-      sym (rw e at before.starts)
+  there : (k : ℕ) → k < g.publics → get_or (range_with_len 0 g.publics) k 0 ≡ k
+  there k h = get_or-range_with_len 0 g.publics k 0 h ∙ omega arith
+
+  -- what the numbers were asked for one after another, until one was not so
+  pub map_formed :
+      (all : Bool) →
+      MatchBool all
+      (AllWithin (FormedAs true) (range_with_len 0 g.publics) 0 (length (range_with_len 0 g.publics)))
+      ((k : ℕ) × (k < length (range_with_len 0 g.publics)) × HoldsAt (FormedAs false) (range_with_len 0 g.publics) k) →
+      all ≡ are_starts g (used_entries g disk)
+  map_formed true each =
+      let long = length-range_with_len 0 g.publics in
+      sym (starts_before g.publics
+      (λ k h. subst (FormedAs true) (there k h) (each k 0 (omega arith) (omega arith))))
+  map_formed false (k, h, one) =
+      let long = length-range_with_len 0 g.publics in
+      let inside : k < g.publics = omega arith in
+      sym (not_starts k inside (subst (FormedAs false) (there k inside) (one 0)))

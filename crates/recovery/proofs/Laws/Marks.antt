@@ -10,7 +10,7 @@ use Rattle.laws.proofs.Cases.{and_left}
 use Rattle.model.specs.Geometry.{Geometry, map_blocks, bitmap_blocks}
 use Rattle.model.specs.Blocks.{Bytes, DiskAddress}
 use Rattle.model.specs.Layout.{Drive, map_entry}
-use Rattle.recovery_model.specs.Recovery.{unless_zero, used_from, used_entries, are_starts, with_marks}
+use Rattle.recovery_model.specs.Recovery.{unless_zero, used_from, are_starts, with_marks}
 use Rattle.recovery_model.specs.Recovery.{without_bits}
 use Rattle.recovery_model.proofs.Laws.Steps.{used_from-zero, used_from_end, used_entries_split, are_starts-append}
 use Rattle.recovery_model.proofs.Laws.Steps.{start_of_are_starts, with_marks_nil, with_marks-append}
@@ -30,7 +30,6 @@ module _ (g : Geometry) (disk : Bytes) (drive : Drive g disk) (map bitmap : ℕ)
 
 -- those of the numbers before one are marked, and the map is as it was
 pub record Marking (g : Geometry) (disk : Bytes) (number : ℕ) (now : Bytes) : Type 0 where
-  pub number_le : number ≤ g.publics
   pub marked : now ≡ with_marks g (used_from g disk 0 number) disk
   pub same : SameMap g disk now
 
@@ -45,7 +44,6 @@ module _ (g : Geometry) (disk : Bytes) (started : Started g disk) where
       (sym (are_starts-append g used _) ∙ ap (are_starts g) (sym (used_entries_split g disk number h))
       ∙ started.starts) in
       record {
-        number_le = h;
         marked = e;
         same = rw e (same_map-with_marks g used disk started.drive starts);
       }
@@ -75,8 +73,3 @@ module _ (g : Geometry) (disk : Bytes) (started : Started g disk) where
           before.marked
           ∙ sym (with_marks-append g (used_from g disk 0 number) (unless_zero (map_entry g disk number) []) disk)
           ∙ ap (λ (used : List DiskAddress). with_marks g used disk) (sym (used_from_end g disk number)))
-
-    pub marking_all : g.publics ≤ number → now ≡ with_marks g (used_entries g disk) disk
-    marking_all past =
-        let e : number ≡ g.publics = omega arith in
-        before.marked ∙ ap (λ (count : ℕ). with_marks g (used_from g disk 0 count) disk) e

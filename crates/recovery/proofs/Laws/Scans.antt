@@ -16,13 +16,12 @@ use Rattle.laws.proofs.Cases.{or_right, true_is_not_false}
 use Rattle.model.specs.Geometry.{Geometry, is_one_of, slot_width}
 use Rattle.model.specs.Blocks.{Bytes, DiskAddress}
 use Rattle.model.specs.Layout.{slot_start, slot_of, map_entry}
-use Rattle.model.proofs.Laws.Geometry.{slot_start_lt}
 use Rattle.model.proofs.Laws.Bitmap.{area_place_apart}
 use Rattle.recovery_model.specs.Recovery.{used_from}
 use Rattle.recovery_model.proofs.Laws.Steps.{used_from-zero, used_from_end, used_entries_split}
 use Rattle.recovery_model.proofs.Laws.Steps.{start_of_are_starts}
 use Rattle.recovery.specs.Windows.{window_slots, window_end, window_place, is_within, are_apart_within}
-use Rattle.recovery.specs.Windows.{Window, Noted, Started, is_window_apart}
+use Rattle.recovery.specs.Windows.{Noted, Started, is_window_apart}
 use Rattle.recovery.proofs.Laws.Entries.{formed_block}
 use Rattle.recovery.proofs.Laws.Windows.{within_low, within_high, within_inside, is_one_of_end}
 use Rattle.recovery.proofs.Laws.Windows.{are_apart_within_nil, are_apart_within_end, are_apart_within_front}
@@ -34,7 +33,6 @@ end_of g first = window_end (slot_start g first) (slot_width g)
 -- the entries of the numbers before one are noted: a slot's bit is 1 exactly if its start is one of them, and
 -- none in the window comes twice
 pub record Scanning (g : Geometry) (disk : Bytes) (first number : ℕ) (seen : Bytes) : Type 0 where
-  pub number_le : number ≤ g.publics
   pub sized : length seen ≡ 4096
   pub bits :
       (place : ℕ) → place < window_slots →
@@ -55,31 +53,13 @@ module _ (g : Geometry) (disk : Bytes) (started : Started g disk) (first : ℕ) 
   where
     -- ---- the start and the end ----
 
-    pub window_of :
-        (low width : ℕ) → low ≡ slot_start g first → width ≡ slot_width g → Window low width
-    window_of low width l w =
-        let fits = started.drive.fits in
-        record {
-          low_inside = omega (arith, slot_start_lt g first first_lt, fits.blocks_high);
-          width_low = omega arith;
-          width_high = omega (arith, fits.height_high);
-        }
-
     pub scanning_none : Scanning g disk first 0 (replicate 4096 0)
     scanning_none =
         record {
-          number_le = omega arith;
           sized = length-replicate {A = ℕ} 4096 0;
           bits = λ place h. bit_at_zeros place 4096 ∙ rw (used_from-zero g disk 0);
           apart = rw (used_from-zero g disk 0) (are_apart_within_nil (slot_start g first) (end_of g first));
         }
-
-    pub scanning_all :
-        (number : ℕ) (seen : Bytes) → Scanning g disk first number seen → g.publics ≤ number →
-        true ≡ is_window_apart g disk first
-    scanning_all number seen before past =
-        let e : number ≡ g.publics = omega arith in
-        sym (rw e at before.apart)
 
     -- ---- one more entry ----
 
@@ -196,7 +176,6 @@ module _ (g : Geometry) (disk : Bytes) (started : Started g disk) (first : ℕ) 
         pub scanning_next : was ≡ false → Scanning g disk first (number + 1) after
         scanning_next e =
             record {
-              number_le = omega arith;
               sized = length_after;
               bits = λ place h.
                   bit_is place h

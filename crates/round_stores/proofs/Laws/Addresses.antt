@@ -162,7 +162,8 @@ module _ {g : Geometry} {disk : Bytes} {round : PlannedRound} {content blocks ra
       slot_block_apart g slot (slot_of g address) level i (omega arith) l (sym block.address_is ∙ q)))
 
   pub takes_apart :
-      (place : ℕ) (address own : DiskAddress) → place < length trace → own ≡ get_or (addresses trace) place 0 →
+      (place : ℕ) (address own : DiskAddress) → place < length trace →
+      own ≡ get_or (addresses trace) place 0 →
       (address ≡ own) ⊎ ((place < g.height) × (is_well_formed g place address ≡ true)) →
       All (λ (other : ℕ). address ≢ other) (addresses (take place trace))
   takes_apart place address own h at (inl e) =

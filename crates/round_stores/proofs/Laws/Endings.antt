@@ -1,23 +1,22 @@
--- The stores of map, bits and header as those of blocks that are stored where they stand, the stores of an
--- ending by index, and how many there are. Assumes nothing.
+-- The stores of bits as those of blocks that are stored where they stand, the stores of an ending by index,
+-- and how many there are. Assumes nothing.
 use mathlib.Core.Path.{◌≡◌, refl}
 use mathlib.Core.Bool.{Bool, true, false}
 use mathlib.Core.List.{[], ◌∷◌, ◌++◌}
 use mathlib.Core.Option.{none}
-use Prim.Native.Nat.{ℕ, ◌%◌, ◌≤◌, ◌<◌}
+use Prim.Native.Nat.{ℕ, ◌<◌}
 use native.Mathlib.Omega.{arith}
 use lib.ListN.{length}
 use Rattle.laws.specs.Bits.{set_bit}
-use Rattle.model.specs.Geometry.{Geometry, Fits, fanout}
+use Rattle.model.specs.Geometry.{Geometry, Fits}
 use Rattle.model.specs.Blocks.{Bytes}
-use Rattle.model.specs.Layout.{slot_start, next_slot, map_address, bit_address, bit_place, bitmap_with}
+use Rattle.model.specs.Layout.{bit_address, bit_place, bitmap_with}
 use Rattle.model.specs.Stores.{Trace, store}
-use Rattle.model.specs.Rounds.{map_store, bit_store, header_store}
-use Rattle.model.proofs.Laws.Geometry.{map_address_lt, bit_address_lt}
+use Rattle.model.specs.Rounds.{bit_store, header_store}
+use Rattle.model.proofs.Laws.Geometry.{bit_address_lt}
 use Rattle.model.proofs.Laws.Bitmap.{bitmap_with_is, bit_place_byte_lt}
-use Rattle.model.proofs.Laws.PublicMap.{map_index_fits}
 use Rattle.layout.specs.declared.numbers.DiskAddress.{DiskAddress}
-use Rattle.stores.specs.declared.changes.Change.TheVariants.{Nothing, Entry, Bit}
+use Rattle.stores.specs.declared.changes.Change.TheVariants.{Nothing, Bit}
 use Rattle.stores.specs.declared.descriptors.Descriptor.{Descriptor}
 use Rattle.stores.specs.Descriptors.{own_of}
 use Rattle.stores.specs.Described.{store_at, Describes}
@@ -29,19 +28,9 @@ use Rattle.plans.specs.PublicPlans.{bit_trace}
 use Rattle.stores.proofs.Laws.Described.{describes_own}
 use Rattle.round_stores.specs.Endings.{ending_trace, ending_count}
 
--- ---- map, bits and header ----
+-- ---- bits ----
 
 module _ (g : Geometry) (f : Fits g) where
-  pub describes_map :
-      (number slot : ℕ) → number < g.publics → (address : DiskAddress) (start : ℕ) →
-      address.0 ≡ map_address g number → start ≡ slot_start g slot → {descriptor : Descriptor} →
-      descriptor ≡ own_of address (Entry (number % fanout g) start) Nothing → (place : ℕ) →
-      Describes g none place (λ disk content blocks random. map_store g disk number slot) descriptor
-  describes_map number slot inside address start e s d place =
-      describes_own address (Entry (number % fanout g) start) Nothing d
-      (omega (arith, map_address_lt g f number inside)) (map_index_fits g f number) tt
-      (λ disk content blocks random. rw (e, s))
-
   pub describes_bit :
       (slot : ℕ) (is_set : Bool) → slot < g.slots → (address : DiskAddress) (bit : ℕ) →
       address.0 ≡ bit_address g slot → bit ≡ bit_place g slot → {descriptor : Descriptor} →
@@ -62,14 +51,6 @@ module _ (g : Geometry) (f : Fits g) where
       describes_own address (Bit new-bit true) (Bit old_bit false) d
       (omega (arith, bit_address_lt g f slot inside)) (rw n (bit_place_byte_lt g f slot))
       (rw o (bit_place_byte_lt g f old)) (λ disk content blocks random. rw (e, n, o, bitmap_with_is))
-
-  pub describes_header :
-      (slot : ℕ) (address : DiskAddress) → address.0 ≡ 0 → {descriptor : Descriptor} →
-      descriptor ≡ own_of address (Entry 5 (next_slot g slot)) Nothing → (place : ℕ) →
-      Describes g none place (λ disk content blocks random. header_store g disk slot) descriptor
-  describes_header slot address e d place =
-      describes_own address (Entry 5 (next_slot g slot)) Nothing d (omega arith)
-      (omega (arith, f.size_low)) tt (λ disk content blocks random. rw e)
 
 -- ---- by index ----
 
@@ -92,13 +73,6 @@ pub describes_known :
 describes_known g trace at e z d place = rw (e, z) (d place)
 
 -- ---- count ----
-
--- at most the map, two bitmap blocks and the header
-pub ending_count_le : (public : PublicPlan) → ending_count public ≤ 4
-ending_count_le Keep = omega arith
-ending_count_le (Write number New) = omega arith
-ending_count_le (Write number (Shared old)) = omega arith
-ending_count_le (Write number (Apart old)) = omega arith
 
 pub length-ending_trace :
     (public : PublicPlan) (g : Geometry) (disk : Bytes) (slot : ℕ) →

@@ -26,7 +26,6 @@ pub record Going (g : Geometry) (number : ℕ) (content random : Bytes) (turns :
     (listNow : List DiskAddress) (slot next : ℕ) (state : State) (done : ℕ) : Type 0 where
   pub front : Trace
   pub made : Made (block_width g) front disk list first diskNow listNow next
-  pub within : done ≤ g.slots
   pub drive : Drive g diskNow
   pub inside : slot < g.slots
   pub placed : Placed g diskNow number
@@ -54,7 +53,6 @@ module _ (g : Geometry) (number : ℕ) (content random : Bytes) (turns : List Of
       record {
         front = [];
         made = made_nothing (block_width g) disk list first (omega (arith, r.room_enough));
-        within = omega arith;
         drive = r.drive;
         inside = r.head_inside;
         placed = r.old_place;

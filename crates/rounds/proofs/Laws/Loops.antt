@@ -10,6 +10,7 @@ use lib.ListN.{length, drop, length-append, length-drop}
 use lib.Seq.{drop-drop}
 use borrow.Author.Tests.{ltb-false}
 use Rattle.laws.proofs.Cases.{cond_true, cond_false}
+use Rattle.std.specs.Prelude.{Option}
 use Rattle.model.specs.Geometry.{Geometry, block_width}
 use Rattle.model.specs.Blocks.{Bytes, DiskAddress}
 use Rattle.model.specs.Layout.{next_slot}
@@ -30,7 +31,7 @@ use Rattle.layout.proofs.Laws.PublicMap.{entry_of_placed}
 use Rattle.stores.specs.Made.{Made}
 use Rattle.stores.proofs.Laws.Made.{disk_after_lem, next_after, made_then, drive_made}
 use Rattle.stores.proofs.Laws.Made.{length_made_list}
-use Rattle.line.specs.declared.turns.First.{First}
+use Rattle.line.specs.declared.offers.Offer as declared
 use Rattle.line.specs.Turns.{first_at}
 use Rattle.plans.specs.declared.states.State.{State}
 use Rattle.rounds.specs.declared.rounds.Step.{Step}
@@ -60,12 +61,12 @@ module _ {g : Geometry} {number head : ℕ} {content random : Bytes} {turns : Li
 
     abbrev pub rest_now : Run
     rest_now =
-        rest_by (choice_at g diskNow slot state_now) (g.slots - (done + 1)) g number content (next_slot g slot)
-        (drop (g.height * g.block_size) random_now) (apply (block_width g) round_now diskNow)
+        rest_by (choice_at g diskNow slot state_now) (g.slots - (done + 1)) g number content
+        (next_slot g slot) (drop (g.height * g.block_size) random_now) (apply (block_width g) round_now diskNow)
         (hidden_half g diskNow slot random_now state_now).state
 
     pub going_over :
-        g.slots ≤ done → run ≡ record { trace = going.front; rounds = done; state = state_now }
+        done ≡ g.slots → run ≡ record { trace = going.front; rounds = g.slots; state = state_now }
     going_over h =
         let e : g.slots - done ≡ 0 = omega arith in
         going.run_is
@@ -73,6 +74,7 @@ module _ {g : Geometry} {number head : ℕ} {content random : Bytes} {turns : Li
         state_now)) e
         ∙ ap (after going.front done) (run_from-zero g number content slot random_now diskNow state_now)
         ∙ after_stopped going.front done state_now
+        ∙ ap (λ (n : ℕ). record { trace = going.front; rounds = n; state = state_now }) h
 
     module _ (more : done < g.slots) where
       pub run_round : run ≡ after (going.front ++ round_now) (done + 1) rest_now
@@ -114,7 +116,7 @@ module _ {g : Geometry} {number head : ℕ} {content random : Bytes} {turns : Li
       random_here = simp length-drop (omega (arith, random_from))
 
       -- the turn that is first now
-      module _ {waiting : First} (taken : waiting ≡ first_at turns state.placed) where
+      module _ {waiting : Option declared.Offer} (taken : waiting ≡ first_at turns state.placed) where
         pub round_waits :
             state_now.waiting ≡ waiting_by g blocks waiting (behind g blocks turns state.placed)
         round_waits = rw taken (waiting_first g blocks turns state.placed)
@@ -213,7 +215,6 @@ module _ {g : Geometry} {number head : ℕ} {content random : Bytes} {turns : Li
             record {
               front = going.front ++ round_now;
               made = made_round;
-              within = omega arith;
               drive =
                   drive_made g whole_round going.drive
                   (round_stored this_round (choice_at g diskNow slot state_now));

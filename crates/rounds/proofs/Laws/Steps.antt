@@ -6,6 +6,7 @@ use Prim.Native.Nat.{ℕ, ◌+◌, ◌-◌, ◌≤◌, min}
 use native.Mathlib.Omega.{arith}
 use lib.Dec.{ltb}
 use lib.ListN.{length, take}
+use Rattle.std.specs.Prelude.{Option}
 use Rattle.model.specs.Geometry.{Geometry, Fits, block_width}
 use Rattle.model.specs.Blocks.{Bytes, DiskAddress}
 use Rattle.model.specs.Stores.{Trace}
@@ -15,7 +16,7 @@ use Rattle.model.specs.Rounds.{public_store, header_store, round_trace, choice_g
 use Rattle.model.proofs.Laws.Traces.{round_trace_is}
 use Rattle.stores.specs.Made.{LentFor, Made}
 use Rattle.table.specs.Rows.{public_of}
-use Rattle.line.specs.declared.turns.First.{First}
+use Rattle.line.specs.declared.offers.Offer.{Offer}
 use Rattle.plans.specs.declared.plans.Plans.{Plans}
 use Rattle.plans.specs.declared.public_plans.PublicPlan.{PublicPlan}
 use Rattle.plans.specs.HiddenPlans.{hidden_trace}
@@ -29,14 +30,14 @@ use Rattle.rounds.specs.Rounds.{choice_at, round_at, StoresReady, RoundReady}
 use Rattle.rounds.proofs.Laws.Bounds.{take_counted, ltb_counted}
 
 -- a round whose halves are planned
-pub record Begun (g : Geometry) (disk : Bytes) (number slot : ℕ) (content random : Bytes) (first : First)
-    (blocks : Bytes) (plans : Plans) (public : PublicPlan) : Type 0 where
+pub record Begun (g : Geometry) (disk : Bytes) (number slot : ℕ) (content random : Bytes)
+    (first : Option Offer) (blocks : Bytes) (plans : Plans) (public : PublicPlan) : Type 0 where
   pub fits : Fits g
   pub ready : RoundReady g disk number slot content random first blocks
   pub planned : Planned g disk slot first plans
   pub public_planned : PublicPlanned g disk number slot plans.choice public
 
-module _ {g : Geometry} {disk : Bytes} {number slot : ℕ} {content random : Bytes} {first : First}
+module _ {g : Geometry} {disk : Bytes} {number slot : ℕ} {content random : Bytes} {first : Option Offer}
     {blocks : Bytes} {plans : Plans} {public : PublicPlan}
     (begun : Begun g disk number slot content random first blocks plans public) where
   abbrev round : PlannedRound

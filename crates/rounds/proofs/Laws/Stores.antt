@@ -45,18 +45,11 @@ pub none_so_far :
 none_so_far g trace disk list first room =
     record { within = omega arith; made = made_nothing (block_width g) disk list first room; stored = tt }
 
-pub made_so_far :
-    {g : Geometry} {trace : Trace} {disk diskNow : Bytes} {list listNow : List DiskAddress}
-    {first place next count : ℕ} → SoFar g trace disk list first diskNow listNow place next → place ≡ count →
-    Made (block_width g) (take count trace) disk list first diskNow listNow next
-made_so_far so e = rw (← e) so.made
-
--- what holds whenever the loop's test is reached: so many stores are made, no more than are asked for, and
--- what is lent is as long as it was
-pub record Storing (g : Geometry) (trace : Trace) (count : ℕ) (disk : Bytes) (list : List DiskAddress)
+-- what holds whenever the loop's test is reached: so many stores are made, and what is lent is as long as it
+-- was
+pub record Storing (g : Geometry) (trace : Trace) (disk : Bytes) (list : List DiskAddress)
     (first : ℕ) (buffer : Bytes) (diskNow : Bytes) (listNow : List DiskAddress) (bufferNow : Bytes)
     (place next : ℕ) : Type 0 where
-  pub asked : place ≤ count
   pub so_far : SoFar g trace disk list first diskNow listNow place next
   pub disk_kept : length diskNow ≡ length disk
   pub list_kept : length listNow ≡ length list

@@ -37,7 +37,8 @@ module _ (g : Geometry) (blocks : Bytes) where
       drop placed (hidden_writes_of g blocks turns) ≡
       waiting_by g blocks (first_at turns placed) (behind turns placed)
   waiting_first [] placed = rw (hidden_writes_of_nil g blocks, first_at_nil placed) (drop_nil placed)
-  waiting_first (offer ∷ later) zero = rw (hidden_writes_of-cons g blocks offer later, first_at-zero offer later)
+  waiting_first (offer ∷ later) zero =
+      rw (hidden_writes_of-cons g blocks offer later, first_at-zero offer later)
   waiting_first (offer ∷ later) (suc placed) =
       rw (hidden_writes_of-cons g blocks offer later, first_at_suc offer later placed)
       (waiting_first later placed)

@@ -7,10 +7,9 @@ use Prim.Native.Nat.{ℕ, zero, suc, ◌+◌, ◌*◌, ◌-◌, ◌^◌, ◌≤�
 use native.Mathlib.Nat.{pow-le-pow_right}
 use native.Mathlib.Numerals.{add-one}
 use native.Mathlib.Omega.{arith}
-use lib.Dec.{leb}
 use lib.ListN.{length, get_or, take}
 use lib.Seq.{take-suc, take_all}
-use borrow.Author.Tests.{le-leb, lt-leb}
+use borrow.Author.Tests.{le-leb}
 use Rattle.laws.proofs.Cases.{and_both, and_left, and_right, and_false_left, and_false_right}
 use Rattle.script.specs.Texts.{Text, digit_byte, is_digit, is_digits, value_after, value_of_digits}
 
@@ -51,31 +50,23 @@ is_digits_other (byte ∷ bytes) zero h e = and_false_left (is_digits bytes) e
 is_digits_other (byte ∷ bytes) (suc index) h e =
     and_false_right (is_digit byte) (is_digits_other bytes index (omega arith) e)
 
-pub is_digit_low : (byte : ℕ) → byte < digit_byte 0 → is_digit byte ≡ false
-is_digit_low byte h = and_false_left (leb byte (digit_byte 9)) (lt-leb (digit_byte 0) byte h)
-
-pub is_digit_high : (byte : ℕ) → digit_byte 9 < byte → is_digit byte ≡ false
-is_digit_high byte h = and_false_right (leb (digit_byte 0) byte) (lt-leb byte (digit_byte 9) h)
-
 -- ---- a loop over digits ----
 
 -- the first bytes are digits, and their number
 pub record Digits (bytes : Text) (value index : ℕ) : Type 0 where
-  pub inside : index ≤ length bytes
   pub digits : is_digits (take index bytes) ≡ true
   pub spelt : value ≡ value_of_digits (take index bytes)
   pub small : value < 10 ^ index
 
 pub digits_none : (bytes : Text) → Digits bytes 0 0
 unfolding is_digits value_after
-digits_none bytes = record { inside = omega arith; digits = refl; spelt = refl; small = omega arith }
+digits_none bytes = record { digits = refl; spelt = refl; small = omega arith }
 
 module _ (bytes : Text) (value index : ℕ) (known : Digits bytes value index) where
   pub digits_more :
       index < length bytes → digit_byte 0 ≤ get_or bytes index 0 → get_or bytes index 0 ≤ digit_byte 9 →
       Digits bytes (value * 10 + (get_or bytes index 0 - digit_byte 0)) (index + 1)
   digits_more h low high = record {
-    inside = omega arith;
     digits =
         rw (add-one, take-suc bytes index 0) (is_digits-append _ _ known.digits (is_digits_one _ low high));
     spelt =

@@ -1,8 +1,8 @@
 -- Laws of a line: where its first space stands, the fields that a loop reads, and what the fields make of the
 -- line. Assumes nothing.
-use mathlib.Core.Path.{◌≡◌, refl, ap, ◌∙◌}
+use mathlib.Core.Path.{◌≡◌, refl, sym, ap, ◌∙◌}
 use mathlib.Core.Logic.{◌≢◌, ◌⊎◌, inl, inr, ⊎_elim}
-use mathlib.Core.Bool.{true, false, cond, ◌&&◌}
+use mathlib.Core.Bool.{true, false, cond, ◌&&◌, and-true}
 use mathlib.Core.List.{[], ◌∷◌}
 use Prim.Native.Nat.{ℕ, zero, suc, ◌+◌, ◌≤◌, ◌<◌}
 use native.Mathlib.Omega.{arith}
@@ -10,12 +10,19 @@ use lib.Dec.{eqb, ltb, leb}
 use lib.ListN.{length, get_or, take, drop, drop_of_length-le}
 use lib.Seq.{take-nil, drop-nil}
 use borrow.Author.Tests.{eq-eqb, ne_eqb, lt-ltb, le-ltb, le-leb, lt-leb}
+use lib.Pointwise.{pointwise}
 use Rattle.laws.proofs.Cases.{bool_cases, lt_cases, and_both, and_false_right, cond_true, cond_false}
 use Rattle.script.specs.Texts.{Text, space, dash, is_digits, value_of_digits}
-use Rattle.script.specs.Lines.{before_space, after_space, Split, is_dash, is_number, Field, number, absent}
+use Rattle.script.specs.Lines.{before_space, after_space, is_dash, is_number, Field, number, absent}
 use Rattle.script.specs.Lines.{other, field_in, bad, line_from, line_in}
 
 -- ---- the first space ----
+
+-- the first space stands here, or the line ends here
+pub record Split (bytes : Text) (at : ℕ) : Type 0 where
+  pub inside : at ≤ length bytes
+  pub before : take at bytes ≡ before_space bytes
+  pub after : drop (at + 1) bytes ≡ after_space bytes
 
 pub split_at_first :
     (bytes : Text) (at : ℕ) → at ≤ length bytes →
@@ -41,13 +48,13 @@ split_at_first (byte ∷ bytes) (suc at) h none_before here =
 
 -- ---- fields ----
 
-pub is_dash_one : (bytes : Text) → length bytes ≡ 1 → is_dash bytes ≡ eqb (get_or bytes 0 0) dash
+pub is_dash_equal : (bytes : Text) → is_dash bytes ≡ pointwise eqb bytes (dash ∷ [])
 unfolding is_dash
-is_dash_one [] e = absurd (omega arith)
-is_dash_one (byte ∷ []) e = refl
-is_dash_one (byte ∷ next ∷ bytes) e = absurd (omega arith)
+is_dash_equal [] = refl
+is_dash_equal (byte ∷ []) = sym (and-true (eqb byte dash))
+is_dash_equal (byte ∷ next ∷ bytes) = sym (and_false_right (eqb byte dash) refl)
 
-pub is_dash_other : (bytes : Text) → length bytes ≢ 1 → is_dash bytes ≡ false
+is_dash_other : (bytes : Text) → length bytes ≢ 1 → is_dash bytes ≡ false
 unfolding is_dash
 is_dash_other [] ne = refl
 is_dash_other (byte ∷ []) ne = absurd (ne refl)

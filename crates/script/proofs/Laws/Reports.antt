@@ -137,30 +137,26 @@ length-stores_text (store ∷ stores) small =
 
 -- the first stores are put, in no more than eleven bytes each
 pub record Listed (stores : List ℕ) (out : Text) (at : ℕ) (after : Text) (next count : ℕ) : Type 0 where
-  pub inside : count ≤ length stores
   pub near : next ≤ at + 11 * count
-  pub same : length after ≡ length out
   pub put : Put (later_text (take count stores)) out at after next
 
 pub listed_none : (stores : List ℕ) (out : Text) (at : ℕ) → at ≤ length out → Listed stores out at out at 0
 unfolding later_text
 listed_none stores out at h =
-    record { inside = omega arith; near = omega arith; same = refl; put = put_nothing out at h }
+    record { near = omega arith; put = put_nothing out at h }
 
 module _ (stores : List ℕ) (out : Text) (at : ℕ) (fits : at + 11 * length stores ≤ length out)
     (after : Text)
     (next count : ℕ) (listed : Listed stores out at after next count) where
   pub listed_more :
-      (last : Text) (end : ℕ) → count < length stores → length last ≡ length after →
+      (last : Text) (end : ℕ) → count < length stores →
       get_or stores count 0 < 2 ^ 32 → Put (comma ∷ decimal (get_or stores count 0)) after next last end →
       Listed stores out at last end (count + 1)
-  listed_more last end h same small put =
+  listed_more last end h small put =
       let store = get_or stores count 0 in
       let short : length (decimal store) ≤ 10 = length-decimal-store store small in
       record {
-        inside = omega arith;
         near = omega (arith, put.ended, listed.near);
-        same = same ∙ listed.same;
         put =
             rw (add-one, take-suc stores count 0, later_text_snoc (take count stores) store)
             (put_append (later_text (take count stores)) out at after next listed.put

@@ -1,13 +1,11 @@
--- Laws of a text in a buffer: none, one byte, one text after another, the length of the buffer; and a loop
--- that puts a text from its front. Assumes nothing.
+-- Laws of a text in a buffer: none, one byte, one text after another, the length of the buffer; and a text
+-- copied at once. Assumes nothing.
 use mathlib.Core.Path.{◌≡◌, refl, sym, ap, ◌∙◌}
 use mathlib.Core.List.{[], ◌∷◌, ◌++◌}
 use Prim.Native.Nat.{ℕ, ◌+◌, ◌≤◌, ◌<◌}
-use native.Mathlib.Nat.{le_antisymm}
-use native.Mathlib.Numerals.{add-one}
 use native.Mathlib.Omega.{arith}
-use lib.ListN.{length, get_or, set, length-append}
-use lib.Seq.{paste, paste-suc, take-length}
+use lib.ListN.{length, set, length-append}
+use lib.Seq.{paste, take-length}
 use Rattle.laws.proofs.Lists.{over_is, over_nil, over_one, over_append, length_over}
 use Rattle.script.specs.Texts.{Text, Put}
 
@@ -71,20 +69,10 @@ module _ (text out : Text) (at : ℕ) (after : Text) (last : ℕ) (put : Put tex
       put_append text out at after last put room (byte ∷ []) (set after last byte) (last + 1)
       (put_one after last byte (omega (arith, last_inside))) (omega (arith, last_inside))
 
--- ---- a loop over a text ----
+-- ---- a text copied at once ----
 
-module _ (out : Text) (at : ℕ) (text : Text) (fits : at + length text ≤ length out) where
-  pub paste_turn :
-      (done : ℕ) (after : Text) → after ≡ paste out at text done → done < length text →
-      set after (at + done) (get_or text done 0) ≡ paste out at text (done + 1)
-  paste_turn done after e h = rw (e, add-one) (paste-suc out at text done 0 (omega arith) h)
-
-  pub put_of_paste :
-      (done : ℕ) (after : Text) → after ≡ paste out at text done → done ≤ length text → length text ≤ done →
-      Put text out at after (at + done)
-  put_of_paste done after e h k =
-      let whole : done ≡ length text = le_antisymm h k in
-      record {
-        placed = e ∙ rw (whole, take-length) (sym (over_is at text out));
-        ended = ap (λ (n : ℕ). at + n) whole;
-      }
+pub put_of_paste :
+    (out : Text) (at : ℕ) (text after : Text) → after ≡ paste out at text (length text) →
+    Put text out at after (at + length text)
+put_of_paste out at text after e =
+    record { placed = e ∙ rw take-length (sym (over_is at text out)); ended = refl }

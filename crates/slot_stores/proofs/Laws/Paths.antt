@@ -5,6 +5,8 @@ use mathlib.Core.Logic.{◌≢◌, inl, inr}
 use mathlib.Core.Option.{Option, none}
 use Prim.Native.Nat.{ℕ, ◌+◌, ◌-◌, ◌≤◌, ◌<◌}
 use native.Mathlib.Omega.{arith}
+use Rattle.std.specs.Prelude.{Some, None}
+use Rattle.std.specs.Prelude as code
 use Rattle.model.specs.Geometry.{Geometry, Fits, fanout, root_address, block_width}
 use Rattle.model.specs.Blocks.{Bytes, block_at, set_entry}
 use Rattle.model.specs.Layout.{level_address}
@@ -16,8 +18,6 @@ use Rattle.model.proofs.Laws.Slots.{level_address_lt}
 use Rattle.model.proofs.Laws.Paths.{branch_at_fits}
 use Rattle.model.proofs.Laws.SlotStores.{linked_node_leaf, linked_node_above}
 use Rattle.layout.specs.declared.numbers.DiskAddress.{DiskAddress}
-use Rattle.hidden_map.specs.declared.nodes.Node.{Node}
-use Rattle.hidden_map.specs.declared.nodes.Node.TheVariants.{Read, NotReached}
 use Rattle.hidden_map.specs.Nodes.{node_of, block_of_node, path_blocks, StandsByLevel}
 use Rattle.plans.specs.declared.hidden_plans.Data.{Data}
 use Rattle.plans.specs.declared.hidden_plans.Data.TheVariants.{Own, Offered}
@@ -37,23 +37,23 @@ use Rattle.stores.proofs.Laws.Described.{describes_own, describes_same, describe
 -- ---- a node ----
 
 node_source_block :
-    (node : Node) (g : Geometry) (disk content blocks random : Bytes) →
+    (node : code.Option DiskAddress) (g : Geometry) (disk content blocks random : Bytes) →
     source_block (node_source node) g disk content blocks random ≡ block_of_node g disk (node_of node)
-node_source_block (Read address) g disk content blocks random = refl
-node_source_block NotReached g disk content blocks random = refl
+node_source_block (Some address) g disk content blocks random = refl
+node_source_block None g disk content blocks random = refl
 
 node_source_takes :
-    (node : Node) (g : Geometry) (at : ℕ → Option ℕ) (level own : ℕ) → StandsByLevel g at →
+    (node : code.Option DiskAddress) (g : Geometry) (at : ℕ → Option ℕ) (level own : ℕ) → StandsByLevel g at →
     level < g.height →
     node_of node ≡ at level → Takes g none level own (node_source node)
-node_source_takes (Read address) g at level own placed high e =
+node_source_takes (Some address) g at level own placed high e =
     inr (high, placed.well_formed level address.0 (sym e))
-node_source_takes NotReached g at level own placed high e = tt
+node_source_takes None g at level own placed high e = tt
 
 -- what the node of a level is stored with: where it goes, its entry, which leads to the slot's block of the
 -- level below, and the node that it is taken from
 pub record NodeLinked (g : Geometry) (slot number level : ℕ) (at : ℕ → Option ℕ) (address below : DiskAddress)
-    (branch : ℕ) (node : Node) (taken : Source) : Type 0 where
+    (branch : ℕ) (node : code.Option DiskAddress) (taken : Source) : Type 0 where
   pub at_level : SlotPlace g slot 1 g.height level
   pub placed : StandsByLevel g at
   pub to : address.0 ≡ level_address g slot level
@@ -63,7 +63,7 @@ pub record NodeLinked (g : Geometry) (slot number level : ℕ) (at : ℕ → Opt
   pub takes : taken ≡ node_source node
 
 module _ {g : Geometry} {slot number level : ℕ} {at : ℕ → Option ℕ} {address below : DiskAddress} {branch : ℕ}
-    {node : Node} {taken : Source}
+    {node : code.Option DiskAddress} {taken : Source}
     (l : NodeLinked g slot number level at address below branch node taken) where
   -- what is taken is the level's node
   node_block :
@@ -76,7 +76,8 @@ module _ {g : Geometry} {slot number level : ℕ} {at : ℕ → Option ℕ} {add
   node_entry :
       (disk content blocks random : Bytes) →
       set_entry branch below.0 (source_block taken g disk content blocks random) ≡
-      set_entry (branch_at g number (level - 1)) (level_address g slot (level - 1)) (block_of_node g disk (at level))
+      set_entry (branch_at g number (level - 1)) (level_address g slot (level - 1))
+      (block_of_node g disk (at level))
   node_entry disk content blocks random =
       ap₂ (λ (b a : ℕ). set_entry b a (source_block taken g disk content blocks random)) l.branches
       l.under
@@ -87,7 +88,8 @@ module _ {g : Geometry} {slot number level : ℕ} {at : ℕ → Option ℕ} {add
   abbrev OfNode : (second : Change) → Type 0
   OfNode second =
       Describes g none level (λ disk content blocks random.
-      store (level_address g slot level) (linked_node g number slot (level - 1) (block_of_node g disk (at level))))
+      store (level_address g slot level)
+      (linked_node g number slot (level - 1) (block_of_node g disk (at level))))
       (record {
         address = address;
         source = taken;

@@ -1,6 +1,6 @@
 -- Laws of descriptors: a source that is known, its block taken into a buffer, and the store of a descriptor
 -- that can be made, which is whole and inside the drive. Assumes nothing.
-use mathlib.Core.Path.{◌≡◌, refl, ap, ◌∙◌}
+use mathlib.Core.Path.{◌≡◌, refl, sym, ap, ◌∙◌}
 use Prim.Native.Nat.{ℕ, ◌+◌, ◌*◌, ◌≤◌}
 use lib.ListN.{length, length-replicate}
 use Rattle.laws.specs.Lists.{over}
@@ -18,21 +18,7 @@ use Rattle.stores.specs.declared.descriptors.Source.{Source}
 use Rattle.stores.specs.declared.descriptors.Source.TheVariants.{Disk, Zeros, Content, Offered, Random}
 use Rattle.stores.specs.declared.descriptors.Descriptor.{Descriptor}
 use Rattle.stores.specs.Changes.{changed, Inside}
-use Rattle.stores.specs.Descriptors.{source_block, Takeable, store_of, Makeable}
-
--- ---- a source that is known ----
-
-module _ {source known : Source} (g : Geometry) (content blocks random : Bytes) (e : source ≡ known) where
-  pub takeable_known : Takeable source g content blocks random → Takeable known g content blocks random
-  takeable_known h = rw e at h
-
-  -- a buffer that took the known source's block took the source's
-  pub took :
-      (disk : Bytes) {filled : Bytes} (new old : Bytes) → filled ≡ over 0 new old →
-      length new ≡ length old →
-      new ≡ source_block known g disk content blocks random →
-      filled ≡ source_block source g disk content blocks random
-  took disk new old f long n = f ∙ over_whole new old long ∙ n ∙ rw e
+use Rattle.stores.specs.Descriptors.{source_block, Takeable, Fillable, store_of, Makeable}
 
 -- ---- lengths ----
 
@@ -61,13 +47,32 @@ module _ (g : Geometry) (disk content blocks random : Bytes) (drive : Drive g di
   length-source_block (Offered place) h = length-lent_block g blocks place h
   length-source_block (Random index) h = length-lent_block g random index h
 
+-- ---- a source that is known, taken ----
+
+module _ {g : Geometry} {source known : Source} {disk content blocks random buffer : Bytes}
+    (e : source ≡ known) (fillable : Fillable source g disk content blocks random buffer) where
+  pub length-known : length (source_block known g disk content blocks random) ≡ length buffer
+  length-known =
+      length-source_block g disk content blocks random fillable.drive known (rw e at fillable.takeable)
+      ∙ sym fillable.whole
+
+  -- a buffer that took the known source's block took the source's
+  pub took :
+      {filled : Bytes} (new : Bytes) → filled ≡ over 0 new buffer →
+      new ≡ source_block known g disk content blocks random →
+      filled ≡ source_block source g disk content blocks random
+  took new f n = f ∙ over_whole new buffer (ap length n ∙ length-known) ∙ n ∙ rw e
+
+-- ---- a store ----
+
+module _ (g : Geometry) (disk content blocks random : Bytes) (drive : Drive g disk) where
   -- the store of a descriptor that can be made is of a whole block and inside the drive
   pub store_of_stored :
       (descriptor : Descriptor) → Makeable descriptor g content blocks random →
       Stored (block_width g) (block_count g) (store_of descriptor g disk content blocks random)
   store_of_stored descriptor m =
       let taken = source_block descriptor.source g disk content blocks random in
-      let whole : length taken ≡ g.block_size = length-source_block descriptor.source m.takeable in
+      let whole : length taken ≡ g.block_size = length-source_block g disk content blocks random drive descriptor.source m.takeable in
       let once = changed descriptor.first taken in
       let long : length once ≡ g.block_size =
       length-changed descriptor.first taken (rw whole m.first_inside) ∙ whole in (

@@ -1,9 +1,9 @@
 -- What the tests of an entry tell: its fault, or the nodes of its slot's owner. Assumes nothing.
 use mathlib.Core.Path.{◌≡◌, refl, sym, ap, ◌∙◌, subst}
-use mathlib.Core.Logic.{◌≢◌}
 use mathlib.Core.Bool.{Bool, true, false}
 use Prim.Native.Nat.{ℕ, ◌<◌}
 use native.Mathlib.Omega.{arith}
+use Rattle.std.specs.Prelude.{Result, Ok, Err}
 use Rattle.laws.specs.Checks.{first_of}
 use Rattle.model.specs.Geometry.{Geometry}
 use Rattle.model.specs.Blocks.{Bytes, DiskAddress}
@@ -11,39 +11,36 @@ use Rattle.model.specs.Layout.{slot_of, level_address, is_well_formed}
 use Rattle.model.specs.HiddenTree.{owner_of, is_found_at}
 use Rattle.model.specs.TreeCheck.{MetEntry, met_entry, is_below, is_owned, entry_checks}
 use Rattle.model.proofs.Laws.TreeCheck.{is_owned_not_below, is_owned_below, fault_fifteen, fault_none}
+use Rattle.layout.specs.declared.refusals.Refusal.{Refusal}
+use Rattle.layout.specs.declared.refusals.Refusal.TheVariants as refusal
+use Rattle.layout.specs.Refusals.{refusal_number}
 use Rattle.hidden_map.specs.declared.nodes.Nodes.{Nodes}
 use Rattle.hidden_map.specs.declared.walks.Trail.{Trail}
 use Rattle.hidden_map.specs.Ends.{end_of}
 use Rattle.hidden_map.specs.Nodes.{read_at}
 use Rattle.hidden_map.specs.Walks.{Walked}
-use Rattle.tree_check.specs.declared.entries.Tested.TheVariants.{Fault, Passed}
 use Rattle.tree_check.specs.Entries.{owner_at, OwnerNodes, TestedAs}
 
 module _ (g : Geometry) (disk : Bytes) (met : MetEntry) where
   pub tested_fault :
-      (fault : ℕ) → fault ≢ 0 → fault ≡ first_of (entry_checks g disk met) →
-      TestedAs g disk met (Fault fault)
-  tested_fault fault ne e =
+      (fault : Refusal) → refusal_number fault ≡ first_of (entry_checks g disk met) →
+      TestedAs g disk met (Err fault)
+  tested_fault fault e =
       record {
         fault_is = e;
-        fault_some = λ told q z. ne (fault_inj fault told q ∙ z);
         nodes_of = λ nodes q. absurd (let z : ◌≡◌ {A = ℕ} 0 1 = cc in omega arith);
       }
-    where
-      fault_inj : (one other : ℕ) → Fault one ≡ Fault other → one ≡ other
-      fault_inj one other q = cc
 
   tested_passed :
       (nodes : Nodes) → 0 ≡ first_of (entry_checks g disk met) → OwnerNodes g disk met nodes →
-      TestedAs g disk met (Passed nodes)
+      TestedAs g disk met (Ok nodes)
   tested_passed nodes e owned =
       record {
         fault_is = e;
-        fault_some = λ told q. absurd (let z : ◌≡◌ {A = ℕ} 0 1 = cc in omega arith);
         nodes_of = λ told q. subst (OwnerNodes g disk met) (nodes_inj nodes told q) owned;
       }
     where
-      nodes_inj : (one other : Nodes) → Passed one ≡ Passed other → one ≡ other
+      nodes_inj : (one other : Nodes) → ◌≡◌ {A = Result Nodes Refusal} (Ok one) (Ok other) → one ≡ other
       nodes_inj one other q = cc
 
 -- of an entry that 13 and 14 do not meet, by its slot's owner
@@ -54,9 +51,9 @@ module _ (g : Geometry) (disk : Bytes) (level first : ℕ) (entry : DiskAddress)
   abbrev met : MetEntry
   met = met_entry level first entry
 
-  pub tested_not_below : isIn ≡ false → TestedAs g disk met (Fault 15)
+  pub tested_not_below : isIn ≡ false → TestedAs g disk met (Err refusal.WrongOwner)
   tested_not_below z =
-      tested_fault g disk met 15 (λ q. omega arith)
+      tested_fault g disk met refusal.WrongOwner
       (fault_fifteen g disk met true (sym formed) refl h false
       (is_owned_not_below g disk level first entry slot owner s o (sym b ∙ z)) refl)
 
@@ -68,12 +65,12 @@ module _ (g : Geometry) (disk : Bytes) (level first : ℕ) (entry : DiskAddress)
         is_owned_below g disk level first entry slot owner s o (sym b ∙ inside) ends
         (q ∙ ap (is_found_at (level_address g slot 0)) walked.end_is)
 
-    pub tested_elsewhere : ends ≡ false → TestedAs g disk met (Fault 15)
+    pub tested_elsewhere : ends ≡ false → TestedAs g disk met (Err refusal.WrongOwner)
     tested_elsewhere z =
-        tested_fault g disk met 15 (λ q. omega arith)
+        tested_fault g disk met refusal.WrongOwner
         (fault_fifteen g disk met true (sym formed) refl h ends owned_is z)
 
-    pub tested_owned : ends ≡ true → TestedAs g disk met (Passed trail.nodes)
+    pub tested_owned : ends ≡ true → TestedAs g disk met (Ok trail.nodes)
     tested_owned z =
         let at : owner ≡ owner_at g disk met = o ∙ ap (owner_of g disk) s in
         tested_passed g disk met trail.nodes

@@ -6,6 +6,7 @@ use mathlib.Core.Bool.{true}
 use mathlib.Core.Option.{none, some}
 use Prim.Native.Nat.{ℕ, suc, ◌+◌, ◌*◌, ◌-◌, ◌/◌, ◌<◌}
 use native.Mathlib.Omega.{arith}
+use Rattle.std.specs.Prelude.{Result, Ok, Err}
 use Rattle.laws.specs.Checks.{first_of}
 use Rattle.laws.proofs.Cases.{none_is_not_some, some_inj}
 use Rattle.model.specs.Geometry.{Geometry, block_width}
@@ -20,11 +21,12 @@ use Rattle.model.proofs.Laws.TreeCheck.{first_fault_below, first_fault_nil, form
 use Rattle.model.proofs.Laws.TreeCheck.{first_of_faultless}
 use Rattle.model.proofs.Tree.Check.{key_of_below, index_first}
 use Rattle.model.proofs.Laws.Slots.{formed_inside}
+use Rattle.layout.specs.declared.refusals.Refusal.{Refusal}
+use Rattle.layout.specs.Refusals.{refusal_number, answer_number}
+use Rattle.layout.proofs.Laws.Refusals.{refusal-some}
 use Rattle.hidden_map.specs.declared.nodes.Nodes.{Nodes}
 use Rattle.hidden_map.specs.Nodes.{address_at}
-use Rattle.tree_check.specs.declared.entries.Tested.{Tested}
-use Rattle.tree_check.specs.declared.entries.Tested.TheVariants.{Fault, Passed}
-use Rattle.tree_check.specs.Entries.{fault_of, owner_at, TestedAs}
+use Rattle.tree_check.specs.Entries.{owner_at, TestedAs}
 use Rattle.tree_check.specs.Nodes.{NodeOf}
 use Rattle.tree_check.proofs.Laws.Ways.{index_at, read_entry, read_below}
 
@@ -55,7 +57,7 @@ module _ (g : Geometry) (disk : Bytes) {level first place : ℕ} {node : Bytes} 
 
 -- the entry at a place of a node is not 0, and this is what its tests tell
 pub record Judged (g : Geometry) (disk : Bytes) (level first place : ℕ) (node entry : DiskAddress)
-    (start : ℕ) (tested : Tested) : Type 0 where
+    (start : ℕ) (tested : Result Nodes Refusal) : Type 0 where
   pub node_of : NodeOf g disk level first node
   pub place_lt : place < entries_in g level
   pub read : ReadAt g level first place (block_at (block_width g) disk node) entry start
@@ -63,7 +65,7 @@ pub record Judged (g : Geometry) (disk : Bytes) (level first place : ℕ) (node 
   pub told : TestedAs g disk (met_entry level start entry) tested
 
 module _ {g : Geometry} {disk : Bytes} {level first place : ℕ} {node entry : DiskAddress} {start : ℕ}
-    {tested : Tested} (j : Judged g disk level first place node entry start tested) where
+    {tested : Result Nodes Refusal} (j : Judged g disk level first place node entry start tested) where
   abbrev met : MetEntry
   met = met_entry level start entry
 
@@ -71,17 +73,18 @@ module _ {g : Geometry} {disk : Bytes} {level first place : ℕ} {node entry : D
   abbrev fault_there : ℕ
   fault_there = first_fault g disk (met_at g disk level first (block_at (block_width g) disk node) place)
 
-  pub fault_own : (fault : ℕ) → tested ≡ Fault fault → fault ≡ fault_there
+  pub fault_own : (fault : Refusal) → tested ≡ Err fault → refusal_number fault ≡ fault_there
   fault_own fault e =
-      let own : fault ≡ first_of (entry_checks g disk met) = ap fault_of (sym e) ∙ j.told.fault_is in
+      let own : refusal_number fault ≡ first_of (entry_checks g disk met) =
+      ap answer_number (sym e) ∙ j.told.fault_is in
       own
       ∙ sym (first_fault_own g disk met (below_entry g disk met) j.not_zero
-      (λ z. j.told.fault_some fault e (own ∙ z)))
+      (λ z. refusal-some fault (own ∙ z)))
       ∙ ap (first_fault g disk) (met_at_read g disk j.read)
 
-  module _ (nodes : Nodes) (p : tested ≡ Passed nodes) where
+  module _ (nodes : Nodes) (p : tested ≡ Ok nodes) where
     faultless : first_of (entry_checks g disk met) ≡ 0
-    faultless = sym j.told.fault_is ∙ ap fault_of p
+    faultless = sym j.told.fault_is ∙ ap answer_number p
 
     -- the answer is that of what is below
     left_below : first_fault g disk (below_entry g disk met) ≡ fault_there

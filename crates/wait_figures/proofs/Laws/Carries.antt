@@ -1,11 +1,14 @@
 -- The writes that carry a line along, one after another. Assumes nothing.
 use mathlib.Core.Path.{◌≡◌, refl, sym, ap, ◌∙◌}
-use mathlib.Core.Bool.{Bool, ◌&&◌}
+use mathlib.Core.Bool.{Bool, true, false, ◌&&◌}
 use mathlib.Core.List.{List}
 use Prim.Native.Nat.{ℕ, zero, suc, ◌+◌, ◌-◌, ◌≤◌, ◌<◌}
 use native.Mathlib.Omega.{arith}
 use lib.Dec.{eqb}
 use lib.ListN.{length}
+use Rattle.std.specs.Prelude.{None, Result}
+use Rattle.layout.specs.declared.refusals.Refusal.{Refusal}
+use Rattle.std.specs.Int.{from_bool}
 use borrow.Author.Tests.{lt-ltb, le-ltb}
 use Rattle.laws.proofs.Cases.{cond_true, cond_false}
 use Rattle.model.specs.Blocks.{Bytes, DiskAddress}
@@ -15,7 +18,10 @@ use Rattle.model.specs.Promises.LineFigures.{three_blocks, line_written}
 use Rattle.line.specs.declared.offers.Line.{Line}
 use Rattle.line.specs.Offers.{line_of}
 use Rattle.mapper.specs.declared.write.LineWritten.{LineWritten}
-use Rattle.mapper.specs.Writes.{outcome_of, LineAnswered}
+use Rattle.mapper.specs.Writes.{LineAnswered, told_by_line_write}
+use Rattle.answers_c.specs.declared.line_writes.LineWritten.{LineWritten as Flat}
+use Rattle.answers_c.specs.LineWrites.{line_written_said}
+use Rattle.figure_lines.proofs.Laws.Counts.{from_digit}
 use Rattle.line_cases.specs.Offers.{line_said}
 use Rattle.line_cases.specs.Cases.{case_on}
 use Rattle.wait_figures.specs.declared.carries.Carried.{Carried}
@@ -26,23 +32,35 @@ use Rattle.wait_figures.specs.Carries.{carry_agrees}
 
 -- ---- one write ----
 
+-- one write tells it once at most
+pub from_bool_most : (b : Bool) → from_bool b ≤ 1
+from_bool_most true = omega arith
+from_bool_most false = omega arith
+
 pub carried_more :
-    {disk after : Bytes} {list listAfter : List DiskAddress} {made : LineWritten} {number waits : ℕ}
-    (carried : Carried) →
+    {disk after : Bytes} {list listAfter : List DiskAddress} {made : Result LineWritten Refusal} {told : Flat}
+    {left : Line} {more one : ℕ} (carried : Carried) →
     LineAnswered (line_written disk 0 (line_of carried.line)) disk list three_blocks carried.line after
     listAfter made →
-    number ≡ outcome_number (outcome_of made.outcome) → waits ≡ carried.waits + digit (eqb number 2) →
+    told ≡ line_written_said (told_by_line_write carried.line made) →
+    left ≡ (told_by_line_write carried.line made).line →
+    more ≡ told.rounds → one ≡ from_bool (eqb told.outcome 2) →
     carry_of after
-    (record { line = made.line; rounds = carried.rounds + made.rounds; waits = waits }) ≡
+    (record { line = left; rounds = carried.rounds + more; waits = carried.waits + one }) ≡
     carry_more (carry_of disk carried)
-carried_more {disk} {waits = waits} carried good said counted =
-    let told : waits ≡ (carry_more (carry_of disk carried)).waits =
-    counted ∙ ap (λ (n : ℕ). carried.waits + digit (eqb n 2))
-    (said ∙ ap outcome_number good.outcome_is) in
+carried_more {disk} {told = told} {one = one} carried good told_is left_is ran counted =
+    let outcome_is : told.outcome ≡ outcome_number (line_written disk 0 (line_of carried.line)).outcome =
+    rw told_is (ap outcome_number good.outcome_is) in
+    let rounds_are : told.rounds ≡ (line_written disk 0 (line_of carried.line)).rounds =
+    rw told_is good.rounds_are in
+    let waits_are : carried.waits + one ≡ (carry_more (carry_of disk carried)).waits =
+    ap (λ (n : ℕ). carried.waits + n) (counted ∙ from_digit (eqb told.outcome 2))
+    ∙ ap (λ (n : ℕ). carried.waits + digit (eqb n 2)) outcome_is in
+    let left_lem = ap (λ (line : Line). line_of line) left_is ∙ good.line_left_lem in
     λ i. record {
-      case = case_on (good.stored i) (good.line_left_lem i);
-      rounds = carried.rounds + good.rounds_are i;
-      waits = told i;
+      case = case_on (good.stored i) (left_lem i);
+      rounds = carried.rounds + (ran ∙ rounds_are) i;
+      waits = waits_are i;
     }
 
 -- ---- until few are left ----
@@ -129,7 +147,7 @@ module _ {left : ℕ} {start : Carry} {size i : ℕ} {disk : Bytes} {carried : C
 
 pub carried_agrees :
     {disk after : Bytes} {line : Line} {ran told : Bool} (row : CarryRow) (carried : Carried) →
-    disk ≡ live_drive 65535 0 → line ≡ line_said row.0 →
+    disk ≡ live_drive None → line ≡ line_said row.0 →
     carry_of after carried ≡ carry_until 20 row.1 (carry_on disk (line_of line)) →
     ran ≡ eqb row.2 carried.rounds → told ≡ eqb row.3 carried.waits →
     (ran && told) ≡ carry_agrees row
@@ -139,4 +157,4 @@ carried_agrees {disk} {line = line} row carried drive-is line_is made ran-is tol
     (ap (λ (carry : Carry). eqb row.2 carry.rounds && eqb row.3 carry.waits)
     (made
     ∙ ap (λ (drive : Bytes). carry_until 20 row.1 (carry_on drive (line_of line))) drive-is
-    ∙ ap (λ (said : Line). carry_until 20 row.1 (carry_on (live_drive 65535 0) (line_of said))) line_is))
+    ∙ ap (λ (said : Line). carry_until 20 row.1 (carry_on (live_drive None) (line_of said))) line_is))

@@ -1,32 +1,34 @@
--- Each arm makes the disk that its number names, by the calls that it cites.
-use Rattle.std.proofs.Common.{ap, ◌∙◌, arith}
-use Rattle.std.proofs.lemmas.Bool.Decides.{nat_tests}
+-- Each arm makes the disk that it names, by the calls that it cites.
+use Rattle.std.proofs.Common.{ap, ◌∙◌}
 use Rattle.recovery_figures.specs.Listed.{three_written}
 use Rattle.figures.specs.Drives.{disk_written_on, made_by}
 use Rattle.figures.proofs.drives.make_by.Goals as goal
 
-pub returns-in-1 : goal.returns-in-1
+pub returns-in-Fresh : goal.returns-in-Fresh
 unfolding made_by
-returns-in-1 c = rw c.in-1.is c.make_slot.ensures
+returns-in-Fresh c = rw c.in-Fresh.is c.format_small.ensures
 
-pub returns-in-2 : goal.returns-in-2
+pub returns-in-Slot : goal.returns-in-Slot
 unfolding made_by
-returns-in-2 c = rw c.in-2.is (c.write_three.ensures ∙ ap three_written c.format_small.ensures)
+returns-in-Slot c = rw c.in-Slot.is c.make_slot.ensures
 
-pub returns-in-3 : goal.returns-in-3
+pub returns-in-Three : goal.returns-in-Three
 unfolding made_by
-returns-in-3 c = rw c.in-3.is c.write_five.ensures
+returns-in-Three c =
+    rw c.in-Three.is (c.write_three.ensures ∙ ap three_written c.format_small-in-Three.ensures)
 
-pub returns-in-4 : goal.returns-in-4
+pub returns-in-Five : goal.returns-in-Five
 unfolding made_by
-returns-in-4 c = rw c.in-4.is (c.write_times.ensures ∙ ap (disk_written_on _ 2) c.format_small-in-4.ensures)
+returns-in-Five c = rw c.in-Five.is c.write_five.ensures
 
-pub returns-in-5 : goal.returns-in-5
+pub returns-in-Written : goal.returns-in-Written
 unfolding made_by
-returns-in-5 c =
-    rw c.in-5.is (c.write_times-in-5.ensures ∙ ap (disk_written_on _ 0) c.format_drive.ensures.stored)
+returns-in-Written c =
+    rw c.in-Written.is
+    (c.write_times.ensures ∙ ap (disk_written_on c.in-Written.times 2) c.format_small-in-Written.ensures)
 
-pub returns-in_default : goal.returns-in_default
+pub returns-in-Moved : goal.returns-in-Moved
 unfolding made_by
-returns-in_default c =
-    grind (arith, nat_tests, c.format_small-in_default.ensures)
+returns-in-Moved c =
+    rw c.in-Moved.is
+    (c.write_times-in-Moved.ensures ∙ ap (disk_written_on c.in-Moved.times 0) c.format_drive.ensures.stored)

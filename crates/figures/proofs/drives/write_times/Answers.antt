@@ -15,16 +15,13 @@ written_more i last start so_far next more = rw add-one (cc)
 
 pub loop-i-init : goal.loop-i-init
 unfolding disk_written_on
-loop-i-init c = (omega arith, refl)
+loop-i-init c = refl
 
 pub loop-i-preserved : goal.loop-i-preserved
-loop-i-preserved c = (
-  omega arith,
-  written_more c.loop-i.i c.args.last c.args.disk.now c.loop-i.invariant.1 c.number_at.ensures
-      c.write_line.ensures,
-)
+loop-i-preserved c =
+    written_more c.loop-i.i c.args.last c.args.disk.now c.loop-i.invariant c.min.ensures c.write_line.ensures
 
 pub returns : goal.returns
 returns c =
-    let all : c.loop-i.i ≡ c.args.times = omega (arith, c.loop-i-test.false, c.loop-i.invariant.0) in
-    c.loop-i.invariant.1 ∙ ap (λ (n : ℕ). disk_written_on n c.args.last c.args.disk.now) all
+    let all : c.loop-i.i ≡ c.args.times = omega arith in
+    c.loop-i.invariant ∙ ap (λ (n : ℕ). disk_written_on n c.args.last c.args.disk.now) all

@@ -1,23 +1,30 @@
--- The bytes that are lent are the first so many of the drive, 9760 or 512.
-use Rattle.std.proofs.Common.{sym, ap, ◌∙◌, eq-eqb, ne_eqb}
-use Rattle.laws.proofs.Cases.{cond_true, cond_false}
+-- A drive that is moved takes 9760 zeros, and any other 512.
+use Rattle.std.proofs.Common.{◌≡◌, ◌≢◌, ℕ, take, replicate, refl, sym, ap, ◌∙◌}
+use Rattle.model.specs.Blocks.{Bytes}
+use Rattle.figures.specs.declared.drives.Made.{Made}
+use Rattle.figures.specs.declared.drives.Made.TheVariants.{Fresh, Slot, Three, Five, Written, Moved}
 use Rattle.figures.specs.Drives.{drive_on}
-use Rattle.figures.specs.Writes.{agrees_on}
-use Rattle.figure_lines.proofs.Laws.Counts.{cut_lent}
+use Rattle.figures.specs.Writes.{agrees_on, zeros_for}
 use Rattle.figures.proofs.writes.write_drive.Goals as goal
 
-pub returns-then-drive-eq5 : goal.returns-then-drive-eq5
-returns-then-drive-eq5 c =
-    let a = c.args in
-    c.write_on.ensures.agrees_is
-    ∙ cut_lent (agrees_on a.room a.write a.said a.stored) a.bytes 9760 _ c.at_most-count.ensures.0
-    c.make_drive.auto.disk
-    (c.make_drive.ensures ∙ ap (drive_on a.drive) (sym (cond_true _ _ (eq-eqb _ _ c.if-drive-eq5.true))))
+zeros_small : (made : Made) → ((times : ℕ) → made ≢ Moved times) → replicate 512 0 ≡ zeros_for made
+zeros_small Fresh other = refl
+zeros_small Slot other = refl
+zeros_small Three other = refl
+zeros_small Five other = refl
+zeros_small (Written times) other = refl
+zeros_small (Moved times) other = absurd (other times refl)
 
-pub returns : goal.returns
-returns c =
+pub returns-in-Moved : goal.returns-in-Moved
+returns-in-Moved c =
     let a = c.args in
-    c.write_on-2.ensures.agrees_is
-    ∙ cut_lent (agrees_on a.room a.write a.said a.stored) a.bytes 512 _ c.at_most-count-2.ensures.0
-    c.make_drive-2.auto.disk
-    (c.make_drive-2.ensures ∙ ap (drive_on a.drive) (sym (cond_false _ _ (ne_eqb _ _ c.if-drive-eq5.false))))
+    c.write_sized.ensures
+    ∙ ap (λ (zeros : Bytes). agrees_on a.room a.write a.said a.stored (take a.bytes (drive_on a.drive zeros)))
+    (sym (ap zeros_for c.in-Moved.is))
+
+pub returns-in_default : goal.returns-in_default
+returns-in_default c =
+    let a = c.args in
+    c.write_sized-in_default.ensures
+    ∙ ap (λ (zeros : Bytes). agrees_on a.room a.write a.said a.stored (take a.bytes (drive_on a.drive zeros)))
+    (zeros_small a.drive.made c.in_default.not-Moved)

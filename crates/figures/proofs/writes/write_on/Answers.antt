@@ -17,14 +17,14 @@ returns c =
       agrees_is =
           made.agrees_is
           ∙ cut_lent (λ (said : List DiskAddress). result_agrees a.said said a.disk.now
-          (take c.at_most-count.result list) a.write
-          (result_of a.disk.now (take c.at_most-count.result list) a.write))
-          a.said.stores 17 a.stored c.at_most-stores.ensures.0 whole refl
+          (take c.min-count.result list) a.write
+          (result_of a.disk.now (take c.min-count.result list) a.write))
+          a.said.stores 17 a.stored c.min-stores.ensures whole refl
           ∙ cut_lent (λ (part : List DiskAddress). result_agrees a.said (take a.said.stores a.stored)
           a.disk.now part a.write (result_of a.disk.now part a.write))
-          a.room 23 list c.at_most-count.ensures.0 refl refl;
+          a.room 23 list c.min-count.ensures refl refl;
       disk_is =
           made.disk_is ∙
           cut_lent (λ (part : List DiskAddress). written_disk (result_of a.disk.now part a.write) a.disk.now)
-          a.room 23 list c.at_most-count.ensures.0 refl refl;
+          a.room 23 list c.min-count.ensures refl refl;
     }

@@ -6,23 +6,23 @@ use Rattle.hidden_map.proofs.branches.is_well_formed.Goals as goal
 pub returns-then-at-first : goal.returns-then-at-first
 returns-then-at-first c =
     let a = c.args in
-    λ g area. is_well_formed_below g a.height a.start.0 a.count area a.level a.address.0
+    λ g of. is_well_formed_below g a.area of a.level a.address.0
     c.if-at-first.true
 
-pub returns-then-count-at : goal.returns-then-count-at
-returns-then-count-at c =
+pub returns-then-area-at : goal.returns-then-area-at
+returns-then-area-at c =
     let a = c.args in
-    λ g area. is_well_formed_past g a.height a.start.0 a.count area a.level a.address.0
-    c.if-count-at.true
+    λ g of. is_well_formed_past g a.area of a.level a.address.0
+    c.if-area-at.true
 
 pub returns-then-level-eq0 : goal.returns-then-level-eq0
 returns-then-level-eq0 c =
     let a = c.args in
-    λ g area. is_well_formed_data g a.height a.start.0 a.count area a.level a.address.0
-    c.if-at-first.false c.if-count-at.false c.if-level-eq0.true
+    λ g of. is_well_formed_data g a.area of a.level a.address.0
+    c.if-at-first.false c.if-area-at.false c.if-level-eq0.true
 
 pub returns : goal.returns
 returns c =
     let a = c.args in
-    λ g area. is_well_formed-node g a.height a.start.0 a.count area a.level a.address.0
-    c.if-at-first.false c.if-count-at.false c.if-level-eq0.false
+    λ g of. is_well_formed-node g a.area of a.level a.address.0
+    c.if-at-first.false c.if-area-at.false c.if-level-eq0.false

@@ -13,39 +13,36 @@ returns-then-level-eq0 t c =
     let a = c.args in
     λ g tree.
     walked_leaf g a.disk.now a.number.0 a.level (block_at (block_width g) a.disk.now a.address.0)
-    c.step-next.result c.stopped.result c.stopped.ensures (c.step-next.ensures g tree) c.if-level-eq0.true
+    c.step-next.result a.nodes.now (c.step-next.ensures g tree) c.if-level-eq0.true
 
 pub returns-in_default : goal.returns-in_default
 returns-in_default t c =
     let a = c.args in
     let next = c.step-next in
-    let stopped = c.stopped-in_default in
     λ g tree.
     walked_stop g a.disk.now a.number.0 a.level (block_at (block_width g) a.disk.now a.address.0)
-    next.result stopped.result stopped.ensures (next.ensures g tree)
-    (is_found-end_of next.result c.in_default.not-Found)
+    next.result a.nodes.now (next.ensures g tree) (is_found-end_of next.result c.in_default.not-Found)
 
 -- the node that the step leads to stands inside the disk
-pub walk_from-rest-requires : goal.walk_from-rest-requires
-walk_from-rest-requires t c =
+pub walk_from-requires : goal.walk_from-requires
+walk_from-requires t c =
     let a = c.args in
     let p = c.requires in
     let g = p.walkable.geometry in
     let inside = (walk_from_goes g a.disk.now a.number.0 (block_at (block_width g) a.disk.now a.address.0)
-    a.level c.in-Found.node.0 c.if-level-eq0.false (c.in-Found.ensures g p.walkable.tree)).address_inside in (
+    a.level c.in-Found.node.0 c.if-level-eq0.false (c.in-Found.ensures g p.walkable.of)).address_inside in (
       omega arith,
       record {
         walkable = p.walkable;
         level_lt = omega arith;
-        address_inside = omega (arith, p.walkable.tree.area.count_is, inside);
+        address_inside = omega (arith, p.walkable.of.area.count_is, inside);
       },
     )
 
 pub returns : goal.returns
 returns t c =
     let a = c.args in
-    let rest = c.walk_from-rest in
     λ g tree.
     walked_on g a.disk.now a.number.0 a.level (block_at (block_width g) a.disk.now a.address.0)
-    c.in-Found.node.0 rest.result c.with_node.result c.if-level-eq0.false (c.in-Found.ensures g tree)
-    (rest.ensures g tree) c.with_node.ensures
+    c.in-Found.node.0 c.walk_from.result a.nodes.now c.set_node.new.nodes c.walk_from.new.nodes
+    c.if-level-eq0.false (c.in-Found.ensures g tree) c.set_node.ensures (c.walk_from.ensures g tree)

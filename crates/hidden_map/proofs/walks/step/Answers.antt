@@ -12,21 +12,21 @@ use Rattle.hidden_map.proofs.walks.step.Goals.{After-branch_at, After-entry_at-e
 
 -- the entry stands inside the disk
 found_inside : (c : After-branch_at) → let a = c.args in
-    4 * (a.address.0 * (a.size / 4) + c.branch_at.result) + 4 ≤ length a.disk.now
+    4 * (a.address.0 * (a.tree.now.size / 4) + c.branch_at.result) + 4 ≤ length a.disk.now
 found_inside c =
     let a = c.args in
     let w = c.requires.walkable in
-    branch_entry_inside w.geometry a.disk.now a.size a.height a.start.0 a.count w.tree a.number.0 a.level
-    a.address.0 c.branch_at.result (c.branch_at.ensures w.geometry w.tree.size_is) c.requires.address_inside
+    branch_entry_inside w.geometry a.disk.now a.tree.now w.of a.number.0 a.level
+    a.address.0 c.branch_at.result (c.branch_at.ensures w.geometry w.of.size_is) c.requires.address_inside
 
 -- the entry that is read is the number's in the node
 entry_is : (c : After-entry_at-entry) (g : Geometry) → let a = c.args in
-    TreeOf g a.disk.now a.size a.height a.start.0 a.count →
+    TreeOf g a.disk.now a.tree.now →
     c.entry_at-entry.result
     ≡ entry_at (branch_at g a.number.0 a.level) (block_at (block_width g) a.disk.now a.address.0)
 entry_is c g tree =
     let a = c.args in
-    branch_entry_is g a.disk.now a.size a.height a.start.0 a.count tree a.number.0 a.level a.address.0
+    branch_entry_is g a.disk.now a.tree.now tree a.number.0 a.level a.address.0
     c.branch_at.result (c.branch_at.ensures g tree.size_is) c.entry_at-entry.result c.entry_at-entry.ensures
 
 pub overflow_add-before : goal.overflow_add-before

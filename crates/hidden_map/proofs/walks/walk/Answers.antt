@@ -1,7 +1,7 @@
--- `walk` meets its contract: the numbers that it hands on are those of its geometry. Assumes nothing.
-use Prim.Native.Nat.{◌-◌}
+-- `walk` meets its contract: the numbers that it hands on are those of its geometry, and the root stands just
+-- before the data area. Assumes nothing.
+use Rattle.std.proofs.Common.{◌-◌, refl, arith}
 use Rattle.layout.specs.Geometries.{geometry_of}
-use Rattle.hidden_map.proofs.Laws.Trees.{tree_of_drive, root_is}
 use Rattle.hidden_map.proofs.Laws.Walks.{walked_root}
 use Rattle.hidden_map.proofs.walks.walk.Goals as goal
 
@@ -9,9 +9,10 @@ pub returns : goal.returns
 returns c =
     let g = geometry_of c.args.g in
     let disk = c.args.disk.now in
-    let start = c.area_start-start in
-    let width = c.slot_width in
-    walked_root g disk c.args.number.0 (start.result.0 - 1) c.walk_from.result
-    (root_is g disk c.requires start.result.0 start.ensures width.result width.ensures)
-    (c.walk_from.ensures g (tree_of_drive g disk c.requires start.result.0 start.ensures
-    width.result width.ensures))
+    let a = c.area_of-area in
+    let walked = c.walk_from-end in
+    let from = walked.ensures g
+    (record { drive = c.requires; size_is = refl; area = a.ensures }) in
+    walked_root g disk c.args.number.0 (a.result.start.0 - 1) walked.result c.no_nodes-nodes.result
+    walked.new.nodes (omega (arith, a.ensures.start_is)) c.no_nodes-nodes.ensures
+    (rw a.ensures.height_is at from)

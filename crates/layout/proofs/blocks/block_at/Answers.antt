@@ -1,15 +1,11 @@
--- `layout::blocks::block_at` meets its contract: the block ends inside the disk. Assumes nothing.
-use mathlib.Core.Path.{◌≡◌, sym, ◌∙◌}
-use Prim.Native.Nat.{◌+◌, ◌*◌, ◌-◌}
-use native.Mathlib.Omega.{arith}
-use Rattle.laws.proofs.Lists.{part_is}
-use Rattle.model.proofs.Laws.Blocks.{block_at_is}
+-- `layout::blocks::block_at` meets its contract: the block stands in the disk. Assumes nothing.
+use Rattle.model.specs.Geometry.{block_count, block_width}
+use Rattle.model.proofs.Laws.Blocks.{block_inside}
+use Rattle.layout.specs.Geometries.{geometry_of}
 use Rattle.layout.proofs.blocks.block_at.Goals as goal
 
-pub returns : goal.returns
-returns c =
-    let s = c.args in
-    let width = s.g.block_size in
-    let from = s.address.0 * width in
-    let size : from + width - from ≡ width = omega arith in
-    rw size (sym (block_at_is width s.disk.now s.address.0 ∙ part_is from width s.disk.now))
+pub lent_block-requires : goal.lent_block-requires
+lent_block-requires c =
+    let g = geometry_of c.args.g in
+    block_inside (block_width g) c.args.disk.now (block_count g) c.requires.drive.whole c.args.address.0
+    c.requires.address_bound

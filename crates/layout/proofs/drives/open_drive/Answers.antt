@@ -10,6 +10,8 @@ use Rattle.model.specs.Layout.{geometry_in, head_in}
 use Rattle.model.specs.Refusals.{size_refusal}
 use Rattle.layout.specs.Geometries.{geometry_of}
 use Rattle.model.proofs.Laws.Refusals.{drive_read, drive_short, drive_sized, drive_good, drive_head}
+use Rattle.layout.proofs.Laws.Refusals.{refusal-some, handed_on}
+use Rattle.layout.specs.Refusals.{refusal_number}
 use Rattle.layout.proofs.drives.open_drive.Goals as goal
 
 pub returns-then-bytes-lt24 : goal.returns-then-bytes-lt24
@@ -19,25 +21,25 @@ returns-then-bytes-lt24 c =
       fault_some = λ z. omega arith;
     }
 
-pub returns-then-fault-ne0 : goal.returns-then-fault-ne0
-returns-then-fault-ne0 c =
+pub returns-in_err-check_size : goal.returns-in_err-check_size
+returns-in_err-check_size c =
     let disk_of : Bytes =
     c.args.disk.now in
-    let told : c.size_fault-fault.result ≡ size_refusal (length disk_of) (geometry_in disk_of) =
-    c.size_fault-fault.ensures ∙ ap (size_refusal (length disk_of)) c.geometry_in-g.ensures in
-    record {
-      fault_is = drive_sized disk_of c.size_fault-fault.result told c.if-fault-ne0.true;
-      fault_some = c.if-fault-ne0.true;
-    }
+    let fault = c.in_err-check_size.field-0.0 in
+    let told : refusal_number fault ≡ size_refusal (length disk_of) (geometry_in disk_of) =
+    c.in_err-check_size.ensures ∙ ap (size_refusal (length disk_of)) c.geometry_in-g.ensures in
+    rw (handed_on c.from_residual.ensures.1)
+    (record {
+      fault_is = drive_sized disk_of (refusal_number fault) told (refusal-some fault);
+      fault_some = refusal-some fault;
+    })
 
 pub returns-then-head_in-g : goal.returns-then-head_in-g
 returns-then-head_in-g c =
     let disk_of : Bytes =
     c.args.disk.now in
-    let told : c.size_fault-fault.result ≡ size_refusal (length disk_of) (geometry_in disk_of) =
-    c.size_fault-fault.ensures ∙ ap (size_refusal (length disk_of)) c.geometry_in-g.ensures in
     let accepted : size_refusal (length disk_of) (geometry_in disk_of) ≡ 0 =
-    sym told ∙ c.if-fault-ne0.false in
+    sym (c.in_ok-check_size.ensures ∙ ap (size_refusal (length disk_of)) c.geometry_in-g.ensures) in
     let slots : c.geometry_in-g.result.slots ≡ (geometry_in disk_of).slots =
     ap (λ (g : Geometry). g.slots) c.geometry_in-g.ensures in
     let disk = disk_of in
@@ -55,10 +57,8 @@ pub returns : goal.returns
 returns c =
     let disk_of : Bytes =
     c.args.disk.now in
-    let told : c.size_fault-fault.result ≡ size_refusal (length disk_of) (geometry_in disk_of) =
-    c.size_fault-fault.ensures ∙ ap (size_refusal (length disk_of)) c.geometry_in-g.ensures in
     let accepted : size_refusal (length disk_of) (geometry_in disk_of) ≡ 0 =
-    sym told ∙ c.if-fault-ne0.false in
+    sym (c.in_ok-check_size.ensures ∙ ap (size_refusal (length disk_of)) c.geometry_in-g.ensures) in
     let slots : c.geometry_in-g.result.slots ≡ (geometry_in disk_of).slots =
     ap (λ (g : Geometry). g.slots) c.geometry_in-g.ensures in
     let disk = disk_of in

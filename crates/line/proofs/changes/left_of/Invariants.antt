@@ -1,11 +1,6 @@
--- What the loop keeps: what is left of the offers passed. Its measure is what is left of the line. Assumes
--- nothing.
-use Rattle.std.proofs.Common.{◌-◌}
+-- What the loop keeps: what is left of the offers passed. Assumes nothing.
 use Rattle.line.proofs.Laws.Leaving.{Leaving}
 use Rattle.line.proofs.changes.left_of.Given as goal
 
-abbrev pub invariant-loop-i : goal.invariant-loop-i
-invariant-loop-i l = Leaving l.line l.gone l.most l.left l.i
-
-abbrev pub decreases-loop-i : goal.decreases-loop-i
-decreases-loop-i l = l.most - l.i
+abbrev pub invariant-loop-offer : goal.invariant-loop-offer
+invariant-loop-offer l = Leaving l.offers l.gone l.left l.offer-index

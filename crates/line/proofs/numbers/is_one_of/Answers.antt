@@ -1,18 +1,14 @@
--- `is_one_of` meets its contract: a number more is the one asked for, or none passed is. Assumes nothing.
-use Rattle.std.proofs.Common.{sym, arith}
-use Rattle.line.proofs.Laws.Numbers.{is_one_of_more, is_one_of_at}
+-- `is_one_of` meets its contract: the test of each offer is the model's. Assumes nothing.
+use Rattle.std.proofs.Common.{◌∙◌, rules, tests}
+use Rattle.std.proofs.lemmas.Iterator.{YieldsList-from_slice}
+use Rattle.std.proofs.lemmas.Iterator.Search.{any_from_yields_List}
+use Rattle.line.proofs.Laws.Numbers.{has_number, is_waiting_in-any}
 use Rattle.line.proofs.numbers.is_one_of.Goals as goal
 
-pub returns-then-numbers-i : goal.returns-then-numbers-i
-returns-then-numbers-i c =
-    sym (is_one_of_at c.args.number c.args.numbers.now c.loop-i.i (omega arith) c.if-numbers-i.true)
-
-pub loop-i-preserved : goal.loop-i-preserved
-loop-i-preserved c =
-    let at = c.loop-i in
-    record {
-      low = omega arith;
-      absent =
-          is_one_of_more c.args.number c.args.numbers.now at.i (omega arith) at.invariant.absent
-          c.if-numbers-i.false;
-    }
+pub returns : goal.returns
+returns c =
+    let number = c.args.number.0 in
+    let offers = c.args.offers.now in
+    any_from_yields_List (has_number number) _ _ _ c.any.ensures.ran (YieldsList-from_slice offers cc)
+    (λ x b q k. search (rules, tests))
+    ∙ is_waiting_in-any number offers

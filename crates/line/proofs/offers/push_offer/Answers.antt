@@ -3,10 +3,10 @@ use Rattle.std.proofs.Common.{sym, arith}
 use Rattle.line.proofs.Laws.Offers.{pushed_room, pushed_full}
 use Rattle.line.proofs.offers.push_offer.Goals as goal
 
-pub returns-then-waiting-lt16 : goal.returns-then-waiting-lt16
-returns-then-waiting-lt16 c =
+pub returns-then-line-lt16 : goal.returns-then-line-lt16
+returns-then-line-lt16 c =
     sym (pushed_room c.args.line c.args.offer (omega arith))
 
-pub returns : goal.returns
-returns c =
+pub returns-else-line-lt16 : goal.returns-else-line-lt16
+returns-else-line-lt16 c =
     sym (pushed_full c.args.line c.args.offer (omega arith))

@@ -1,30 +1,26 @@
 -- `waiting_for` meets its contract: the number's first offer, where no refusal meets it. Assumes nothing.
-use Rattle.std.proofs.Common.{arith}
+use Rattle.std.proofs.Common.{refl}
 use Rattle.layout.specs.Geometries.{geometry_of}
+use Rattle.layout.proofs.Laws.Refusals.{refusal-some}
 use Rattle.line.proofs.Laws.Waiting.{waits_of_good, nobody_of_bad, nobody_of_absent}
 use Rattle.line.proofs.waiting.waiting_for.Goals as goal
 
-pub returns-then-offer_fault-eq0 : goal.returns-then-offer_fault-eq0
-returns-then-offer_fault-eq0 c =
+pub returns-in_err-index : goal.returns-in_err-index
+returns-in_err-index c =
     let a = c.args in
-    let found = c.find_number-index in
-    let first = c.offer_of-offer in
-    let judged = c.offer_fault in
-    waits_of_good (geometry_of a.g) c.requires a.lent a.line a.number.0 found.result found.ensures
-    (omega arith) first.result first.ensures judged.result judged.ensures c.if-offer_fault-eq0.true
+    rw c.from_residual.ensures
+    (nobody_of_absent (geometry_of a.g) c.requires a.lent a.line a.number.0 c.in_err-index.ensures)
 
-pub returns-else-offer_fault-eq0 : goal.returns-else-offer_fault-eq0
-returns-else-offer_fault-eq0 c =
+pub returns-in-Ok : goal.returns-in-Ok
+returns-in-Ok c =
     let a = c.args in
-    let found = c.find_number-index in
-    let first = c.offer_of-offer in
-    let judged = c.offer_fault in
-    nobody_of_bad (geometry_of a.g) c.requires a.lent a.line a.number.0 found.result found.ensures
-    (omega arith) first.result first.ensures judged.result judged.ensures c.if-offer_fault-eq0.false
+    let found = c.in_ok-index in
+    waits_of_good (geometry_of a.g) c.requires a.lent a.line a.number.0 found.index found.ensures 0
+    c.in-Ok.ensures refl
 
-pub returns-else-index-held : goal.returns-else-index-held
-returns-else-index-held c =
+pub returns-in-Err : goal.returns-in-Err
+returns-in-Err c =
     let a = c.args in
-    let found = c.find_number-index in
-    nobody_of_absent (geometry_of a.g) c.requires a.lent a.line a.number.0 found.result found.ensures
-    (omega arith)
+    let found = c.in_ok-index in
+    nobody_of_bad (geometry_of a.g) c.requires a.lent a.line a.number.0 found.index found.ensures
+    _ c.in-Err.ensures (refusal-some _)

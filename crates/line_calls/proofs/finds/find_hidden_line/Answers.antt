@@ -1,64 +1,58 @@
 -- `line_calls::finds::find_hidden_line` meets its contract: the drive's refusal, the number's, the place of
 -- the offer that counts, or what the read of the drive finds. Assumes nothing.
 use mathlib.Core.Path.{◌≡◌, refl, sym, ap, ◌∙◌}
-use Rattle.model.specs.Geometry.{Geometry}
-use Rattle.model.specs.Refusals.{drive_refusal}
-use Rattle.layout.specs.Drives.{OpenedWith}
-use Rattle.layout.specs.Geometries.{geometry_of}
-use Rattle.layout.proofs.Laws.Opened.{opened_refused, opened_good}
-use Rattle.line.specs.declared.turns.First.{First}
+use Rattle.std.specs.Prelude.{Option, Ok}
+use Rattle.layout.specs.declared.numbers.DiskAddress.{DiskAddress}
+use Rattle.layout.proofs.Laws.Refusals.{refusal-some, handed_on}
 use Rattle.line.specs.Offers.{offer_of, line_of}
-use Rattle.line.specs.Waiting.{offer_found, counting_offer}
+use Rattle.reads.specs.Finds.{Find, find_of, hidden_find}
+use Rattle.line_calls.specs.Finds.{drive_find, line_find_of, line_find}
 use Rattle.line_calls.proofs.Laws.Finds.{line_find_drive, line_find_number, line_find_lent}
 use Rattle.line_calls.proofs.Laws.Finds.{line_find_unoffered}
+use Rattle.line_calls.proofs.finds.find_hidden_line.Goals.{In-None}
 use Rattle.line_calls.proofs.finds.find_hidden_line.Goals as goal
 
-pub returns-then-bad-ne0 : goal.returns-then-bad-ne0
-returns-then-bad-ne0 c =
-    let shape_of : Geometry =
-    geometry_of c.in-Good.g in
-    let opened : let disk = c.args.disk.now in OpenedWith (drive_refusal disk) disk shape_of =
-    let disk = c.args.disk.now in
-    let opening = c.open_drive in
-    opened_good (drive_refusal disk) disk opening.result opening.ensures c.in-Good.is in
+pub returns-in_err-geometry : goal.returns-in_err-geometry
+returns-in_err-geometry c =
     let a = c.args in
-    line_find_number a.disk.now a.number.0 a.blank.now a.blocks.now (line_of a.line)
-    opened c.hidden_number_fault-bad.ensures c.if-bad-ne0.true
+    ap line_find_of (handed_on c.from_residual.ensures.1)
+    ∙ line_find_drive a.disk.now a.number.0 a.blank.now a.blocks.now (line_of a.line) c.in_err-geometry.ensures
 
-pub returns-in-Refused : goal.returns-in-Refused
-returns-in-Refused c =
+pub returns-in_err-check_hidden_number : goal.returns-in_err-check_hidden_number
+returns-in_err-check_hidden_number c =
     let a = c.args in
-    line_find_drive a.disk.now a.number.0 a.blank.now a.blocks.now (line_of a.line)
-    (opened_refused (drive_refusal a.disk.now) a.disk.now c.open_drive.result
-    c.open_drive.ensures c.in-Refused.is)
+    ap line_find_of (handed_on c.from_residual-in_err-check_hidden_number.ensures.1)
+    ∙ line_find_number a.disk.now a.number.0 a.blank.now a.blocks.now (line_of a.line) c.in_ok-geometry.ensures
+    c.in_err-check_hidden_number.ensures (refusal-some c.in_err-check_hidden_number.field-0.0)
 
-pub returns-in-Waits : goal.returns-in-Waits
-returns-in-Waits c =
-    let shape_of : Geometry =
-    geometry_of c.in-Good.g in
-    let opened : let disk = c.args.disk.now in OpenedWith (drive_refusal disk) disk shape_of =
-    let disk = c.args.disk.now in
-    let opening = c.open_drive in
-    opened_good (drive_refusal disk) disk opening.result opening.ensures c.in-Good.is in
-    let counts : (first : First) → c.waiting_for.result ≡ first → let a = c.args in offer_found first ≡
-    counting_offer shape_of a.blocks.now (line_of a.line) a.number.0 =
-    λ first. λ e. ap offer_found (sym e) ∙ c.waiting_for.ensures.offer_is c.args.blocks.now refl in
+pub returns-in-Some : goal.returns-in-Some
+returns-in-Some c =
     let a = c.args in
-    line_find_lent a.disk.now a.number.0 a.blank.now a.blocks.now (line_of a.line)
-    opened c.hidden_number_fault-bad.ensures c.if-bad-ne0.false
-    (offer_of c.in-Waits.offer) (counts _ c.in-Waits.is)
+    line_find_lent a.disk.now a.number.0 a.blank.now a.blocks.now (line_of a.line) c.in_ok-geometry.ensures
+    c.in_ok-check_hidden_number.ensures refl (offer_of c.in-Some.offer)
+    (c.in-Some.ensures.offer_is a.blocks.now refl)
 
-pub returns-in-Nobody : goal.returns-in-Nobody
-returns-in-Nobody c =
-    let shape_of : Geometry =
-    geometry_of c.in-Good.g in
-    let opened : let disk = c.args.disk.now in OpenedWith (drive_refusal disk) disk shape_of =
-    let disk = c.args.disk.now in
-    let opening = c.open_drive in
-    opened_good (drive_refusal disk) disk opening.result opening.ensures c.in-Good.is in
-    let counts : (first : First) → c.waiting_for.result ≡ first → let a = c.args in offer_found first ≡
-    counting_offer shape_of a.blocks.now (line_of a.line) a.number.0 =
-    λ first. λ e. ap offer_found (sym e) ∙ c.waiting_for.ensures.offer_is c.args.blocks.now refl in
+-- where no offer counts, it is what the read of the drive finds
+unoffered :
+    (c : In-None) {find : Find} → find ≡ hidden_find c.args.disk.now c.args.number.0 c.args.blank.now →
+    drive_find find ≡
+    line_find c.args.disk.now c.args.number.0 c.args.blank.now c.args.blocks.now (line_of c.args.line)
+unoffered c =
     let a = c.args in
-    line_find_unoffered a.disk.now a.number.0 a.blank.now a.blocks.now (line_of a.line)
-    opened (counts _ c.in-Nobody.is) c.find_hidden.ensures
+    line_find_unoffered a.disk.now a.number.0 a.blank.now a.blocks.now (line_of a.line) c.in_ok-geometry.ensures
+    (c.in-None.ensures.offer_is a.blocks.now refl)
+
+pub returns-in_err-address-in-None : goal.returns-in_err-address-in-None
+returns-in_err-address-in-None c =
+    ap line_find_of (handed_on c.from_residual-in_err-address-in-None.ensures.1)
+    ∙ unoffered (goal.at.returns-in_err-address-in-None c).In-None c.in_err-address-in-None.ensures
+
+pub returns-in-Some-2 : goal.returns-in-Some-2
+returns-in-Some-2 c =
+    unoffered (goal.at.returns-in-Some-2 c).In-None
+    (ap (λ (found : Option DiskAddress). find_of (Ok found)) (sym c.in-Some-2.is) ∙ c.in_ok-address-in-None.ensures)
+
+pub returns-in-None-2 : goal.returns-in-None-2
+returns-in-None-2 c =
+    unoffered (goal.at.returns-in-None-2 c).In-None
+    (ap (λ (found : Option DiskAddress). find_of (Ok found)) (sym c.in-None-2.is) ∙ c.in_ok-address-in-None.ensures)

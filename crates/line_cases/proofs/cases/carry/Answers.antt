@@ -8,8 +8,8 @@ loop-i-init c = carrying_start _ _ _ _ _
 
 pub loop-i-preserved : goal.loop-i-preserved
 loop-i-preserved c =
-    carrying_more c.loop-i.invariant c.loop-i-test.true c.number_at.ensures c.write_with-made.ensures
-    (search rules)
+    carrying_more c.loop-i.invariant c.loop-i-test.true c.min.ensures c.write_with-made.ensures
+    c.left_after-left.ensures (search rules)
 
 pub returns : goal.returns
 returns c = carrying_end c.loop-i.invariant c.loop-i-test.false

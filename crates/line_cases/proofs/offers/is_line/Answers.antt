@@ -16,7 +16,7 @@ pub loop-i-preserved : goal.loop-i-preserved
 loop-i-preserved c =
     compared_more c.args.said c.args.got _ c.loop-i.invariant c.held-most.ensures
     (sym c.if-held-most.false ∙ c.held.ensures) c.loop-i-test.true c.offer_of.ensures
-    c.offer_of-in-loop-i.ensures c.is_offer-same.ensures refl
+    c.offer_of-in-loop-i.ensures c.eq-same.ensures refl
 
 pub returns : goal.returns
 returns c =

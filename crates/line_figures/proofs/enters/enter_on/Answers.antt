@@ -4,6 +4,6 @@ use Rattle.line_figures.proofs.enters.enter_on.Goals as goal
 
 pub returns : goal.returns
 returns c =
-    entered_on c.args.row c.three_blocks-blocks.ensures c.enter_line-entered.ensures
-    c.print_answer-answered.ensures c.line_by.ensures c.print_left-kept.ensures c.args.disk.now
-    c.prepare-line.ensures
+    entered_on c.args.row c.three_blocks-blocks.ensures c.enter_line-entered.ensures c.unwrap_or-left.ensures
+    c.entered_as-told.ensures c.print_count-answered.ensures c.line_by.ensures c.print_left-kept.ensures
+    c.args.disk.now c.prepare-line.ensures

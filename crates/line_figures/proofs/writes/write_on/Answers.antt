@@ -4,6 +4,7 @@ use Rattle.line_figures.proofs.writes.write_on.Goals as goal
 
 pub returns : goal.returns
 returns c =
-    written_on c.args.row c.number_at-number.result c.write_with-made.ensures c.print_reads-seen.ensures
-    c.print_made-told.ensures c.print_stored-stored.ensures c.print_kept-kept.ensures
-    c.print_reads-shown.ensures c.args.disk.now c.prepare-line.ensures c.number_at-number.ensures
+    written_on c.args.row c.min-number.result c.write_with-made.ensures c.line_written_as.ensures
+    c.left_after-left.ensures c.print_reads-seen.ensures c.print_made-told.ensures
+    c.print_stored-stored.ensures c.print_kept-kept.ensures c.print_reads-shown.ensures c.args.disk.now
+    c.prepare-line.ensures c.min-number.ensures

@@ -6,5 +6,5 @@ pub returns : goal.returns
 returns c =
     let a = c.args in
     let call = c.write_block in
-    line_answered a.disk.now a.line a.number.0 a.offered a.offer.0 a.list.now call.new.disk call.new.list
-    call.result c.requires call.ensures
+    line_answered a.disk.now a.line a.number.0 a.offer a.list.now call.new.disk call.new.list call.result
+    c.requires _ c.offer_with-offered.ensures call.ensures

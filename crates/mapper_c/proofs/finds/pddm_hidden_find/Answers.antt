@@ -7,5 +7,5 @@ use Rattle.mapper_c.proofs.finds.pddm_hidden_find.Goals as goal
 pub returns : goal.returns
 returns c =
     let a = c.args in
-    hidden_answers a.disk.now a.number a.blank.now c.found_as.result
-    (c.found_as.ensures ∙ ap found_of c.find_hidden.ensures)
+    hidden_answers a.disk.now a.number a.blank.now c.from.result
+    (c.from.ensures ∙ ap found_of c.find_hidden.ensures)

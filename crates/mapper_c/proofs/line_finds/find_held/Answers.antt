@@ -10,4 +10,4 @@ pub returns : goal.returns
 returns c =
     let a = c.args in
     held_found a.disk.now a.number a.blank.now a.blocks.now (line_of a.line)
-    c.found_in.result (c.found_in.ensures ∙ ap found_line_of c.find_hidden_line.ensures)
+    c.from.result (c.from.ensures ∙ ap found_line_of c.find_hidden_line.ensures)

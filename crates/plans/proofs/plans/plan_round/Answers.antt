@@ -6,16 +6,14 @@ use Rattle.plans.proofs.plans.plan_round.Goals as goal
 
 pub returns : goal.returns
 returns c =
-    let known : let a = c.args in Settled (geometry_of a.g) a.disk.now a.slot a.first c.row_at-row.result
-    c.walk_owner-owner.result =
+    let a = c.args in
     let owned = c.owner_of-own in
-    let waiting = c.is_waiting-waiting in
-    let a = c.args in
+    let known : Settled (geometry_of a.g) a.disk.now a.slot a.first c.row_at-row.result
+    c.walk_owner-owner.result =
     settled (geometry_of a.g) a.disk.now a.slot owned.result.0 a.first
-    c.row_at-row.result c.walk_owner-owner.result waiting.result c.is_allocated.result
-    c.is_live.result owned.ensures c.walk_owner-owner.ensures waiting.ensures
+    c.row_at-row.result c.walk_owner-owner.result c.is_some.result c.is_allocated.result
+    c.is_live.result owned.ensures c.walk_owner-owner.ensures c.is_some.ensures
     c.is_allocated.ensures c.is_live.ensures c.row_at-row.ensures in
-    let a = c.args in
     planned (geometry_of a.g) a.disk.now a.slot a.first c.row_at-row.result
     c.walk_owner-owner.result known c.plan_half-plan.result c.plan_half-plan.ensures
     c.turn_of.result c.turn_of.ensures

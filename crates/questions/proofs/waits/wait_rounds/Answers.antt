@@ -1,43 +1,30 @@
 -- `questions::waits::wait_rounds` meets its contract: the drive's refusal, or the rounds that are counted.
 -- Assumes nothing.
-use Rattle.model.specs.Geometry.{Geometry}
-use Rattle.model.specs.Blocks.{Bytes}
-use Rattle.model.specs.Refusals.{drive_refusal}
-use Rattle.layout.specs.Drives.{OpenedWith}
+use mathlib.Core.Path.{ap, ◌∙◌}
+use Prim.Native.Nat.{ℕ}
+use Rattle.std.specs.Prelude.{Option, unwrap_or}
+use Rattle.model.specs.Waits.{wait_rounds}
 use Rattle.layout.specs.Geometries.{geometry_of}
-use Rattle.layout.proofs.Laws.Opened.{opened_refused, opened_good, opened_head}
-use Rattle.questions.proofs.Laws.Waits.{wait_in_refused, wait_in-told}
+use Rattle.layout.proofs.Laws.Opened.{opened_head}
+use Rattle.layout.proofs.Laws.Refusals.{handed_on}
+use Rattle.questions.specs.Waits.{wait_of}
+use Rattle.questions.proofs.Laws.Waits.{unwrap_or-found_round, wait_in_refused, wait_in-told}
 use Rattle.questions.proofs.waits.wait_rounds.Goals as goal
 
-pub rounds_to_place-requires : goal.rounds_to_place-requires
-rounds_to_place-requires c =
-    let disk_of : Bytes =
-    c.args.disk.now in
-    let shape_of : Geometry =
-    geometry_of c.in-Good.g in
-    let opened : OpenedWith (drive_refusal disk_of) disk_of shape_of =
-    let opening = c.open_drive in
-    opened_good (drive_refusal disk_of) disk_of opening.result opening.ensures
-    c.in-Good.is in
-    record { drive = opened.drive; disk_bound = opened_head opened }
+pub returns-in_err-g : goal.returns-in_err-g
+returns-in_err-g c =
+    let refused = c.in_err-g.ensures in
+    ap wait_of (handed_on c.from_residual.ensures.1)
+    ∙ wait_in_refused c.args.disk.now _ refused.fault_is refused.fault_some
 
-pub returns-in-Refused : goal.returns-in-Refused
-returns-in-Refused c =
+pub rounds_to_place-requires-clause-disk_bound : goal.rounds_to_place-requires-clause-disk_bound
+rounds_to_place-requires-clause-disk_bound c = opened_head c.in_ok-g.ensures
+
+pub returns : goal.returns
+returns c =
     let disk = c.args.disk.now in
-    let refused = opened_refused (drive_refusal disk) disk c.open_drive.result
-    c.open_drive.ensures c.in-Refused.is in
-    wait_in_refused disk _ refused.fault_is refused.fault_some
-
-pub returns-in-Good : goal.returns-in-Good
-returns-in-Good c =
-    let disk_of : Bytes =
-    c.args.disk.now in
-    let shape_of : Geometry =
-    geometry_of c.in-Good.g in
-    let opened : OpenedWith (drive_refusal disk_of) disk_of shape_of =
-    let opening = c.open_drive in
-    opened_good (drive_refusal disk_of) disk_of opening.result opening.ensures
-    c.in-Good.is in
-    let o = opened in
-    wait_in-told disk_of o.accepted shape_of o.same c.rounds_to_place.result
-    c.rounds_to_place.ensures
+    let g = geometry_of c.in_ok-g.g in
+    let opened = c.in_ok-g.ensures in
+    wait_in-told disk opened.accepted g opened.same c.unwrap_or.result
+    (c.unwrap_or.ensures ∙ ap (λ (o : Option ℕ). unwrap_or o 0) c.rounds_to_place.ensures
+    ∙ unwrap_or-found_round (wait_rounds g disk))

@@ -1,31 +1,21 @@
--- `recovery::entries::is_map_formed` meets its contract. Invariant: every entry of a number before this one
--- is 0 or a slot's start. The measure is the numbers left. Assumes nothing.
+-- `recovery::entries::is_map_formed` meets its contract: every number is asked for until one is not formed.
+-- Assumes nothing.
+use mathlib.Core.Path.{refl}
+use mathlib.Core.Bool.{true, false}
+use native.Mathlib.Omega.{arith}
+use borrow.Author.Rules.{rules}
+use borrow.Author.Tests.{tests}
+use Rattle.std.proofs.lemmas.Iterator.{cases_from_all, YieldsList-from_range}
 use Rattle.layout.specs.Geometries.{geometry_of}
-use Rattle.recovery.proofs.Laws.Entries.{formed_none, formed_next, formed_not, formed_all}
+use Rattle.recovery.proofs.Laws.Entries.{FormedAs, map_formed}
 use Rattle.recovery.proofs.entries.is_map_formed.Goals as goal
-
--- ---- answers ----
-pub loop-number-init : goal.loop-number-init
-loop-number-init c = formed_none (geometry_of c.args.g) c.args.disk.now
-
-pub returns-then-not-is_formed : goal.returns-then-not-is_formed
-returns-then-not-is_formed c =
-    let a = c.args in
-    let read = c.map_entry in
-    formed_not (geometry_of a.g) a.disk.now c.loop-number.number c.loop-number.invariant
-    c.loop-number-test.true read.result.0 read.ensures c.is_formed.result
-    c.is_formed.ensures (c.if-not-is_formed.true)
-
-pub loop-number-preserved : goal.loop-number-preserved
-loop-number-preserved c =
-    let a = c.args in
-    let read = c.map_entry in
-    formed_next (geometry_of a.g) a.disk.now c.loop-number.number c.loop-number.invariant
-    c.loop-number-test.true read.result.0 read.ensures c.is_formed.result
-    c.is_formed.ensures (c.if-not-is_formed.false)
 
 pub returns : goal.returns
 returns c =
-    let a = c.args in
-    formed_all (geometry_of a.g) a.disk.now c.loop-number.number c.loop-number.invariant
-    c.loop-number-test.false
+    let g = geometry_of c.args.g in
+    let disk = c.args.disk.now in
+    map_formed g disk c.all.result
+    (cases_from_all _ _ _ (FormedAs g disk true) (FormedAs g disk false) c.all.ensures.ran
+    (YieldsList-from_range 0 c.args.g.publics c.args.g.publics refl (omega arith))
+    (λ x q k. (search rules, search (rules, tests)))
+    (λ x q k. search (rules, tests)))

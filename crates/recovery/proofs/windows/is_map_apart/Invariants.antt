@@ -8,4 +8,4 @@ abbrev pub invariant-loop-first : goal.invariant-loop-first
 invariant-loop-first l = Swept (geometry_of l.g) l.disk l.first
 
 abbrev pub decreases-loop-first : goal.decreases-loop-first
-decreases-loop-first l = l.slots - l.first
+decreases-loop-first l = l.first-end - l.first

@@ -1,12 +1,7 @@
--- What the loop keeps, and its measure. Assumes nothing.
-use Prim.Native.Nat.{◌-◌}
+-- What the loop keeps. Assumes nothing.
 use Rattle.layout.specs.Geometries.{geometry_of}
 use Rattle.recovery.proofs.Laws.Scans.{Scanning}
 use Rattle.recovery.proofs.windows.is_window_apart.Given as goal
 
 abbrev pub invariant-loop-number : goal.invariant-loop-number
-invariant-loop-number l =
-    Scanning (geometry_of l.g) l.disk l.first l.number l.seen
-
-abbrev pub decreases-loop-number : goal.decreases-loop-number
-decreases-loop-number l = l.publics - l.number
+invariant-loop-number l = Scanning (geometry_of l.g) l.disk l.first l.number l.seen

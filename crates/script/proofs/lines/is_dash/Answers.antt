@@ -1,10 +1,10 @@
--- By the length.
-use Rattle.std.proofs.Common.{sym}
-use Rattle.script.proofs.Laws.Lines.{is_dash_one, is_dash_other}
+-- Equal to the list of one dash.
+use Rattle.std.proofs.Common.{ap, sym, ◌∙◌, nat_eq}
+use lib.Pointwise.{pointwise}
+use Rattle.script.proofs.Laws.Lines.{is_dash_equal}
 use Rattle.script.proofs.lines.is_dash.Goals as goal
 
-pub returns-then-bytes-eq1 : goal.returns-then-bytes-eq1
-returns-then-bytes-eq1 c = sym (is_dash_one c.args.bytes.now c.if-bytes-eq1.true)
-
-pub returns-else-bytes-eq1 : goal.returns-else-bytes-eq1
-returns-else-bytes-eq1 c = sym (is_dash_other c.args.bytes.now c.if-bytes-eq1.false)
+pub returns : goal.returns
+returns c =
+    c.eq.ensures ∙ ap (pointwise nat_eq c.args.bytes.now) c.as_slice.ensures
+    ∙ sym (is_dash_equal c.args.bytes.now)

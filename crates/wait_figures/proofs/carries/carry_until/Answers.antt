@@ -20,7 +20,7 @@ carry_more-carried-requires c = few_more c.loop-i.invariant c.loop-i-test.true
 pub loop-i-preserved : goal.loop-i-preserved
 loop-i-preserved c =
     followed_more c.loop-i.invariant c.loop-i-test.true (omega (arith, c.if-held-left.false, c.held.ensures))
-    c.carry_more-carried.ensures.made (c.carry_more-carried.ensures.few c.loop-i.i c.loop-i.invariant.few)
+    c.carry_more-carried.ensures.made (c.carry_more-carried.ensures.few c.loop-i._i c.loop-i.invariant.few)
     (search rules)
 
 pub returns : goal.returns

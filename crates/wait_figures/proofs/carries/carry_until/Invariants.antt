@@ -1,5 +1,5 @@
--- The writes so far are made, and the rest is still to come. The writes that are left go down.
-use Rattle.std.proofs.Common.{◌-◌, length}
+-- The writes so far are made, and the rest is still to come.
+use Rattle.std.proofs.Common.{length}
 use Rattle.line.specs.Offers.{line_of}
 use Rattle.wait_figures.specs.Carries.{carry_on}
 use Rattle.wait_figures.proofs.Laws.Carries.{Followed}
@@ -7,8 +7,5 @@ use Rattle.wait_figures.proofs.carries.carry_until.Given as goal
 
 abbrev pub invariant-loop-i : goal.invariant-loop-i
 invariant-loop-i l =
-    Followed l.left (carry_on l.initial.disk (line_of l.initial.carried.line)) (length l.initial.disk) l.i
+    Followed l.left (carry_on l.initial.disk (line_of l.initial.carried.line)) (length l.initial.disk) l._i
     l.disk l.carried
-
-abbrev pub decreases-loop-i : goal.decreases-loop-i
-decreases-loop-i l = 20 - l.i

@@ -1,7 +1,7 @@
 -- The case of the eight writes, and the entry put.
 use Rattle.std.proofs.Common.{ap, ◌∙◌}
-use Rattle.figure_lines.specs.Counts.{puts}
+use Rattle.figure_lines.specs.Counts.{puts_said}
 use Rattle.wait_figures.proofs.drives.make_live.Goals as goal
 
 pub returns : goal.returns
-returns c = c.put_on.ensures ∙ ap (puts c.args.index c.args.value) c.prepare.ensures.disk_is
+returns c = c.put_said.ensures ∙ ap (puts_said c.args.put) c.prepare.ensures.disk_is

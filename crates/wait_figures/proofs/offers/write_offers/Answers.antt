@@ -13,15 +13,13 @@ written_more i number start so_far more = rw add-one (more ∙ ap (offer_written
 
 pub loop-i-init : goal.loop-i-init
 unfolding offers_written
-loop-i-init c = (omega arith, refl)
+loop-i-init c = refl
 
 pub loop-i-preserved : goal.loop-i-preserved
-loop-i-preserved c = (
-  omega arith,
-  written_more c.loop-i.i c.args.number c.args.disk.now c.loop-i.invariant.1 c.write_offer.ensures.stored,
-)
+loop-i-preserved c =
+    written_more c.loop-i._i c.args.number c.args.disk.now c.loop-i.invariant c.write_offer.ensures.stored
 
 pub returns : goal.returns
 returns c =
-    let all : c.loop-i.i ≡ c.args.times = omega (arith, c.loop-i-test.false, c.loop-i.invariant.0) in
-    c.loop-i.invariant.1 ∙ ap (λ (n : ℕ). offers_written n c.args.number c.args.disk.now) all
+    let all : c.loop-i._i ≡ c.args.times = omega arith in
+    c.loop-i.invariant ∙ ap (λ (n : ℕ). offers_written n c.args.number c.args.disk.now) all

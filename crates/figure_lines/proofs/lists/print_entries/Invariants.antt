@@ -1,9 +1,0 @@
--- The entries that are left go down.
-use Rattle.std.proofs.Common.{◌-◌, ◌≤◌}
-use Rattle.figure_lines.proofs.lists.print_entries.Given as goal
-
-abbrev pub invariant-loop-i : goal.invariant-loop-i
-invariant-loop-i l = l.i ≤ l.count
-
-abbrev pub decreases-loop-i : goal.decreases-loop-i
-decreases-loop-i l = l.count - l.i

@@ -3,7 +3,7 @@
 // way.
 #![tactic(auto)]
 
-pub mod branches; // which entry a hidden number takes at each level, and which addresses are well formed
+pub mod branches; // where the slots stand, which entry a number takes at each level, well-formed addresses
 pub mod nodes; // the nodes below the root that a walk read, by level
 pub mod walks; // a hidden number's walk: where it ends, and its nodes
 pub mod ends; // whether a walk ended at an address, or at an ill-formed entry

@@ -10,23 +10,24 @@ use crate::geometry::{Geometry, block_count, is_geometry};
 // What a call is refused for.
 #[derive(Clone, Copy, PartialEq, Eq)]
 pub enum Refusal {
-    Geometry = 1,
-    Length = 2,
-    Head = 3,
-    PublicNumber = 4,
-    PublicSize = 5,
-    MapEntry = 6,
-    NoFreeSlot = 7,
-    RandomBytes = 8,
-    ListRoom = 9,
-    HiddenNumber = 10,
+    Geometry = 1, // no header, or numbers outside the limits
+    Length = 2, // the disk has not the bytes of its geometry
+    Head = 3, // the head is no slot
+    PublicNumber = 4, // a public number past the last
+    PublicSize = 5, // public data or a blank of another size than a block
+    MapEntry = 6, // a map entry that is no allocated slot's public block
+    NoFreeSlot = 7, // no slot is free
+    RandomBytes = 8, // too few random bytes
+    ListRoom = 9, // too little room in the list
+    HiddenNumber = 10, // a hidden number past the last
+    // hidden data or a blank of another size than a block, or not among the lent blocks
     HiddenSize = 11,
-    DamagedWalk = 12,
-    IllFormed = 13,
-    PastHidden = 14,
-    WrongOwner = 15,
-    LineFull = 16,
-    MapEntries = 17,
+    DamagedWalk = 12, // the walk meets an ill-formed entry
+    IllFormed = 13, // an entry of the tree is ill formed
+    PastHidden = 14, // an entry of the tree has no hidden number below it
+    WrongOwner = 15, // an entry of the tree leads to a slot that is not its owner's
+    LineFull = 16, // the line, or what is lent of it, is full
+    MapEntries = 17, // a map entry is no slot's start, or two numbers share one
 }
 
 // The documents' number of a refusal.

@@ -14,8 +14,8 @@ use line::offers::Line;
 use line::waiting::waiting_for;
 use reads::finds::{find_hidden, show};
 
-// Where a hidden number's block is: nowhere, as it was never placed, at an address of the drive, or at a place
-// among the lent blocks.
+// Where a hidden number's block is: nowhere, as it was never placed, at an address of the drive, or at a
+// place among the lent blocks.
 #[derive(Clone, Copy, PartialEq, Eq)]
 pub enum LineFind {
     Blank,

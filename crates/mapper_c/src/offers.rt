@@ -9,12 +9,9 @@ use mapper::HiddenOffer;
 pub fn lent_offer<'a>(offered: bool, number: u32, content: &'a [u8]) -> Option<HiddenOffer<'a>>
     ensures { brought_by result ≡ call_offer offered number content.now }
 {
-    if offered {
-        Some(HiddenOffer {
-            number: HiddenNumber(number),
-            content,
-        })
-    } else {
-        None
-    }
+    let offer = HiddenOffer {
+        number: HiddenNumber(number),
+        content,
+    };
+    offered.then_some(offer)
 }

@@ -29,7 +29,8 @@ module _ (offers : List Offer) (line : Line) where
 
   pub pushed_all_more :
       (i : ℕ) → i < length offers →
-      pushed (pushed_all (take i offers) line) (get_or offers i no_offer) ≡ pushed_all (take (i + 1) offers) line
+      pushed (pushed_all (take i offers) line) (get_or offers i no_offer) ≡
+      pushed_all (take (i + 1) offers) line
   pushed_all_more i inside =
       rw (add-one, take-suc offers i no_offer inside)
       (sym (pushed_all_snoc (take i offers) (get_or offers i no_offer) line))

@@ -9,5 +9,6 @@ pub returns : goal.returns
 unfolding saved_offers
 returns c =
     let a = c.args in
-    rw c.copy_from_slice.ensures.after (front_over a.held.offers a.line.now c.most_of-most.result (omega arith))
+    rw c.copy_from_slice.ensures.after (front_over a.held.offers a.line.now c.most_of-most.result
+    (omega arith))
     ∙ ap (λ (n : ℕ). over 0 (take n a.held.offers) a.line.now) c.most_of-most.ensures

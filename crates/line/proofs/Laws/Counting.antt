@@ -46,7 +46,8 @@ module _ (line : List model.Offer) (number i : ℕ) (inside : i < length line)
       above high =
           let past : i < index = ⊎_elim (λ h. h) (λ h. absurd (other (omega arith))) (lt_cases i index) in
           true_is_not_false
-          (is_waiting_in_at (take index line) i past_offer number (simp length-take (omega (arith, at.inside)))
+          (is_waiting_in_at (take index line) i past_offer number
+          (simp length-take (omega (arith, at.inside)))
           (ap (λ (that : model.Offer). that.number) (get_or-take index line i past_offer past) ∙ same))
           at.none_before
 

@@ -49,7 +49,8 @@ pub take-offers_of_more :
 take-offers_of_more offers i inside =
     let low : i < length (offers_of offers) = omega (arith, offers_of-length offers, inside) in
     rw add-one (take-suc (offers_of offers) i past_offer low)
-    ∙ ap (λ (next : model.Offer). take i (offers_of offers) ++ (next ∷ [])) (get_or-offers_of offers i no_offer)
+    ∙ ap (λ (next : model.Offer). take i (offers_of offers) ++ (next ∷ []))
+    (get_or-offers_of offers i no_offer)
 
 module _ (line : Line) where
   module _ (whole : length line.offers ≡ 16) where

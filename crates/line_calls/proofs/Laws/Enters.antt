@@ -30,7 +30,8 @@ module _ (disk : Bytes) (declared : Offer) (blocks : Bytes) (line : Line) (room 
 
   -- refused, the line is the caller's
   enter_refused :
-      (fault : Refusal) → refusal_number fault ≡ refusal → EnterAnswered disk offer blocks line room (Err fault)
+      (fault : Refusal) → refusal_number fault ≡ refusal →
+      EnterAnswered disk offer blocks line room (Err fault)
   enter_refused fault e =
       record {
         answered = e;

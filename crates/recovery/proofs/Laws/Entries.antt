@@ -68,7 +68,8 @@ module _ (g : Geometry) (disk : Bytes) where
   not_starts number inside e =
       ap (are_starts g) (used_entries_split g disk (number + 1) (omega arith))
       ∙ are_starts-append g (used_from g disk 0 (number + 1)) _
-      ∙ and_false_left _ (one_more number false e ∙ and_false_right (are_starts g (used_from g disk 0 number)) refl)
+      ∙ and_false_left _ (one_more number false e
+      ∙ and_false_right (are_starts g (used_from g disk 0 number)) refl)
 
   there : (k : ℕ) → k < g.publics → get_or (range_with_len 0 g.publics) k 0 ≡ k
   there k h = get_or-range_with_len 0 g.publics k 0 h ∙ omega arith
@@ -78,7 +79,8 @@ module _ (g : Geometry) (disk : Bytes) where
       (all : Bool) →
       MatchBool all
       (AllWithin (FormedAs true) (range_with_len 0 g.publics) 0 (length (range_with_len 0 g.publics)))
-      ((k : ℕ) × (k < length (range_with_len 0 g.publics)) × HoldsAt (FormedAs false) (range_with_len 0 g.publics) k) →
+      ((k : ℕ) × (k < length (range_with_len 0 g.publics)) ×
+      HoldsAt (FormedAs false) (range_with_len 0 g.publics) k) →
       all ≡ are_starts g (used_entries g disk)
   map_formed true each =
       let long = length-range_with_len 0 g.publics in

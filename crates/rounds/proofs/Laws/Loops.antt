@@ -62,7 +62,8 @@ module _ {g : Geometry} {number head : ℕ} {content random : Bytes} {turns : Li
     abbrev pub rest_now : Run
     rest_now =
         rest_by (choice_at g diskNow slot state_now) (g.slots - (done + 1)) g number content
-        (next_slot g slot) (drop (g.height * g.block_size) random_now) (apply (block_width g) round_now diskNow)
+        (next_slot g slot) (drop (g.height * g.block_size) random_now)
+        (apply (block_width g) round_now diskNow)
         (hidden_half g diskNow slot random_now state_now).state
 
     pub going_over :

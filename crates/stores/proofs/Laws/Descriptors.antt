@@ -72,7 +72,8 @@ module _ (g : Geometry) (disk content blocks random : Bytes) (drive : Drive g di
       Stored (block_width g) (block_count g) (store_of descriptor g disk content blocks random)
   store_of_stored descriptor m =
       let taken = source_block descriptor.source g disk content blocks random in
-      let whole : length taken ≡ g.block_size = length-source_block g disk content blocks random drive descriptor.source m.takeable in
+      let whole : length taken ≡ g.block_size =
+      length-source_block g disk content blocks random drive descriptor.source m.takeable in
       let once = changed descriptor.first taken in
       let long : length once ≡ g.block_size =
       length-changed descriptor.first taken (rw whole m.first_inside) ∙ whole in (

@@ -16,13 +16,15 @@ pub returns-in_err-geometry : goal.returns-in_err-geometry
 returns-in_err-geometry c =
     let a = c.args in
     ap line_find_of (handed_on c.from_residual.ensures.1)
-    ∙ line_find_drive a.disk.now a.number.0 a.blank.now a.blocks.now (line_of a.line) c.in_err-geometry.ensures
+    ∙ line_find_drive a.disk.now a.number.0 a.blank.now a.blocks.now (line_of a.line)
+    c.in_err-geometry.ensures
 
 pub returns-in_err-check_hidden_number : goal.returns-in_err-check_hidden_number
 returns-in_err-check_hidden_number c =
     let a = c.args in
     ap line_find_of (handed_on c.from_residual-in_err-check_hidden_number.ensures.1)
-    ∙ line_find_number a.disk.now a.number.0 a.blank.now a.blocks.now (line_of a.line) c.in_ok-geometry.ensures
+    ∙ line_find_number a.disk.now a.number.0 a.blank.now a.blocks.now (line_of a.line)
+    c.in_ok-geometry.ensures
     c.in_err-check_hidden_number.ensures (refusal-some c.in_err-check_hidden_number.field-0.0)
 
 pub returns-in-Some : goal.returns-in-Some
@@ -39,7 +41,8 @@ unoffered :
     line_find c.args.disk.now c.args.number.0 c.args.blank.now c.args.blocks.now (line_of c.args.line)
 unoffered c =
     let a = c.args in
-    line_find_unoffered a.disk.now a.number.0 a.blank.now a.blocks.now (line_of a.line) c.in_ok-geometry.ensures
+    line_find_unoffered a.disk.now a.number.0 a.blank.now a.blocks.now (line_of a.line)
+    c.in_ok-geometry.ensures
     (c.in-None.ensures.offer_is a.blocks.now refl)
 
 pub returns-in_err-address-in-None : goal.returns-in_err-address-in-None
@@ -50,9 +53,11 @@ returns-in_err-address-in-None c =
 pub returns-in-Some-2 : goal.returns-in-Some-2
 returns-in-Some-2 c =
     unoffered (goal.at.returns-in-Some-2 c).In-None
-    (ap (λ (found : Option DiskAddress). find_of (Ok found)) (sym c.in-Some-2.is) ∙ c.in_ok-address-in-None.ensures)
+    (ap (λ (found : Option DiskAddress). find_of (Ok found)) (sym c.in-Some-2.is)
+    ∙ c.in_ok-address-in-None.ensures)
 
 pub returns-in-None-2 : goal.returns-in-None-2
 returns-in-None-2 c =
     unoffered (goal.at.returns-in-None-2 c).In-None
-    (ap (λ (found : Option DiskAddress). find_of (Ok found)) (sym c.in-None-2.is) ∙ c.in_ok-address-in-None.ensures)
+    (ap (λ (found : Option DiskAddress). find_of (Ok found)) (sym c.in-None-2.is)
+    ∙ c.in_ok-address-in-None.ensures)

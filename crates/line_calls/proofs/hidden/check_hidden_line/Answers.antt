@@ -11,7 +11,8 @@ use Rattle.line_calls.proofs.hidden.check_hidden_line.Goals as goal
 pub returns-in_err-find_hidden_line : goal.returns-in_err-find_hidden_line
 returns-in_err-find_hidden_line c =
     let a = c.args in
-    ap answer_number (handed_on c.from_residual.ensures.1) ∙ ap line_refusal_of c.in_err-find_hidden_line.ensures
+    ap answer_number (handed_on c.from_residual.ensures.1)
+    ∙ ap line_refusal_of c.in_err-find_hidden_line.ensures
     ∙ line_refusal_of-line_find a.disk.now a.number.0 a.blank.now a.blocks.now (line_of a.line)
 
 pub returns : goal.returns

@@ -66,6 +66,7 @@ returns c =
     (brought_by a.offer) c.write_or_none-write.result.content.now opened.accepted
     (geometry_of c.in_ok-g.g) opened.same c.head_in-head.result c.head_in-head.ensures
     (one_turn c.write_or_none-write.result.number.0 count.result)
-    (brought (goal.at.returns c).After-write_or_none-write) ran.new.disk ran.new.list ran.result ran.ensures (answer_number judged.result) count.result
+    (brought (goal.at.returns c).After-write_or_none-write) ran.new.disk ran.new.list ran.result
+    ran.ensures (answer_number judged.result) count.result
     judged.ensures (length_turn c.write_or_none-write.result.number.0 count.result few) c.answer_done.result
     c.answer_done.ensures

@@ -1,9 +1,11 @@
--- `recovery::drives::check_map` meets its contract: the two tests of 17, one after the other. Assumes nothing.
+-- `recovery::drives::check_map` meets its contract: the two tests of 17, one after the other. Assumes
+-- nothing.
 use mathlib.Core.Path.{sym, ◌∙◌}
 use Rattle.layout.specs.Geometries.{geometry_of}
 use Rattle.recovery_model.proofs.Laws.StepDisks.{map_checks_no_starts, map_checks_not_apart, map_checks_good}
 use Rattle.recovery.proofs.drives.check_map.Goals as goal
-use Rattle.recovery.proofs.drives.check_map.Goals.{else-is_map_formed-via-then-is_map_formed+else-is_map_apart, else-is_map_formed-via-else-is_map_formed}
+use Rattle.recovery.proofs.drives.check_map.Goals.{else-is_map_formed-via-then-is_map_formed+else-is_map_apart}
+use Rattle.recovery.proofs.drives.check_map.Goals.{else-is_map_formed-via-else-is_map_formed}
 
 pub returns-then-is_map_apart : goal.returns-then-is_map_apart
 returns-then-is_map_apart c =

@@ -21,7 +21,8 @@ use Rattle.recovery_figures.proofs.line_cuts.tell_line_cut.Goals as goal
 
 -- a write with that line and these blocks
 same_line :
-    {blocks after : Bytes} {line : Line} {list list_after : List DiskAddress} {made : Result LineCutWritten Refusal}
+    {blocks after : Bytes} {line : Line} {list list_after : List DiskAddress}
+    {made : Result LineCutWritten Refusal}
     (disk : Bytes) (bound : ℕ) → blocks ≡ two_blocks → line ≡ zero_one →
     LineCutAnswered (written disk 0 (filled 8) (replicate 256 165) 23 (in_line blocks (line_of line))) bound
     disk list blocks line after list_after made →
@@ -57,7 +58,8 @@ returns-clause-told c =
     (same_line c.args.disk.now c.args.row.0 c.two_blocks-blocks.ensures c.line_by-line.ensures
     c.write_line_cut-made.ensures) (c.cut_of.ensures zero_one) c.from-told.ensures
     (c.left_after_cut-left.ensures
-    ∙ ap (λ (line : Line). (line_cut_answer_of line c.write_line_cut-made.result).line) c.line_by-line.ensures)
+    ∙ ap (λ (line : Line). (line_cut_answer_of line c.write_line_cut-made.result).line)
+    c.line_by-line.ensures)
     c.print_count-counted.ensures c.from.ensures c.print_count-ended.ensures c.held.ensures
     c.print_figure-waits.ensures
 

@@ -4,7 +4,7 @@ ghost use Rattle.model.specs.Line.{handed_over};
 ghost use Rattle.line.specs.Offers.{line_of};
 ghost use Rattle.line.specs.Gathered.{offers_by};
 
-use crate::offers::{Line, Offer, no_line, push_offer};
+use crate::offers::{Line, Offer, add_offer, no_line};
 use layout::numbers::HiddenNumber;
 
 // The line that they hand over: the first so many offers, as far as both runs go, at most 16.
@@ -18,7 +18,7 @@ pub fn gather_line(numbers: &[u32], places: &[u32], waiting: u32) -> Line
             number: HiddenNumber(*number),
             place: *place,
         };
-        line = push_offer(line, offer);
+        add_offer(&mut line, offer);
     }
     line
 }

@@ -33,14 +33,21 @@ pub fn no_line() -> Line
     }
 }
 
-// A line with one offer more at its end; a full line as it is.
-pub fn push_offer(mut line: Line, offer: Offer) -> Line
-    ensures { result ≡ pushed line offer }
+// Adds an offer at the end of a line; a full line stays as it is.
+pub fn add_offer(line: &mut Line, offer: Offer)
+    ensures { line.new ≡ pushed line.old offer }
 {
     if line.waiting < 16 {
         line.offers[line.waiting] = offer;
         line.waiting += 1;
     }
+}
+
+// A line with one offer more at its end; a full line as it is.
+pub fn push_offer(mut line: Line, offer: Offer) -> Line
+    ensures { result ≡ pushed line offer }
+{
+    add_offer(&mut line, offer);
     line
 }
 

@@ -49,7 +49,9 @@ fn test_owner(
 }
 
 // 13, 14 or 15 of an entry of a level whose numbers begin with this one, the first that holds. The first
-// number may lie past every hidden number, and past 32 bits.
+// number may lie past every hidden number, and past 32 bits. A function of its own when compiled too: the walk
+// that it makes is then in none of the frames of `check_node`, up to eleven a level.
+#[inline(never)]
 pub fn test_entry(
     disk: &[u8],
     g: Geometry,

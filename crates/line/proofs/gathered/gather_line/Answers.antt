@@ -15,7 +15,7 @@ loop-number-preserved c =
     at.number-iterator c.next.new.self c.next.result (search rules) (search rules) at.yielded_by
     (c.in-Some.number, c.in-Some.place) c.in-Some.is c.next.ensures.steps in
     let low : i < most = omega (arith, turn.0, length-take most a.numbers.now) in
-    rw (c.push_offer-line.ensures, length-append at.yielded ((c.in-Some.number, c.in-Some.place) ∷ []))
+    rw (c.add_offer.ensures, length-append at.yielded ((c.in-Some.number, c.in-Some.place) ∷ []))
     (gathering_next a.numbers.now a.places.now at.line i at.invariant _ (omega arith) (omega arith) turn.1
     (turn.2 0 ∙ get_or-take most a.numbers.now i 0 low) (turn.3 0))
 

@@ -2,7 +2,7 @@
 use mathlib.Core.Path.{◌≡◌, refl, sym, ap, ◌∙◌}
 use mathlib.Core.Bool.{Bool, true, false, ◌&&◌, and-true, and_assoc}
 use mathlib.Core.List.{List, [], ◌∷◌}
-use Prim.Native.Nat.{ℕ, zero, suc, ◌+◌, ◌<◌, min}
+use Prim.Native.Nat.{ℕ, zero, suc, ◌+◌, ◌≤◌, ◌<◌, min}
 use native.Mathlib.Numerals.{add-one}
 use native.Mathlib.Omega.{arith}
 use lib.Dec.{eqb}
@@ -16,6 +16,10 @@ use Rattle.figure_lines.specs.Counts.{is_listed}
 pub from_digit : (b : Bool) → from_bool b ≡ digit b
 from_digit true = refl
 from_digit false = refl
+
+pub digit_most : (b : Bool) → digit b ≤ 1
+digit_most true = omega arith
+digit_most false = omega arith
 
 -- ---- cut lists ----
 

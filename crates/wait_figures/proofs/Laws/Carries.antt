@@ -1,6 +1,6 @@
 -- The writes that carry a line along, one after another. Assumes nothing.
 use mathlib.Core.Path.{◌≡◌, refl, sym, ap, ◌∙◌}
-use mathlib.Core.Bool.{Bool, true, false, ◌&&◌}
+use mathlib.Core.Bool.{Bool, ◌&&◌}
 use mathlib.Core.List.{List}
 use Prim.Native.Nat.{ℕ, zero, suc, ◌+◌, ◌-◌, ◌≤◌, ◌<◌}
 use native.Mathlib.Omega.{arith}
@@ -21,7 +21,7 @@ use Rattle.mapper.specs.declared.write.LineWritten.{LineWritten}
 use Rattle.mapper.specs.Writes.{LineAnswered, told_by_line_write}
 use Rattle.answers_c.specs.declared.line_writes.LineWritten.{LineWritten as Flat}
 use Rattle.answers_c.specs.LineWrites.{line_written_said}
-use Rattle.figure_lines.proofs.Laws.Counts.{from_digit}
+use Rattle.figure_lines.proofs.Laws.Counts.{from_digit, digit_most}
 use Rattle.line_cases.specs.Offers.{line_said}
 use Rattle.line_cases.specs.Cases.{case_on}
 use Rattle.wait_figures.specs.declared.carries.Carried.{Carried}
@@ -34,8 +34,7 @@ use Rattle.wait_figures.specs.Carries.{carry_agrees}
 
 -- one write tells it once at most
 pub from_bool_most : (b : Bool) → from_bool b ≤ 1
-from_bool_most true = omega arith
-from_bool_most false = omega arith
+from_bool_most b = rw (from_digit b) (digit_most b)
 
 pub carried_more :
     {disk after : Bytes} {list listAfter : List DiskAddress} {made : Result LineWritten Refusal} {told : Flat}

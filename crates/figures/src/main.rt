@@ -1,7 +1,7 @@
 // Holds the code to document 01's figures ("Figures to hold against"), to the examples of its refusal table,
 // and to document 02's figures of K1, K2, K4 and K7, of K3 by the tables of `line_figures`, of K12 by those
 // of `wait_figures` and of K5 by those of `recovery_figures`. A row of a table says what is done and what the
-// document says, in flat numbers: their order stands above the table, and their meaning with the row's type.
+// document says: the order of its fields stands above the table, and their meaning with the row's type.
 // Each figure is printed as a line, and at the end how many rows of each table agree.
 #![tactic(auto)]
 
